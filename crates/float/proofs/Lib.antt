@@ -1,0 +1,9 @@
+pub mod Magnitude
+pub mod Monotone
+pub mod NanBits
+pub mod Order
+pub mod Patterns
+pub mod PowerOfTwo
+pub mod Sign
+pub mod Strict
+pub mod Zeros

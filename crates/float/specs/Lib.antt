@@ -1,0 +1,4 @@
+pub mod Compare
+pub mod Magnitude
+pub mod PowerOfTwo
+pub mod Sign
