@@ -1,0 +1,59 @@
+-- Masks of the s low digits at any width w, and the count of the digits that they keep.
+use mathlib.Core.Path.{_≡_, refl, sym, ap, ap₂, _∙_, subst}
+use Prim.Native.Nat.{ℕ, zero, suc, _+_, _-_, _*_, _/_, _%_, _^_, _≤_, _<_}
+use native.Mathlib.Nat.{mod-lt, mod-eq-of-lt, mod-one, suc-mul, mul-comm, one-mul, le-of-lt, mul-add-mod-self-right, le-of-suc-le-suc}
+use native.Mathlib.Numerals.{add-one, one-add}
+use native.Mathlib.Omega.{arith}
+use lib.Arith.{digits-mod}
+use lib.Pow.{pow-pos, pow-mono, pow-lt, mod-pow-add, shl-exact, suc-ones}
+use lib.Bits.{bitAnd, bitOr, and-mask, or-shifted}
+use lib.Count.{ones, ones-cat}
+use Rattle.words.specs.Ones.{onesBelow}
+
+-- `1 << s`
+pub one-shl : (w s : ℕ) → s < w → (1 * 2 ^ s) % 2 ^ w ≡ 2 ^ s
+one-shl w s h = ap (λ (x : ℕ). x % 2 ^ w) (one-mul (2 ^ s)) ∙ mod-eq-of-lt (pow-lt h)
+
+-- `m & ((1 << s) - 1)`
+pub below-mask : (w s m : ℕ) → s < w → bitAnd m ((1 * 2 ^ s) % 2 ^ w - 1) ≡ m % 2 ^ s
+below-mask w s m h = ap (λ (x : ℕ). bitAnd m (x - 1)) (one-shl w s h) ∙ and-mask m s
+
+-- `MAX << s`: all digits from s on
+max-shl : (w s : ℕ) → s < w → ((2 ^ w - 1) * 2 ^ s) % 2 ^ w ≡ 2 ^ w - 2 ^ s
+max-shl w s h =
+    let p : 2 ^ s < 2 ^ w = pow-lt h in
+    let q : zero < 2 ^ s = pow-pos s in
+    let x : (2 ^ w - 1) * 2 ^ s + 2 ^ s ≡ 2 ^ w * 2 ^ s = sym (suc-mul (2 ^ w - 1) (2 ^ s)) ∙ ap (λ (n : ℕ). n * 2 ^ s) (suc-ones w) in
+    let y : (2 ^ s - 1) * 2 ^ w + 2 ^ w ≡ 2 ^ w * 2 ^ s = sym (suc-mul (2 ^ s - 1) (2 ^ w)) ∙ ap (λ (n : ℕ). n * 2 ^ w) (suc-ones s) ∙ mul-comm (2 ^ s) (2 ^ w) in
+    let e : (2 ^ w - 1) * 2 ^ s ≡ (2 ^ s - 1) * 2 ^ w + (2 ^ w - 2 ^ s) = omega arith in
+    ap (λ (n : ℕ). n % 2 ^ w) e ∙ digits-mod (2 ^ s - 1) (omega arith)
+
+-- `m & !(MAX << s)`
+pub above-mask : (w s m : ℕ) → s < w → bitAnd m ((2 ^ w - 1) - ((2 ^ w - 1) * 2 ^ s) % 2 ^ w) ≡ m % 2 ^ s
+above-mask w s m h =
+    let p : 2 ^ s < 2 ^ w = pow-lt h in
+    let q : zero < 2 ^ s = pow-pos s in
+    let e : (2 ^ w - 1) - (2 ^ w - 2 ^ s) ≡ 2 ^ s - 1 = omega arith in
+    ap (λ (n : ℕ). bitAnd m ((2 ^ w - 1) - n)) (max-shl w s h) ∙ ap (bitAnd m) e ∙ and-mask m s
+
+-- a digit is its own count
+one-digit : (b : ℕ) → b < 2 → ones b ≡ b
+unfolding ones
+one-digit zero h = refl
+one-digit (suc zero) h = refl
+one-digit (suc (suc b)) h = absurd (omega arith)
+
+-- the count of the k low digits, as a sum
+pub ones-below : (k m : ℕ) → ones (m % 2 ^ k) ≡ onesBelow k m
+unfolding onesBelow ones
+ones-below zero m = ap ones (mod-one m)
+ones-below (suc k) m =
+    ap (λ (x : ℕ). ones (m % 2 ^ x)) (sym (one-add k))
+    ∙ ap ones (mod-pow-add m 1 k)
+    ∙ ones-cat k (m / 2 ^ k % 2) (m % 2 ^ k) (mod-lt m (pow-pos k))
+    ∙ ap₂ (λ (x y : ℕ). x + y) (one-digit (m / 2 ^ k % 2) (mod-lt (m / 2 ^ k) (omega arith))) (ones-below k m)
+    ∙ omega arith
+
+-- `hi | lo` is a sum where hi ends in k zeros and lo has k digits. Both sides of the `|` stay as the code has them.
+pub or-sum : (k q : ℕ) {hi lo : ℕ} → hi ≡ q * 2 ^ k → lo < 2 ^ k → bitOr hi lo ≡ hi + lo
+or-sum k q {hi} {lo} e h = ap (λ (x : ℕ). bitOr x lo) e ∙ or-shifted q k lo h ∙ ap (λ (x : ℕ). x + lo) (sym e)
