@@ -1,0 +1,4 @@
+pub mod Below
+pub mod Counts
+pub mod Sums
+pub mod Splice
