@@ -1,0 +1,43 @@
+-- Rays (01, "Corners of each file", ray.rs; "Walking"; "Causes of refusal", 9).
+use Prim.Native.Nat.{ℕ, _+_, _-_}
+use mathlib.Core.Bool.{Bool, true, false, not, _&&_, cond}
+use lib.IntN.{pos, negsuc}
+use lib.Ieee.{Float, fin, binary32, div, lt, le, isNan}
+use Rattle.float.specs.Compare.{plusZero, inBounds}
+use Rattle.float.specs.Sign.{negative}
+use Rattle.ray.specs.declared.Vec3.{Vec3}
+use Rattle.ray.specs.declared.Ray.{Ray}
+
+-- |v| ≤ 2 ^ -23
+abbrev pub tiny : Float → Bool
+tiny v = le (fin true 1 (negsuc 22)) v && le v (fin false 1 (negsuc 22))
+
+-- 2 ^ 23 with v's sign bit where v is tiny, else 1 / v rounded
+unfoldable pub safeInverse : Float → Float
+safeInverse v = cond (tiny v) (fin (negative v) 1 (pos 23)) (div binary32 (fin false 1 (pos 0)) v)
+
+-- below zero as a number, so not -0
+abbrev pub belowZero : Float → Bool
+belowZero v = lt v plusZero
+
+-- 7 less 4, 2 and 1 for an x, a y and a z below zero
+unfoldable pub octantOf : Vec3 → ℕ
+octantOf d = 7 - (cond (belowZero (d .x)) 4 0 + cond (belowZero (d .y)) 2 0 + cond (belowZero (d .z)) 1 0)
+
+-- a ray as it enters: its inverse is its direction's
+unfoldable pub rayOf : Vec3 → Vec3 → Float → Float → Ray
+rayOf o d near far = record {
+  origin = o;
+  direction = d;
+  inverse = record { x = safeInverse (d .x); y = safeInverse (d .y); z = safeInverse (d .z) };
+  tmin = near;
+  tmax = far;
+}
+
+-- each component finite and within ±2 ^ 40
+unfoldable pub boundedVec : Vec3 → Bool
+boundedVec v = inBounds (v .x) && inBounds (v .y) && inBounds (v .z)
+
+-- no cause 9: origin and direction bounded, tmax no NaN; tmin is free
+unfoldable pub acceptedRay : Ray → Bool
+acceptedRay r = boundedVec (r .origin) && boundedVec (r .direction) && not (isNan (r .tmax))
