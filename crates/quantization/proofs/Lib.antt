@@ -1,0 +1,4 @@
+pub mod Ends
+pub mod Exponent
+pub mod Padding
+mod Steps
