@@ -1,0 +1,10 @@
+pub mod Counts
+pub mod Decoded
+pub mod Encode
+pub mod First
+pub mod Once
+pub mod Paths
+pub mod PathCounts
+pub mod Positions
+pub mod Reading
+pub mod Subtree
