@@ -1,0 +1,72 @@
+-- The tests before the walk, as the code makes them.
+use mathlib.Core.Path.{_≡_, refl, sym, _∙_}
+use mathlib.Core.Bool.{Bool, true, false, not}
+use mathlib.Core.List.{List, [], _∷_, _++_}
+use Prim.Native.Nat.{ℕ, zero, suc, _+_, _*_, _-_, _/_, _%_, _<_, _≤_}
+use native.Mathlib.Numerals.{add-one}
+use native.Mathlib.Omega.{arith}
+use lib.ListN.{length, set, take, replicate}
+use lib.Seq.{take-suc-set, take-length}
+use lib.Dec.{ltb}
+use Rattle.lists.proofs.Tells.{clash, tells-true, tells-false, eqb-tells, leb-tells}
+use Rattle.aabb.specs.declared.Aabb.{Aabb}
+use Rattle.aabb.specs.Aabb.{acceptedBox}
+use Rattle.bvh2.specs.Words.{nodeCount, linkOf}
+use Rattle.bvh2.specs.FirstCause.{sizesCause, isInside}
+use Rattle.bvh2.proofs.Reading.{word-children, word-position, word-malformed}
+
+-- causes 1 and 2
+pub sizes-1 : (words n : ℕ) → (words ≡ nodeCount n * 7 → ⊥) → 1 ≡ sizesCause words n
+unfolding sizesCause
+sizes-1 words n h = rw (sizesCause, tells-false (eqb-tells words (nodeCount n * 7)) h)
+
+pub sizes-2 : (words n : ℕ) → words ≡ nodeCount n * 7 → 65536 < n → 2 ≡ sizesCause words n
+unfolding sizesCause
+sizes-2 words n h k = rw (sizesCause, tells-true (eqb-tells words (nodeCount n * 7)) h, tells-false (leb-tells n 65536) (λ l. omega arith))
+
+pub sizes-0 : (words n : ℕ) → words ≡ nodeCount n * 7 → n ≤ 65536 → 0 ≡ sizesCause words n
+unfolding sizesCause
+sizes-0 words n h k = rw (sizesCause, tells-true (eqb-tells words (nodeCount n * 7)) h, tells-true (leb-tells n 65536) k)
+
+-- a link by its kind
+pub inside-children : (n w : ℕ) → w / 0x4000_0000 ≡ 0 → ltb (w % 0x4000_0000 + 1) (2 * n - 1) ≡ isInside n (linkOf w)
+unfolding isInside
+inside-children n w e = rw (word-children w e)
+
+pub inside-position : (n w : ℕ) → w / 0x4000_0000 ≡ 1 → ltb (w % 0x4000_0000) n ≡ isInside n (linkOf w)
+unfolding isInside
+inside-position n w e = rw (word-position w e)
+
+pub inside-malformed : (n w : ℕ) → (w / 0x4000_0000 ≡ 0 → ⊥) → (w / 0x4000_0000 ≡ 1 → ⊥) → false ≡ isInside n (linkOf w)
+unfolding isInside
+inside-malformed n w a b = rw (word-malformed w a b)
+
+-- a test by `!` of what a call returned
+pub was-false : (x y : Bool) → x ≡ y → not x ≡ true → y ≡ false
+was-false true y e h = clash h
+was-false false y e h = sym e
+
+pub was-true : (x y : Bool) → x ≡ y → not x ≡ false → y ≡ true
+was-true true y e h = sym e
+was-true false y e h = clash (sym h)
+
+-- what was read
+pub read-link : (n w u : ℕ) (x : Bool) → x ≡ isInside n (linkOf w) → w ≡ u → x ≡ isInside n (linkOf u)
+read-link n w u x a e = rw e at a
+
+pub read-box : (b d : Aabb) (x : Bool) → x ≡ acceptedBox b → b ≡ d → x ≡ acceptedBox d
+read-box b d x a e = rw e at a
+
+-- zeros from the first on
+replicate-more : (i : ℕ) → replicate {A = ℕ} (suc i) 0 ≡ replicate i 0 ++ (0 ∷ [])
+replicate-more zero = refl
+replicate-more (suc i) = rw (replicate-more i)
+
+pub clear-more : (l : List ℕ) (i : ℕ) → i < length l → take i l ≡ replicate i 0 → take (i + 1) (set l i 0) ≡ replicate (i + 1) 0
+clear-more l i h e = rw (add-one i, take-suc-set l i 0 h, e, replicate-more i)
+
+pub clear-all : (l : List ℕ) (i len : ℕ) → i ≤ length l → length l ≤ i → length l ≡ len → take i l ≡ replicate i 0 → l ≡ replicate len 0
+clear-all l i len a b e h =
+    let j : i ≡ length l = omega arith in
+    let k : take (length l) l ≡ replicate (length l) 0 = rw j at h in
+    rw (← e) (sym (take-length l) ∙ k)

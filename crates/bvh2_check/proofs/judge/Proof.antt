@@ -1,0 +1,90 @@
+use native.Mathlib.Omega.{arith}
+use Rattle.bvh2_check.proofs.Tests.{was-false, was-true}
+use Rattle.bvh2_check.proofs.Verdict.{judge-5, judge-6, Begun, begun, ready, marks-enough, stopped, unmarked, complete}
+use borrow.Author.Needs.{needs}
+use Rattle.bvh2_check.proofs.judge.Statement.{statement}
+use Rattle.bvh2_check.proofs.judge.Tie as tie
+use Rattle.bvh2_check.proofs.judge.Reads as reads
+use Rattle.bvh2_check.proofs.judge.Lts as lts
+use Rattle.bvh2_check.proofs.links_inside.Reads as links-inside-reads
+use Rattle.bvh2_check.proofs.boxes_accepted.Reads as boxes-accepted-reads
+use Rattle.bvh2_check.proofs.visit.Reads as visit-reads
+use Rattle.bvh2_check.proofs.all_marked.Reads as all-marked-reads
+
+abbrev Else2 : Type 0
+Else2 = lts.Else2 (
+  links-inside-reads.Asked,
+  links-inside-reads.Learnt,
+  boxes-accepted-reads.Asked,
+  boxes-accepted-reads.Learnt,
+  visit-reads.Asked,
+  visit-reads.Learnt,
+  all-marked-reads.Asked,
+  all-marked-reads.Learnt,
+) reads.Pre reads.Post
+
+begun-at : (c : Else2) → Begun (c .before .before .before .before .before .before .args .words .now) (c .before .before .before .before .before .before .args .n) (c .before .before .before .before .before .before .args .marks .now)
+begun-at c = begun _ _ _ _ _ (c .before .before .before .before .before .before .pre) (c .before .before .before .links-inside .ensures) (c .before .before .if1 .left) (c .before .boxes-accepted .ensures) (c .if2 .left)
+
+links-inside-requires : tie.Need-links-inside-requires
+links-inside-requires c κs = search needs
+
+returns : tie.Need-returns
+returns c = judge-5 _ _ (c .before .before .before .before .pre .1) (was-false _ _ (c .before .links-inside .ensures) (c .if1 .taken))
+
+boxes-accepted-requires : tie.Need-boxes-accepted-requires
+boxes-accepted-requires c κs = search needs
+
+returns-2 : tie.Need-returns-2
+returns-2 c = judge-6 _ _ (c .before .before .before .before .before .before .pre .1) (was-true _ _ (c .before .before .before .links-inside .ensures) (c .before .before .if1 .left)) (was-false _ _ (c .before .boxes-accepted .ensures) (c .if2 .taken))
+
+visit-requires : tie.Need-visit-requires
+visit-requires c κs = ready (begun-at (c .before))
+
+same-length : tie.Need-same-length
+same-length c = search needs
+
+returns-3 : tie.Need-returns-3
+returns-3 c = stopped _ _ _ (c .before .before .before .visit .last .1 .0) (c .before .before .before .visit .result) (begun-at (c .before .before .before .before .before)) (c .before .before .before .visit .ensures) (c .if3 .taken)
+
+mul-all-marked : tie.Need-mul-all-marked
+mul-all-marked c = search needs
+
+sub-all-marked : tie.Need-sub-all-marked
+sub-all-marked c = search needs
+
+all-marked-requires : tie.Need-all-marked-requires
+all-marked-requires c κs =
+    let e = marks-enough (c .before .before .before .before .visit .last .1 .0) (begun-at (c .before .before .before .before .before .before)) (c .before .before .before .before .visit .kept .1 .0) in
+    omega arith
+
+same-length-2 : tie.Need-same-length-2
+same-length-2 c = search needs
+
+returns-4 : tie.Need-returns-4
+returns-4 c = unmarked _ _ _ (c .before .before .before .before .before .before .visit .last .1 .0) (c .before .before .before .before .before .before .visit .result) (begun-at (c .before .before .before .before .before .before .before .before)) (c .before .before .before .before .before .before .visit .ensures) _ _ (omega arith) (c .before .before .before .if3 .left) (c .before .all-marked .ensures) (c .if4 .taken)
+
+same-length-3 : tie.Need-same-length-3
+same-length-3 c = search needs
+
+returns-5 : tie.Need-returns-5
+returns-5 c = complete _ _ _ (c .before .before .before .before .before .before .visit .last .1 .0) (c .before .before .before .before .before .before .visit .result) (begun-at (c .before .before .before .before .before .before .before .before)) (c .before .before .before .before .before .before .visit .ensures) _ _ (omega arith) (c .before .before .before .if3 .left) (c .before .all-marked .ensures) (c .if4 .left)
+
+pub judge-spec : {M : Type 1} → statement M
+judge-spec =
+    tie.close
+    (tie.spec
+    links-inside-requires
+    returns
+    boxes-accepted-requires
+    returns-2
+    visit-requires
+    same-length
+    returns-3
+    mul-all-marked
+    sub-all-marked
+    all-marked-requires
+    same-length-2
+    returns-4
+    same-length-3
+    returns-5)

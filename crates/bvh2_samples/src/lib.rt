@@ -1,0 +1,1 @@
+// Internal: trees whose first cause is computed from the definitions. It has no code.
