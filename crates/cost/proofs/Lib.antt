@@ -1,0 +1,10 @@
+pub mod Bound
+pub mod Splits
+pub mod Labels
+pub mod Rows
+pub mod Entries
+pub mod Fill
+pub mod Steps
+pub mod Start
+pub mod Computed
+pub mod Samples
