@@ -1,0 +1,5 @@
+pub mod Gather
+pub mod Steps
+pub mod Reread
+pub mod Start
+pub mod Samples

@@ -1,0 +1,77 @@
+// Internal: the children of a wide node, gathered from a binary tree by the decisions of its cost tables (bvh2_to_cwbvh.rs, get_children).
+ghost use Prim.Native.Nat.{ℕ, _≤_};
+ghost use lib.ListN.{length};
+ghost use Rattle.bvh2.specs.Words.{treeAt};
+ghost use Rattle.cost.specs.Table.{wordOf};
+ghost use Rattle.cost.specs.Rows.{Holds};
+ghost use Rattle.children.specs.Gather.{gather, part};
+ghost use Rattle.children.specs.Tabled.{Tabled, Opens, Gathered};
+
+// Writes what node v contributes at an entry behind `count` children: itself, or where its decision is DISTRIBUTE, what its two children contribute.
+// Returns the count after them.
+fn open_child(
+    words: &[u32],
+    decisions: &[u32],
+    v: usize,
+    entry: usize,
+    depth: u32,
+    children: &mut [u32],
+    count: usize,
+) -> usize
+    requires { ⌜ 8 ≤ length (now children) ⌝ }
+    requires { ⌜ Opens (now words) (now decisions) depth v entry count ⌝ }
+    ensures { λ r. ⌜ ((limit : ℕ) → Holds (wordOf limit) 0 (now (decisions .entry)) (treeAt (now (words .entry)) depth v) → Gathered (part limit (treeAt (now (words .entry)) depth v) entry) count (now (children .entry)) (now (children .exit)) r) ⌝ }
+{
+    let word = decisions[v * 7 + entry];
+    if word / 0x4000_0000 != 2 {
+        children[count] = v as u32;
+        return count + 1;
+    }
+    let left = (word / 256 % 256) as usize;
+    let right = (word % 256) as usize;
+    let first = (bvh2::link_word(words, v) % 0x4000_0000) as usize;
+    let half = open_child(words, decisions, first, left, depth - 1, children, count);
+    open_child(
+        words,
+        decisions,
+        first + 1,
+        right,
+        depth - 1,
+        children,
+        half,
+    )
+}
+
+// Writes the numbers of the children of the wide node that node v becomes, in gathered order from place 0 on, and returns how many there are.
+// The node is opened whatever its own decision says; a leaf's one child is itself. `depth` is how many edges lie below v at most.
+pub fn get_children(
+    words: &[u32],
+    decisions: &[u32],
+    v: usize,
+    depth: u32,
+    children: &mut [u32],
+) -> usize
+    requires { ⌜ 8 ≤ length (now children) ⌝ }
+    requires { ⌜ Tabled (now words) (now decisions) depth v ⌝ }
+    ensures { λ r. ⌜ ((limit : ℕ) → Holds (wordOf limit) 0 (now (decisions .entry)) (treeAt (now (words .entry)) depth v) → Gathered (gather limit (treeAt (now (words .entry)) depth v) 0) 0 (now (children .entry)) (now (children .exit)) r) ⌝ }
+{
+    let link = bvh2::link_word(words, v);
+    if link / 0x4000_0000 != 0 {
+        children[0] = v as u32;
+        return 1;
+    }
+    let first = (link % 0x4000_0000) as usize;
+    let word = decisions[v * 7];
+    let left = (word / 256 % 256) as usize;
+    let right = (word % 256) as usize;
+    let half = open_child(words, decisions, first, left, depth - 1, children, 0);
+    open_child(
+        words,
+        decisions,
+        first + 1,
+        right,
+        depth - 1,
+        children,
+        half,
+    )
+}
