@@ -1,0 +1,84 @@
+-- Without ordering child i takes slot i.
+use mathlib.Core.Path.{_≡_, refl, sym, ap, _∙_, fun-ext}
+use mathlib.Core.Logic.{_⊎_, inl, inr}
+use mathlib.Core.Bool.{cond}
+use mathlib.Core.List.{List, [], _∷_, _++_}
+use Prim.Native.Nat.{ℕ, zero, suc, _+_, _≤_, _<_}
+use native.Mathlib.Nat.{not-suc-le-zero, le-of-suc-le-suc, eq-or-lt-of-le}
+use native.Mathlib.Numerals.{add-one}
+use native.Mathlib.Omega.{arith}
+use lib.Dec.{eqb}
+use lib.ListN.{length, length-append, set}
+use borrow.Author.Tests.{ne-eqb}
+use Rattle.order.specs.Lists.{eightOf}
+use Rattle.order.specs.Assign.{Pair, partner, slotOf, childOf}
+use Rattle.order.specs.Order.{inOrder}
+use Rattle.order.proofs.Arrays.{array-next}
+use Rattle.order.proofs.Lists.{All, all-append, all-map}
+use Rattle.order.proofs.Partners.{partner-same, partner-other, partner-none, Matched, matched-none, matched-pair, OneToOne, one-to-one}
+
+abbrev own : ℕ → Pair
+own n = record { child = n; slot = n }
+
+-- each pair's two numbers are one, below n
+in-order-all : (P : Pair → Type 0) (n : ℕ) → ((i : ℕ) → i < n → P (own i)) → All P (inOrder n)
+unfolding inOrder
+in-order-all P zero h = tt
+in-order-all P (suc n) h = all-append P (inOrder n) (own n ∷ []) (in-order-all P n (λ i l. h i (omega arith))) (h n (omega arith), tt)
+
+slot-free : (n : ℕ) → slotOf (inOrder n) n ≡ 8
+slot-free n = partner-none (λ p. p .child) (λ p. p .slot) (inOrder n) n (in-order-all (λ p. p .child ≡ n → ⊥) n (λ i l e. omega arith))
+
+child-free : (n : ℕ) → childOf (inOrder n) n ≡ 8
+child-free n = partner-none (λ p. p .slot) (λ p. p .child) (inOrder n) n (in-order-all (λ p. p .slot ≡ n → ⊥) n (λ i l e. omega arith))
+
+length-in-order : (n : ℕ) → length (inOrder n) ≡ n
+unfolding inOrder
+length-in-order zero = refl
+length-in-order (suc n) = length-append (inOrder n) (own n ∷ []) ∙ add-one (length (inOrder n)) ∙ ap suc (length-in-order n)
+
+-- one child more may come
+wider : (n : ℕ) (ps : List Pair) → Matched n ps → Matched (suc n) ps
+wider n ps m = record {
+  children = all-map (λ p. p .child < n) (λ p. p .child < suc n) ps (λ p l. omega arith) (m .children);
+  slots = m .slots;
+  children-apart = m .children-apart;
+  slots-apart = m .slots-apart;
+}
+
+pub in-order-matched : (n : ℕ) → n ≤ 8 → Matched n (inOrder n)
+unfolding inOrder
+in-order-matched zero h = matched-none 0
+in-order-matched (suc n) h = matched-pair (suc n) (inOrder n) (own n) h (omega arith) (omega arith) (slot-free n) (child-free n) (wider n (inOrder n) (in-order-matched n (omega arith)))
+
+pub in-order-slot : (n c : ℕ) → n ≤ 8 → c < n → slotOf (inOrder n) c ≡ c
+unfolding inOrder
+in-order-slot zero c h l = absurd (not-suc-le-zero l)
+in-order-slot (suc n) c h l = go (eq-or-lt-of-le (le-of-suc-le-suc l)) (in-order-slot n c (omega arith))
+  where
+    go : (c ≡ n) ⊎ (c < n) → (c < n → slotOf (inOrder n) c ≡ c) → slotOf (inOrder n ++ (own n ∷ [])) c ≡ c
+    go (inl e) r =
+        ap (slotOf (inOrder n ++ (own n ∷ []))) e
+        ∙ partner-same (λ p. p .child) (λ p. p .slot) (inOrder n) (own n) (in-order-all (λ p. p .slot < 8) n (λ i m. omega arith)) (slot-free n)
+        ∙ sym e
+    go (inr m) r = partner-other (λ p. p .child) (λ p. p .slot) (inOrder n) (own n) c (λ e. omega arith) ∙ r m
+
+pub in-order-one-to-one : (n : ℕ) → n ≤ 8 → OneToOne n (inOrder n)
+in-order-one-to-one n h =
+    one-to-one n (inOrder n) (in-order-matched n h) (length-in-order n) (λ c l. ne-eqb (slotOf (inOrder n) c) 8 (λ e. omega (arith, in-order-slot n c h l)))
+
+-- ---- as the code fills its array
+pub in-order-next : (k : ℕ) (xs : List ℕ) → k < 8 → xs ≡ eightOf (slotOf (inOrder k)) → set xs k k ≡ eightOf (slotOf (inOrder (k + 1)))
+unfolding inOrder
+in-order-next k xs h e =
+    rw add-one
+    (array-next (λ p. p .child) (λ p. p .slot) (inOrder k) (own k) xs e (in-order-all (λ p. p .slot < 8) k (λ i l. omega arith)) h (slot-free k))
+
+-- the children of the slots are the slots of the children
+alike : (ps : List Pair) → All (λ p. p .child ≡ p .slot) ps → (k : ℕ) → slotOf ps k ≡ childOf ps k
+unfolding partner
+alike [] h k = refl
+alike (p ∷ ps) h k = rw (h .0) (ap (λ (z : ℕ). cond (eqb (p .slot) k) (p .slot) z) (alike ps (h .1) k))
+
+pub in-order-both : (n : ℕ) → eightOf (slotOf (inOrder n)) ≡ eightOf (childOf (inOrder n))
+in-order-both n = ap (λ (f : ℕ → ℕ). eightOf f) (fun-ext (alike (inOrder n) (in-order-all (λ p. p .child ≡ p .slot) n (λ i l. refl))))

@@ -1,0 +1,16 @@
+pub mod Arrays
+pub mod Bounds
+pub mod Counts
+pub mod Greedy
+pub mod InOrder
+pub mod Least
+pub mod Lists
+pub mod Padded
+pub mod Pairs
+pub mod Partners
+pub mod Permutation
+pub mod Placed
+pub mod Rule
+pub mod Samples
+pub mod Scan
+pub mod Slots

@@ -1,0 +1,4 @@
+pub mod Lists
+pub mod Assign
+pub mod Scan
+pub mod Order
