@@ -1,0 +1,4 @@
+pub mod Cleared
+pub mod Room
+pub mod Filled
+pub mod Causes

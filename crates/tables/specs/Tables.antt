@@ -1,0 +1,52 @@
+-- Conversion up to its tables (01, "Causes of refusal"; "Words, bytes and bounds"): the causes 1 to 7 in rising number, and the working slices after.
+use mathlib.Core.Bool.{Bool, true, false, _&&_}
+use mathlib.Core.List.{List, _++_}
+use Prim.Native.Nat.{ℕ, zero, suc, _*_, max}
+use lib.Dec.{leb}
+use lib.ListN.{length, drop, replicate}
+use Rattle.bvh2.specs.Tree.{Tree}
+use Rattle.bvh2.specs.Words.{nodeCount, treeOf}
+use Rattle.bvh2.specs.FirstCause.{sizesCause, structureCause}
+use Rattle.cost.specs.Rows.{fill}
+
+-- how many decision words, and how many costs, n leaves need
+abbrev pub tableSize : ℕ → ℕ
+tableSize n = nodeCount n * 7
+
+-- how many record bytes: 80 × max(1, n − 1), and none for n = 0
+unfoldable pub recordSize : ℕ → ℕ
+recordSize zero = 0
+recordSize (suc k) = 80 * max 1 k
+
+-- decisions, costs, record bytes and output indices are long enough
+unfoldable pub hasRoom : ℕ → (decisions costs bytes list : ℕ) → Bool
+unfolding recordSize
+hasRoom n decisions costs bytes list = leb (tableSize n) decisions && leb (tableSize n) costs && leb (recordSize n) bytes && leb n list
+
+-- causes 1 and 2, then the leaf limit, then the lengths, then the tree's structure
+unfoldable pub prepareCause : List ℕ → (n limit decisions costs bytes list : ℕ) → ℕ
+prepareCause ws n limit decisions costs bytes list =
+    elim (sizesCause (length ws) n) [
+      | suc k ↦ suc k
+      | zero ↦ elim (leb limit 3) [ false ↦ 3 | true ↦ elim (hasRoom n decisions costs bytes list) [ false ↦ 4 | true ↦ structureCause ws n ] ]
+    ]
+
+-- the list with its first k elements made z
+abbrev pub cleared : {A : Type 0} → A → ℕ → List A → List A
+cleared z k s = replicate k z ++ drop k s
+
+-- a working slice for a cause of 5 or more, where it is cleared, and for none, where it holds the rows of every node
+unfoldable pub tabled : {A : Type 0} → (Tree ℕ → ℕ → A) → List ℕ → ℕ → List A → List A
+tabled g ws zero s = fill g (treeOf ws) s
+tabled g ws (suc c) s = s
+
+-- a working slice at the end: as it was for causes 1 to 4 and where no leaf is there, else cleared, and filled if there is no cause
+unfoldable pub workAfter : {A : Type 0} → A → (Tree ℕ → ℕ → A) → List ℕ → (n cause : ℕ) → List A → List A
+unfolding tabled
+workAfter z g ws zero cause s = s
+workAfter z g ws (suc n) zero s = tabled g ws 0 (cleared z (tableSize (suc n)) s)
+workAfter z g ws (suc n) (suc zero) s = s
+workAfter z g ws (suc n) (suc (suc zero)) s = s
+workAfter z g ws (suc n) (suc (suc (suc zero))) s = s
+workAfter z g ws (suc n) (suc (suc (suc (suc zero)))) s = s
+workAfter z g ws (suc n) (suc (suc (suc (suc (suc c))))) s = cleared z (tableSize (suc n)) s
