@@ -1,0 +1,4 @@
+pub mod Range
+pub mod Once
+pub mod Sound
+pub mod Subtree

@@ -1,0 +1,4 @@
+pub mod Range
+pub mod Shape
+pub mod Sound
+pub mod Subtree
