@@ -1,0 +1,14 @@
+pub mod Sizes
+pub mod Conversion
+pub mod Ranges
+pub mod Numbers
+pub mod Index
+pub mod Each
+pub mod Placed
+pub mod Levels
+pub mod Links
+pub mod Shape
+pub mod Held
+pub mod Demands
+pub mod Example
+pub mod Written

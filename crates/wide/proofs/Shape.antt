@@ -1,0 +1,235 @@
+-- A record that has a layout's shape is sound, with the wide tree's level as its deepest.
+use mathlib.Core.List.{List, [], _∷_}
+use mathlib.Core.Logic.{inr}
+use mathlib.Core.Path.{_≡_, refl, sym, ap, ap₂, _∙_, subst}
+use Prim.Native.Nat.{ℕ, suc, _+_, _<_, _≤_}
+use native.Mathlib.Decide.{decLt}
+use native.Mathlib.Nat.{add-zero, add-assoc}
+use native.Mathlib.Omega.{arith}
+use lib.ListN.{length}
+use Rattle.lists.specs.Counts.{count}
+use Rattle.lists.specs.Sums.{sum, sumOver}
+use Rattle.lists.proofs.Counts.{count-append}
+use Rattle.lists.proofs.Sums.{sum-cong, sum-front, sum-renumbered}
+use Rattle.soundness.specs.Range.{inRange}
+use Rattle.soundness.specs.Shape.{Shape, Child, parents, held, holders, Level, Placed}
+use Rattle.soundness.specs.Sound.{Sound, Deepest}
+use Rattle.soundness.proofs.Range.{in-range, before-range, range-most, range-none, range-split, count-range}
+use Rattle.soundness.proofs.Once.{one-level}
+use Rattle.wide.specs.Wide.{Slots, end, empty, leaf, inner, Wide}
+use Rattle.wide.specs.Sizes.{innerChildren, nodesBelow, ownCount, ownBefore, ownAt, countBelow}
+use Rattle.wide.specs.Layout.{Entry, entry, entries, layout, numbers, Each, nodes, indexCount, level}
+use Rattle.wide.specs.Ranges.{childRange, slotRanges, childRanges, leafRanges}
+use Rattle.wide.specs.Shape.{Inside, ReadsNode, Reads, shapeOf, nodeAt}
+use Rattle.wide.proofs.Sizes.{own-inside, rank-below}
+use Rattle.wide.proofs.Ranges.{slot-ranges, child-count, leaf-count}
+use Rattle.wide.proofs.Numbers.{number-below, number-past}
+use Rattle.wide.proofs.Each.{each-append, each-left, each-right, each-map, each-both, find-node, by-number, node-each, node-number, node-has}
+use Rattle.wide.proofs.Links.{node-linked}
+use Rattle.wide.proofs.Placed.{inside}
+use Rattle.wide.proofs.Levels.{level-most, level-some}
+
+-- ---- the eight leaf ranges of a node are one range
+
+slots-held : {w : ℕ} (s : Slots w) (q x : ℕ) → sum (λ k. inRange x (q + ownBefore s k) (ownAt s k)) w ≡ inRange x q (ownCount s)
+unfolding sum
+slots-held end q x = sym (range-none x q)
+slots-held (empty {w = v} s) q x =
+    omega (arith, sum-front (λ k. inRange x (q + ownBefore (empty s) k) (ownAt (empty s) k)) v, range-none x (q + 0), slots-held s q x)
+slots-held (leaf {w = v} b ps s) q x =
+    let n = length ps in
+    let e : inRange x (q + 0) n ≡ inRange x q n = ap (λ (a : ℕ). inRange x a n) (add-zero q) in
+    omega (
+      arith,
+      sum-front (λ k. inRange x (q + ownBefore (leaf b ps s) k) (ownAt (leaf b ps s) k)) v,
+      e,
+      sum-cong (λ k. inRange x (q + (n + ownBefore s k)) (ownAt s k)) (λ k. inRange x (q + n + ownBefore s k) (ownAt s k)) v (λ k h. ap (λ (a : ℕ). inRange x a (ownAt s k)) (sym (add-assoc q n (ownBefore s k)))),
+      slots-held s (q + n) x,
+      range-split x q n (ownCount s),
+    )
+slots-held (inner {w = v} b t s) q x =
+    omega (arith, sum-front (λ k. inRange x (q + ownBefore (inner b t s) k) (ownAt (inner b t s) k)) v, range-none x (q + 0), slots-held s q x)
+
+module _ (S : Shape) where
+  node-held : (e : Entry) → ReadsNode S e → (x : ℕ) → held S (e .number) x ≡ inRange x (e .positionBase) (ownCount (e .slots))
+  node-held e h x =
+      sum-cong (λ s. inRange x (S .start (e .number) s) (S .count (e .number) s)) (λ s. inRange x (e .positionBase + ownBefore (e .slots) s) (ownAt (e .slots) s)) 8
+      (λ s l. go s l (decLt 0 (ownAt (e .slots) s)))
+      ∙ slots-held (e .slots) (e .positionBase) x
+    where
+      go : (s : ℕ) → s < 8 → Dec (0 < ownAt (e .slots) s) → inRange x (S .start (e .number) s) (S .count (e .number) s) ≡ inRange x (e .positionBase + ownBefore (e .slots) s) (ownAt (e .slots) s)
+      go s l (yes p) = ap₂ (λ (a n : ℕ). inRange x a n) (h .start s l p) (h .count s l)
+      go s l (no p) =
+          let z : ownAt (e .slots) s ≡ 0 = omega arith in
+          ap (λ (n : ℕ). inRange x (S .start (e .number) s) n) (h .count s l ∙ z)
+          ∙ range-none x (S .start (e .number) s)
+          ∙ sym (ap (λ (n : ℕ). inRange x (e .positionBase + ownBefore (e .slots) s) n) z ∙ range-none x (e .positionBase + ownBefore (e .slots) s))
+
+  -- ---- counts over the numbers are counts over the layout
+
+  children-counted : (x : ℕ) (r : List Entry) → Each (ReadsNode S) r → sumOver (λ i. inRange x (S .base i) (S .children i)) (numbers r) ≡ count x (childRanges r)
+  unfolding count sumOver
+  children-counted x [] h = refl
+  children-counted x (e ∷ r) h =
+      let a = ap₂ (λ (b n : ℕ). inRange x b n) (h .0 .base) (h .0 .children) in
+      omega (arith, a, children-counted x r (h .1), count-append x (childRange e) (childRanges r), count-range x (e .childBase) (innerChildren (e .slots)))
+
+  leaves-counted : (x : ℕ) (r : List Entry) → Each (ReadsNode S) r → sumOver (λ i. held S i x) (numbers r) ≡ count x (leafRanges r)
+  unfolding count sumOver
+  leaves-counted x [] h = refl
+  leaves-counted x (e ∷ r) h =
+      let q = e .positionBase in
+      let a = ap (λ (l : List ℕ). count x l) (slot-ranges (e .slots) q) in
+      omega (arith, node-held e (h .0) x, leaves-counted x r (h .1), count-append x (slotRanges (e .slots) q) (leafRanges r), a, count-range x q (ownCount (e .slots)))
+
+  -- ---- levels
+
+  child-of : (e : Entry) → ReadsNode S e → e .number < S .nodes → (x : ℕ) → e .childBase ≤ x → x < e .childBase + innerChildren (e .slots) → Child S (e .number) x
+  child-of e h n x a b = let u = h .base in let v = h .children in record { parent = n; from = omega arith; before = omega arith }
+
+  level-next : (l m p v : ℕ) → m ≡ suc l → Level S l p → Child S p v → Level S m v
+  unfolding Level
+  level-next l m p v e a c = subst (λ (x : ℕ). Level S x v) (sym e) (p, c, a)
+
+  levels-below : {w : ℕ} (s : Slots w) (l m p k i c q : ℕ) → m ≡ suc l → Level S l p → ((x : ℕ) → i ≤ x → x < i + innerChildren s → Child S p x)
+      → Each (λ e. ReadsNode S e × (e .number < S .nodes)) (entries s m p k i c q) → Each (λ e. Level S (e .level) (e .number)) (entries s m p k i c q)
+  levels-below end l m p k i c q g a f h = tt
+  levels-below (empty s) l m p k i c q g a f h = levels-below s l m p (k + 1) i c q g a f h
+  levels-below (leaf b ps s) l m p k i c q g a f h = levels-below s l m p (k + 1) i c q g a f h
+  levels-below (inner b t s) l m p k i c q g a f h = (
+    here,
+    each-append (λ e. Level S (e .level) (e .number)) first last
+        (levels-below t m (m + 1) i 0 c (c + innerChildren t) (q + ownCount t) (omega arith) here (child-of (entry b t m p k i c q) (h .0 .0) (h .0 .1)) (each-left (λ e. ReadsNode S e × (e .number < S .nodes)) first last (h .1)))
+        (levels-below s l m p (k + 1) (i + 1) (c + (innerChildren t + nodesBelow t)) (q + (ownCount t + countBelow t)) g a (λ x u v. f x (omega arith) (omega arith)) (each-right (λ e. ReadsNode S e × (e .number < S .nodes)) first last (h .1))),
+  )
+    where
+      first : List Entry
+      first = entries t (m + 1) i 0 c (c + innerChildren t) (q + ownCount t)
+
+      last : List Entry
+      last = entries s m p (k + 1) (i + 1) (c + (innerChildren t + nodesBelow t)) (q + (ownCount t + countBelow t))
+
+      here : Level S m i
+      here = level-next l m p i g a (f i (omega arith) (omega arith))
+
+  -- ---- the whole
+
+  module _ (t : Wide) (h : Reads S t) where
+    pub reads-parents : (v : ℕ) → parents S (S .nodes) v ≡ inRange v 1 (innerChildren (t .slots) + nodesBelow (t .slots))
+    reads-parents v =
+        ap (λ (m : ℕ). parents S m v) (h .nodes)
+        ∙ sum-renumbered (nodes t) (λ i. inRange v (S .base i) (S .children i)) (numbers (layout t)) (number-below t) (number-past t)
+        ∙ children-counted v (layout t) (h .each)
+        ∙ child-count t v
+
+    pub reads-holders : (x : ℕ) → holders S (S .nodes) x ≡ inRange x 0 (indexCount t)
+    reads-holders x =
+        ap (λ (m : ℕ). holders S m x) (h .nodes)
+        ∙ sum-renumbered (nodes t) (λ i. held S i x) (numbers (layout t)) (number-below t) (number-past t)
+        ∙ leaves-counted x (layout t) (h .each)
+        ∙ leaf-count t x
+
+    pub reads-levels : Each (λ e. Level S (e .level) (e .number)) (layout t)
+    unfolding Level
+    reads-levels =
+        let m = h .nodes in
+        let r = each-both (ReadsNode S) (λ e. e .number < S .nodes) (layout t) (h .each) (each-map (Inside (nodes t) (indexCount t)) (λ e. e .number < S .nodes) (layout t) (λ e k. omega (arith, k .number)) (inside t)) in
+        (refl, levels-below (t .slots) 0 1 0 0 1 (1 + innerChildren (t .slots)) (0 + ownCount (t .slots)) refl refl (child-of (entry (t .box) (t .slots) 0 0 0 0 1 0) (r .0 .0) (r .0 .1)) (r .1))
+
+    -- children come later and exist, positions exist
+    pub reads-placed : (i : ℕ) → i < S .nodes → Placed S i
+    reads-placed i l =
+        by-number (λ v. Placed S v) t
+        (each-map (λ e. ReadsNode S e × Inside (nodes t) (indexCount t) e) (λ e. Placed S (e .number)) (layout t) (λ e k. placed e (k .0) (k .1)) (each-both (ReadsNode S) (Inside (nodes t) (indexCount t)) (layout t) (h .each) (inside t)))
+        i (subst (λ (m : ℕ). i < m) (h .nodes) l)
+      where
+        placed : (e : Entry) → ReadsNode S e → Inside (nodes t) (indexCount t) e → Placed S (e .number)
+        placed e r k =
+            let m = h .nodes in
+            let n = h .positions in
+            let b = r .base in
+            let c = r .children in
+            record {
+              later = λ z. omega (arith, k .later);
+              exist = λ z. omega (arith, k .nodes);
+              inside = λ s l z. let u = r .count s l in let v = r .start s l (omega arith) in omega (arith, k .positions, own-inside (e .slots) s);
+            }
+
+    reads-first : parents S (S .nodes) 0 ≡ 0
+    reads-first = reads-parents 0 ∙ before-range 0 1 (innerChildren (t .slots) + nodesBelow (t .slots)) (omega arith)
+
+    reads-others : (v : ℕ) → 0 < v → v < S .nodes → parents S (S .nodes) v ≡ 1
+    reads-others v z l = reads-parents v ∙ in-range v 1 (innerChildren (t .slots) + nodesBelow (t .slots)) z (omega (arith, h .nodes))
+
+    -- a node has the level of its entry and no other
+    pub reads-level : (v l : ℕ) → v < S .nodes → Level S l v → l ≤ level t
+    reads-level v l b a =
+        let r = find-node (λ e. Level S (e .level) (e .number) × (e .level ≤ level t)) t v (omega (arith, h .nodes)) (each-both (λ e. Level S (e .level) (e .number)) (λ e. e .level ≤ level t) (layout t) reads-levels (level-most t)) in
+        let e = one-level S reads-first most l (r .0 .level) v b a (subst (λ (x : ℕ). Level S (r .0 .level) x) (r .1) (r .2 .0)) in
+        omega (arith, r .2 .1)
+      where
+        most : (u : ℕ) → u < S .nodes → parents S (S .nodes) u ≤ 1
+        most u k = omega (arith, reads-parents u, range-most u 1 (innerChildren (t .slots) + nodesBelow (t .slots)))
+
+    -- A record with the layout's shape is sound if its nodes meet the rule and the wide tree's level is at most 31,
+    pub reads-sound : (Rule : ℕ → Type 0) → ((i : ℕ) → i < S .nodes → Rule i) → level t ≤ 31 → Sound S Rule
+    reads-sound Rule rule d = record {
+      rule = rule;
+      first = reads-first;
+      others = reads-others;
+      filled = λ x l. reads-holders x ∙ in-range x 0 (indexCount t) (omega arith) (omega (arith, h .positions));
+      levels = λ v l b a. omega (arith, reads-level v l b a);
+    }
+
+    -- and its deepest level is the wide tree's.
+    pub reads-deepest : Deepest S (level t)
+    reads-deepest =
+        let r = level-some (λ e. Level S (e .level) (e .number) × Inside (nodes t) (indexCount t) e) t (each-both (λ e. Level S (e .level) (e .number)) (Inside (nodes t) (indexCount t)) (layout t) reads-levels (inside t)) in
+        record {
+          most = reads-level;
+          some = inr (r .0 .number, omega (arith, r .2 .1 .number, h .nodes), subst (λ (l : ℕ). Level S l (r .0 .number)) (r .1) (r .2 .0));
+        }
+
+    -- the parent that a node's entry names is its parent
+    pub reads-parent : (v : ℕ) → 0 < v → v < nodes t → Child S (nodeAt t v .parent) v
+    reads-parent v z l =
+        let k = node-linked t v z l in
+        let n = node-number t v l in
+        let p = nodeAt t v .parent in
+        let m = h .nodes in
+        let b : p < nodes t = omega (arith, k .earlier) in
+        let e = node-number t p b in
+        let r = node-has (ReadsNode S) t (h .each) p b in
+        let g : nodeAt t p .childBase ≡ S .base p = sym (r .base) ∙ ap (λ (i : ℕ). S .base i) e in
+        let c : innerChildren (nodeAt t p .slots) ≡ S .children p = sym (r .children) ∙ ap (λ (i : ℕ). S .children i) e in
+        record {
+          parent = omega arith;
+          from = omega (arith, k .number);
+          before = omega (arith, k .number, rank-below (nodeAt t p .slots) (nodeAt t v .slot) (k .inner));
+        }
+
+-- ---- a shape read by number, and the layout's own
+
+pub reads-by-number : (S : Shape) (t : Wide) → S .nodes ≡ nodes t → S .positions ≡ indexCount t → ((v : ℕ) → v < nodes t → ReadsNode S (nodeAt t v)) → Reads S t
+reads-by-number S t m n h = record {
+  nodes = m;
+  positions = n;
+  each = each-map (λ e. (nodeAt t (e .number) ≡ e) × Inside (nodes t) (indexCount t) e) (ReadsNode S) (layout t) (λ e k. subst (ReadsNode S) (k .0) (h (e .number) (k .1 .number)))
+      (each-both (λ e. nodeAt t (e .number) ≡ e) (Inside (nodes t) (indexCount t)) (layout t) (node-each t) (inside t));
+}
+
+pub shape-reads : (t : Wide) → Reads (shapeOf t) t
+unfolding shapeOf
+shape-reads t = reads-by-number (shapeOf t) t refl refl (λ v h. reads v (ap (nodeAt t) (node-number t v h)))
+  where
+    reads : (v : ℕ) → nodeAt t (nodeAt t v .number) ≡ nodeAt t v → ReadsNode (shapeOf t) (nodeAt t v)
+    reads v k = record {
+      base = ap (λ (x : Entry). x .childBase) k;
+      children = ap (λ (x : Entry). innerChildren (x .slots)) k;
+      count = λ s l. ap (λ (x : Entry). ownAt (x .slots) s) k;
+      start = λ s l p. ap (λ (x : Entry). x .positionBase + ownBefore (x .slots) s) k;
+    }
+
+-- the layout of a wide tree of level at most 31 is sound, with that level as its deepest
+pub layout-sound : (t : Wide) → level t ≤ 31 → Sound (shapeOf t) (Placed (shapeOf t)) × Deepest (shapeOf t) (level t)
+layout-sound t h = (reads-sound (shapeOf t) t (shape-reads t) (Placed (shapeOf t)) (reads-placed (shapeOf t) t (shape-reads t)) h, reads-deepest (shapeOf t) t (shape-reads t))

@@ -1,0 +1,6 @@
+pub mod Wide
+pub mod Sizes
+pub mod Layout
+pub mod Ranges
+pub mod Conversion
+pub mod Shape
