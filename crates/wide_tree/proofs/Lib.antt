@@ -1,0 +1,7 @@
+pub mod Slots
+pub mod Gathered
+pub mod WideTree
+pub mod Positions
+pub mod Boxes
+pub mod Ordered
+pub mod Samples

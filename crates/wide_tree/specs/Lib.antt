@@ -1,0 +1,2 @@
+pub mod WideTree
+pub mod Ordered
