@@ -1,0 +1,18 @@
+use Rattle.node.specs.Node.{nodeFrom}
+use mathlib.Core.Path.{refl}
+use borrow.Author.Needs.{needs}
+use Rattle.node.proofs.ez.Statement.{statement}
+use Rattle.node.proofs.ez.Tie as tie
+
+add-result : tie.Need-add-result
+add-result c = search needs
+
+shared-slice-read-result : tie.Need-shared-slice-read-result
+shared-slice-read-result c = search needs
+
+returns : tie.Need-returns
+unfolding nodeFrom
+returns c = refl
+
+pub ez-spec : {M : Type 1} → statement M
+ez-spec = tie.close (tie.spec add-result shared-slice-read-result returns)
