@@ -1,0 +1,170 @@
+// Internal: a ray against the eight slot boxes of a node, as a mask of children and positions (cwbvh/node.rs).
+ghost use mathlib.Core.Path.{_≡_};
+ghost use mathlib.Core.Bool.{Bool, false};
+ghost use Prim.Native.Nat.{ℕ, _+_, _-_, _%_, _≤_, _<_};
+ghost use lib.Bits.{bitXor};
+ghost use lib.ListN.{length, getD};
+ghost use Rattle.node.specs.Node.{nodeFrom, childIndex};
+ghost use Rattle.slot.specs.Slot.{planeAt};
+ghost use Rattle.slot.specs.Mask.{hitMask};
+ghost use Rattle.slot.specs.Parts.{extentsOf, pointOf, gridOf, nearEnd, endsOf, boxPasses, slotPasses, wordMask, Placed};
+use ray::Ray;
+use ray::Vec3;
+
+// No slot counts nearer than this.
+const EPSILON: f32 = 0.0001;
+
+// The ray in a node's grid: what a step of the grid adds to the distance on each axis, and the distances of p's planes.
+pub struct Grid {
+    pub inverse: Vec3,
+    pub origin: Vec3,
+}
+
+// The end of each axis that the ray meets first: 1, the upper, where its direction is below zero.
+pub struct Ends {
+    pub x: usize,
+    pub y: usize,
+    pub z: usize,
+}
+
+// The steps of a node's grid.
+pub fn compute_extent(ex: u8, ey: u8, ez: u8) -> Vec3
+    ensures { λ r. ⌜ r ≡ extentsOf ex ey ez ⌝ }
+{
+    Vec3 {
+        x: float::scale(ex),
+        y: float::scale(ey),
+        z: float::scale(ez),
+    }
+}
+
+// The corner p of the node at o.
+fn point(s: &[u8], o: usize) -> Vec3
+    requires { ⌜ o + 80 ≤ length (now s) ⌝ }
+    ensures { λ r. ⌜ r ≡ pointOf (nodeFrom (now (s .entry)) o) ⌝ }
+{
+    Vec3 {
+        x: float::of_bits(node::px(s, o)),
+        y: float::of_bits(node::py(s, o)),
+        z: float::of_bits(node::pz(s, o)),
+    }
+}
+
+// The ray in the grid of the node at o.
+fn ray_in_grid(s: &[u8], o: usize, ray: Ray) -> Grid
+    requires { ⌜ o + 80 ≤ length (now s) ⌝ }
+    ensures { λ r. ⌜ r ≡ gridOf (nodeFrom (now (s .entry)) o) ray ⌝ }
+{
+    let extent = compute_extent(node::ex(s, o), node::ey(s, o), node::ez(s, o));
+    let p = point(s, o);
+    Grid {
+        inverse: Vec3 {
+            x: extent.x * ray.inverse.x,
+            y: extent.y * ray.inverse.y,
+            z: extent.z * ray.inverse.z,
+        },
+        origin: Vec3 {
+            x: (p.x - ray.origin.x) * ray.inverse.x,
+            y: (p.y - ray.origin.y) * ray.inverse.y,
+            z: (p.z - ray.origin.z) * ray.inverse.z,
+        },
+    }
+}
+
+// The end of an axis that a ray of this direction meets first.
+fn near_end(direction: f32) -> usize
+    ensures { λ r. ⌜ (r ≡ nearEnd direction) × (r < 2) ⌝ }
+{
+    if direction < 0.0 { 1 } else { 0 }
+}
+
+// The distance at which the ray meets the plane at byte q of an axis.
+fn plane(q: u8, inverse: f32, origin: f32) -> f32
+    ensures { λ r. ⌜ r ≡ planeAt q inverse origin ⌝ }
+{
+    q as f32 * inverse + origin
+}
+
+// Whether the ray passes a box: the three bytes that it meets first, and the three others.
+fn box_passes(nx: u8, ny: u8, nz: u8, fx: u8, fy: u8, fz: u8, g: Grid, near: f32, tmax: f32) -> bool
+    ensures { λ r. ⌜ r ≡ boxPasses nx ny nz fx fy fz g near tmax ⌝ }
+{
+    let ax = plane(nx, g.inverse.x, g.origin.x);
+    let ay = plane(ny, g.inverse.y, g.origin.y);
+    let az = plane(nz, g.inverse.z, g.origin.z);
+    let bx = plane(fx, g.inverse.x, g.origin.x);
+    let by = plane(fy, g.inverse.y, g.origin.y);
+    let bz = plane(fz, g.inverse.z, g.origin.z);
+    let first = float::max(float::max(float::max(ax, ay), az), near);
+    let last = float::min(float::min(float::min(bx, by), bz), tmax);
+    first <= last
+}
+
+// Whether the ray passes slot k of the node at o.
+fn slot_passes(s: &[u8], o: usize, e: Ends, g: Grid, near: f32, tmax: f32, k: usize) -> bool
+    requires { ⌜ (o + 80 ≤ length (now s)) × (k < 8) × (e .x < 2) × (e .y < 2) × (e .z < 2) ⌝ }
+    ensures { λ r. ⌜ r ≡ slotPasses (now (s .entry)) o e g near tmax k ⌝ }
+{
+    let nx = node::corner(s, o, 0, e.x, k);
+    let ny = node::corner(s, o, 1, e.y, k);
+    let nz = node::corner(s, o, 2, e.z, k);
+    let fx = node::corner(s, o, 0, 1 - e.x, k);
+    let fy = node::corner(s, o, 1, 1 - e.y, k);
+    let fz = node::corner(s, o, 2, 1 - e.z, k);
+    box_passes(nx, ny, nz, fx, fy, fz, g, near, tmax)
+}
+
+// Which of the eight slots the ray passes.
+fn slots_passed(s: &[u8], o: usize, e: Ends, g: Grid, near: f32, tmax: f32) -> [bool; 8]
+    requires { ⌜ (o + 80 ≤ length (now s)) × (e .x < 2) × (e .y < 2) × (e .z < 2) ⌝ }
+    ensures { λ r. ⌜ ((k : ℕ) → k < 8 → getD r k false ≡ slotPasses (now (s .entry)) o e g near tmax k) ⌝ }
+{
+    let mut pass = [false; 8];
+    let mut k: usize = 0;
+    while k < 8 {
+        pass[k] = slot_passes(s, o, e, g, near, tmax, k);
+        k += 1;
+    }
+    pass
+}
+
+// The bits of the slots passed, each at its index.
+fn hit_mask(pass: &[bool; 8], child8: u64, index8: u64) -> u32
+    requires { ⌜ Placed index8 ⌝ }
+    ensures { λ r. ⌜ r ≡ wordMask 8 (now (pass .entry)) child8 index8 ⌝ }
+{
+    let mut mask: u32 = 0;
+    let mut k: u32 = 0;
+    while k < 8 {
+        if pass[k as usize] {
+            mask |= words::byte(child8, k) << words::byte(index8, k);
+        }
+        k += 1;
+    }
+    mask
+}
+
+// The hit mask of the node at o for a ray of this octant.
+pub fn intersect_ray(s: &[u8], o: usize, ray: Ray, octant: u32) -> u32
+    requires { ⌜ (o + 80 ≤ length (now s)) × (octant < 8) ⌝ }
+    ensures { λ r. ⌜ r ≡ hitMask (nodeFrom (now (s .entry)) o) ray octant ⌝ }
+{
+    let g = ray_in_grid(s, o, ray);
+    let x = near_end(ray.direction.x);
+    let y = near_end(ray.direction.y);
+    let z = near_end(ray.direction.z);
+    let e = Ends { x, y, z };
+    let pass = slots_passed(s, o, e, g, EPSILON, ray.tmax);
+    let bits = decode::get_child_and_index_bits(node::metas(s, o), octant);
+    hit_mask(&pass, bits.child, bits.index)
+}
+
+// The number of the child that a bit of a hit mask stands for. The low byte of group is the node's imask, above which hit bits may stand:
+// the rank is counted over imask.
+pub fn hit_child(child_base_idx: u32, group: u32, bit: u32, octant: u32) -> usize
+    requires { ⌜ (24 ≤ bit) × (bit < 32) × (octant < 8) ⌝ }
+    ensures { λ r. ⌜ r ≡ childIndex «child_base_idx» (group % 256) (bitXor (bit - 24) octant) ⌝ }
+{
+    let slot = (bit - 24) ^ octant;
+    child_base_idx as usize + words::rank(group % 256, slot) as usize
+}
