@@ -1,0 +1,7 @@
+pub mod Placed
+pub mod Test
+pub mod Record
+pub mod Check
+pub mod Tree
+pub mod WideTree
+pub mod Example
