@@ -1,0 +1,1 @@
+// Internal: the record of a wide tree as bytes. Definitions and laws; no code.

@@ -1,0 +1,6 @@
+pub mod ReadBack
+pub mod Codes
+pub mod Slots
+pub mod Range
+pub mod ShapeRead
+pub mod Rule
