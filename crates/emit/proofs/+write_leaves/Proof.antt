@@ -1,0 +1,131 @@
+-- The measure is the depth; the steps down and up are in proofs/LeafSteps.
+use mathlib.Core.Path.{refl, _∙_}
+use Prim.Native.Nat.{ℕ, _+_, _*_, _-_, _%_, _<_}
+use native.Mathlib.Omega.{arith}
+use lib.ListN.{length, length-set}
+use Rattle.bvh2.proofs.Subtree.{node}
+use Rattle.emit.proofs.LeafSteps.{Down, down, up, Last, last}
+use borrow.Fn.Kinds.{In}
+use borrow.Fn.PlainCycle.{Measures, is, falls, and}
+use Rattle.emit.proofs.write_leaves.Reads as write-leaves
+use Rattle.emit.proofs.write_leaves.Kinds as write-leaves-kinds
+use Rattle.emit.proofs.+write_leaves.Lts-write_leaves as write-leaves-lts
+use Rattle.bvh2.proofs.link_word.Reads as link-word-reads
+use Rattle.emit.proofs.+write_leaves.{statement}
+use Rattle.emit.proofs.+write_leaves.Tie.{close}
+
+abbrev μ-write-leaves : Measures 3 write-leaves-kinds.ps ℕ
+μ-write-leaves κs a = a .1 .1 .1 .1 .1 .0
+
+abbrev write-leaves-at : ℕ → In 3 write-leaves-kinds.ps
+write-leaves-at t =
+    and 3 write-leaves-kinds.ps (is 3 write-leaves-kinds.ps μ-write-leaves t) write-leaves.Pre
+
+abbrev write-leaves-below : ℕ → In 3 write-leaves-kinds.ps
+write-leaves-below t =
+    and
+    3
+    write-leaves-kinds.ps
+    (falls 3 write-leaves-kinds.ps _<_ μ-write-leaves t)
+    write-leaves.Pre
+
+abbrev given : ℕ → write-leaves-lts.Claims
+given t = (link-word-reads.Asked, link-word-reads.Learnt, write-leaves-below t, write-leaves.Post)
+
+-- the places: the entry, the two branches
+abbrev S : ℕ → Type 0
+S t = write-leaves-lts.Start (given t) (write-leaves-at t) write-leaves.Post
+
+abbrev I : ℕ → Type 0
+I t = write-leaves-lts.Then1 (given t) (write-leaves-at t) write-leaves.Post
+
+abbrev Z : ℕ → Type 0
+Z t = write-leaves-lts.Else1 (given t) (write-leaves-at t) write-leaves.Post
+
+abbrev start : (t : ℕ) → I t → S t
+start t i = i .before .before .before .before .before
+
+abbrev start-leaf : (t : ℕ) → Z t → S t
+start-leaf t i = i .before .before .before .before .before
+
+below : (t : ℕ) (i : I t) → Down (start t i .args .words .now) (length (start t i .args .indices .now)) (length (start t i .args .out .now)) (start t i .args .at) (start t i .args .depth) (start t i .args .v) (i .before .link-word .result % 0x4000_0000)
+below t i = down (start t i .pre .1) (i .before .link-word .ensures) (i .if1 .taken)
+
+ended : (t : ℕ) (i : Z t) → Last (start-leaf t i .args .words .now) (start-leaf t i .args .indices .now) (start-leaf t i .args .at) (start-leaf t i .args .depth) (start-leaf t i .args .v) (i .before .link-word .result % 0x4000_0000) (start-leaf t i .args .out .now)
+ended t i = last (start-leaf t i .pre .1) (i .before .link-word .ensures) (i .if1 .left)
+
+write-leaves-link-word-requires : (t : ℕ) → write-leaves-lts.Need-link-word-requires (given t) (write-leaves-at t) write-leaves.Post
+write-leaves-link-word-requires t c κs = let r = node (c .before .before .before .pre .1 .tree) .room in omega arith
+
+write-leaves-cast-index : (t : ℕ) → write-leaves-lts.Need-cast-index (given t) (write-leaves-at t) write-leaves.Post
+write-leaves-cast-index t c = omega arith
+
+write-leaves-sub-write-leaves : (t : ℕ) → write-leaves-lts.Need-sub-write-leaves (given t) (write-leaves-at t) write-leaves.Post
+write-leaves-sub-write-leaves t c = below t (c .before) .deep
+
+write-leaves-write-leaves-requires : (t : ℕ) → write-leaves-lts.Need-write-leaves-requires (given t) (write-leaves-at t) write-leaves.Post
+write-leaves-write-leaves-requires t c κs = let h = below t (c .before) in let d = h .deep in (omega arith, h .left)
+
+write-leaves-add-write-leaves : (t : ℕ) → write-leaves-lts.Need-add-write-leaves (given t) (write-leaves-at t) write-leaves.Post
+write-leaves-add-write-leaves t c = omega arith
+
+write-leaves-sub-write-leaves-2 : (t : ℕ) → write-leaves-lts.Need-sub-write-leaves-2 (given t) (write-leaves-at t) write-leaves.Post
+write-leaves-sub-write-leaves-2 t c = below t (c .before .before .before .before .before) .deep
+
+write-leaves-write-leaves-requires-2 : (t : ℕ) → write-leaves-lts.Need-write-leaves-requires-2 (given t) (write-leaves-at t) write-leaves.Post
+write-leaves-write-leaves-requires-2 t c κs =
+    let h = below t (c .before .before .before .before .before) in
+    let d = h .deep in
+    let f = c .before .before .before .write-leaves in
+    (omega arith, rw (f .kept .1 .1 .0, f .ensures .next) (h .right))
+
+write-leaves-same-length : (t : ℕ) → write-leaves-lts.Need-same-length (given t) (write-leaves-at t) write-leaves.Post
+write-leaves-same-length t c = c .before .before .write-leaves2 .kept .1 .1 .0 ∙ c .before .before .before .before .before .before .write-leaves .kept .1 .1 .0
+
+write-leaves-returns : (t : ℕ) → write-leaves-lts.Need-returns (given t) (write-leaves-at t) write-leaves.Post
+write-leaves-returns t c =
+    let g = c .before .before in
+    let f = g .before .before .before .before in
+    up (below t (f .before .before)) refl (f .write-leaves .ensures) (g .write-leaves2 .ensures)
+
+write-leaves-mul-out : (t : ℕ) → write-leaves-lts.Need-mul-out (given t) (write-leaves-at t) write-leaves.Post
+write-leaves-mul-out t c = let h = ended t c .held in omega arith
+
+write-leaves-shared-slice-read-out : (t : ℕ) → write-leaves-lts.Need-shared-slice-read-out (given t) (write-leaves-at t) write-leaves.Post
+write-leaves-shared-slice-read-out t c = ended t (c .before) .held
+
+write-leaves-mul-out-2 : (t : ℕ) → write-leaves-lts.Need-mul-out-2 (given t) (write-leaves-at t) write-leaves.Post
+write-leaves-mul-out-2 t c = let h = ended t (c .before) .room in omega arith
+
+write-leaves-slice-write-out : (t : ℕ) → write-leaves-lts.Need-slice-write-out (given t) (write-leaves-at t) write-leaves.Post
+write-leaves-slice-write-out t c = ended t (c .before) .room
+
+write-leaves-add-result : (t : ℕ) → write-leaves-lts.Need-add-result (given t) (write-leaves-at t) write-leaves.Post
+write-leaves-add-result t c = let h = ended t (c .before) .room in omega arith
+
+write-leaves-same-length-2 : (t : ℕ) → write-leaves-lts.Need-same-length-2 (given t) (write-leaves-at t) write-leaves.Post
+write-leaves-same-length-2 t c = simp length-set
+
+write-leaves-returns-2 : (t : ℕ) → write-leaves-lts.Need-returns-2 (given t) (write-leaves-at t) write-leaves.Post
+write-leaves-returns-2 t c = ended t (c .before) .written
+
+pub +write-leaves-spec : {M : Type 1} → statement M
++write-leaves-spec = close μ-write-leaves λ t. write-leaves-lts.spec (given t)
+    (write-leaves-at t)
+    write-leaves.Post
+    (write-leaves-link-word-requires t)
+    (write-leaves-cast-index t)
+    (write-leaves-sub-write-leaves t)
+    (write-leaves-write-leaves-requires t)
+    (write-leaves-add-write-leaves t)
+    (write-leaves-sub-write-leaves-2 t)
+    (write-leaves-write-leaves-requires-2 t)
+    (write-leaves-same-length t)
+    (write-leaves-returns t)
+    (write-leaves-mul-out t)
+    (write-leaves-shared-slice-read-out t)
+    (write-leaves-mul-out-2 t)
+    (write-leaves-slice-write-out t)
+    (write-leaves-add-result t)
+    (write-leaves-same-length-2 t)
+    (write-leaves-returns-2 t)

@@ -1,0 +1,4 @@
+pub mod LeafSteps
+pub mod GridBox
+pub mod OwnSteps
+pub mod Whole

@@ -1,0 +1,107 @@
+-- What a slot's word says, by the tests that the code makes, and one slot worked through.
+use mathlib.Core.Path.{_≡_, refl, sym, ap, ap₂, subst, _∙_}
+use mathlib.Core.Bool.{Bool, true, false, not}
+use mathlib.Core.List.{List}
+use Prim.Native.Nat.{ℕ, zero, suc, _+_, _-_, _*_, _/_, _^_, _≤_, _<_}
+use native.Mathlib.Nat.{pow-succ'}
+use lib.Pow.{pow-mono}
+use lib.Dec.{T}
+use lib.Ieee.{binary32, toBits, isNan}
+use Rattle.float.proofs.Magnitude.{atmost-no-nan}
+use Rattle.aabb.specs.Aabb.{acceptedBox}
+use Rattle.aabb.proofs.Bounds.{accepted}
+use Rattle.aabb.specs.declared.Aabb.{Aabb}
+use Rattle.emit.specs.declared.Own.{Own}
+use native.Mathlib.Omega.{arith}
+use lib.ListN.{getD}
+use borrow.Author.Tests.{eq-eqb, ne-eqb}
+use Rattle.bvh2.specs.Tree.{leaves}
+use Rattle.bvh2.specs.Words.{boxAt, treeAt}
+use Rattle.node.specs.declared.Node.{Node}
+use Rattle.emit.specs.declared.Grid.{Grid}
+use Rattle.emit.specs.Grid.{gridOf}
+use Rattle.emit.specs.Leaves.{LeavesReady}
+use Rattle.emit.specs.Own.{Cell, none, asLeaf, asNode, cellBy, cellOf, CellReady, SlotReady, State, withChild, firstSlots, nodeBuilt}
+
+pub cell-none : (ws decisions : List ℕ) (depth v : ℕ) → v ≡ 0xffff_ffff → cellOf ws decisions depth v ≡ none
+unfolding cellOf
+cell-none ws decisions depth v e =
+    ap (λ (b : Bool). cellBy b (getD decisions (v * 7) 0 / 0x4000_0000) (boxAt ws v) (treeAt ws depth v)) (eq-eqb v 0xffff_ffff e)
+
+module _ (ws decisions : List ℕ) (depth v : ℕ) (child : v ≡ 0xffff_ffff → ⊥) where
+  is-child : (k : ℕ) → getD decisions (v * 7) 0 / 0x4000_0000 ≡ k → cellOf ws decisions depth v ≡ cellBy false k (boxAt ws v) (treeAt ws depth v)
+  unfolding cellOf
+  is-child k e = ap₂ (λ (b : Bool) (x : ℕ). cellBy b x (boxAt ws v) (treeAt ws depth v)) (ne-eqb v 0xffff_ffff child) e
+
+  pub cell-leaf : getD decisions (v * 7) 0 / 0x4000_0000 ≡ 0 → cellOf ws decisions depth v ≡ asLeaf (boxAt ws v) (treeAt ws depth v)
+  cell-leaf e = is-child 0 e
+
+  pub cell-node : (getD decisions (v * 7) 0 / 0x4000_0000 ≡ 0 → ⊥) → cellOf ws decisions depth v ≡ asNode (boxAt ws v)
+  cell-node h = go (getD decisions (v * 7) 0 / 0x4000_0000) refl
+    where
+      go : (k : ℕ) → getD decisions (v * 7) 0 / 0x4000_0000 ≡ k → cellOf ws decisions depth v ≡ asNode (boxAt ws v)
+      go zero e = absurd (h e)
+      go (suc k) e = is-child (suc k) e
+
+  -- what writing a leaf child's words asks
+  pub leaf-ready : (n m start at : ℕ) → SlotReady ws decisions n m depth v start at → getD decisions (v * 7) 0 / 0x4000_0000 ≡ 0
+      → LeavesReady ws n m at depth v × CellReady m start at (asLeaf (boxAt ws v) (treeAt ws depth v))
+  unfolding CellReady
+  leaf-ready n m start at r e =
+      let k : CellReady m start at (asLeaf (boxAt ws v) (treeAt ws depth v)) = rw (cell-leaf e) at (r .cell) in
+      (record { tree = r .tree child; room = k .0 }, k)
+
+-- ---- the first k slots
+module _ (indices : List ℕ) (b : Aabb) (start : ℕ) (cell : ℕ → Cell) (list : List ℕ) where
+  one-bounds : (k : ℕ) (c : Cell) (s : State) → s .own .imask < 2 ^ k → s .own .inner ≤ k
+      → (withChild indices b start k c s .own .imask < 2 ^ suc k) × (withChild indices b start k c s .own .inner ≤ suc k)
+  unfolding withChild
+  one-bounds k none s h l = let e = pow-succ' 2 k in (omega arith, omega arith)
+  one-bounds k (asLeaf d t) s h l = let e = pow-succ' 2 k in (omega arith, omega arith)
+  one-bounds k (asNode d) s h l = let e = pow-succ' 2 k in (omega arith, omega arith)
+
+  pub first-bounds : (k : ℕ) → (firstSlots indices b start cell k list .own .imask < 2 ^ k) × (firstSlots indices b start cell k list .own .inner ≤ k)
+  unfolding firstSlots
+  first-bounds zero = (omega arith, omega arith)
+  first-bounds (suc k) = let h = first-bounds k in one-bounds k (cell k) (firstSlots indices b start cell k list) (h .0) (h .1)
+
+  pub first-next : (k : ℕ) → withChild indices b start k (cell k) (firstSlots indices b start cell k list) ≡ firstSlots indices b start cell (suc k) list
+  unfolding firstSlots
+  first-next k = refl
+
+  -- what the code asks of slot k: its bit fits the mask
+  pub bit-fits : (k : ℕ) (o : Own) → k < 8 → o ≡ firstSlots indices b start cell k list .own → (o .imask + 2 ^ k < 2 ^ 32) × (o .inner < 8)
+  bit-fits k o h e =
+      let p = first-bounds k in
+      let q : 2 ^ k ≤ 2 ^ 7 = pow-mono {i = k} {j = 7} (omega arith) in
+      let x = ap (λ (w : Own). w .imask) e in
+      let y = ap (λ (w : Own). w .inner) e in
+      (omega arith, omega arith)
+
+-- an accepted box has numbers for its lower corner
+pub corner-numbers : (b : Aabb) → acceptedBox b ≡ true → T (not (isNan (b .min .x))) × T (not (isNan (b .min .y))) × T (not (isNan (b .min .z)))
+corner-numbers b e =
+    let h = accepted b (subst T (sym e) tt) .low in
+    (atmost-no-nan (b .min .x) (2 ^ 40) 1 (h .x), atmost-no-nan (b .min .y) (2 ^ 40) 1 (h .y), atmost-no-nan (b .min .z) (2 ^ 40) 1 (h .z))
+
+-- the node that the code puts together
+abbrev nodeWith : Aabb → Grid → (count start : ℕ) → Own → Node
+nodeWith b g count start o = record {
+  px = toBits binary32 (b .min .x);
+  py = toBits binary32 (b .min .y);
+  pz = toBits binary32 (b .min .z);
+  ex = g .ex;
+  ey = g .ey;
+  ez = g .ez;
+  imask = o .imask;
+  «child_base_idx» = count;
+  «primitive_base_idx» = start;
+  «child_meta» = o .metas;
+  slots = o .boxes;
+}
+
+pub built : (ws : List ℕ) (v count start : ℕ) (b : Aabb) (g : Grid) (o s : Own) → b ≡ boxAt ws v → g ≡ gridOf (boxAt ws v) → o ≡ s
+    → nodeWith b g count start o ≡ nodeBuilt ws v count start s
+unfolding gridOf
+built ws v count start b g o s d e f =
+    ap (λ (x : Aabb). nodeWith x g count start o) d ∙ ap₂ (λ (x : Grid) (y : Own). nodeWith (boxAt ws v) x count start y) e f

@@ -1,0 +1,131 @@
+-- A node's own slots, worked through one after another (01, "Corners of each file", bvh2_to_cwbvh.rs): meta bytes, boxes on the grid, the mask
+-- of inner children, and the index words of the leaf children, in slot order.
+use mathlib.Core.Bool.{Bool, true, false}
+use mathlib.Core.List.{List}
+use mathlib.Core.Path.{_≡_}
+use Prim.Native.Nat.{ℕ, zero, suc, _+_, _-_, _*_, _/_, _^_, _<_, _≤_}
+use lib.Dec.{eqb}
+use lib.ListN.{length, getD, set, replicate}
+use lib.Ieee.{binary32, toBits}
+use Rattle.lists.specs.Splice.{splice}
+use Rattle.aabb.specs.declared.Aabb.{Aabb}
+use Rattle.quantization.specs.Exponent.{exponentOf}
+use Rattle.bvh2.specs.Tree.{Tree, leaves, positions}
+use Rattle.bvh2.specs.Words.{boxAt, treeAt}
+use Rattle.bvh2.specs.Decoded.{Subtree}
+use Rattle.node.specs.declared.Slot.{Slot}
+use Rattle.node.specs.Node.{noSlot}
+use Rattle.record.specs.Record.{leafMeta, innerMeta, gridBox}
+use Rattle.node.specs.declared.Node.{Node}
+use Rattle.wide.specs.Wide.{Slots}
+use Rattle.record.specs.Children.{Child, leafChild, innerChild}
+use Rattle.record.specs.Children as R
+use Rattle.emit.specs.declared.Own.{Own}
+use Rattle.emit.specs.declared.Built.{Built}
+use Rattle.emit.specs.Leaves.{wordsAt}
+
+-- what a slot's word says: no child, a child that becomes a leaf, or one that becomes a node
+pub data Cell : Type 0 where
+  none : Cell
+  asLeaf : Aabb → Tree ℕ → Cell
+  asNode : Aabb → Cell
+
+-- no child, or by the kind: 0 is LEAF
+abbrev pub cellBy : Bool → ℕ → Aabb → Tree ℕ → Cell
+cellBy true kind b t = none
+cellBy false zero b t = asLeaf b t
+cellBy false (suc kind) b t = asNode b
+
+-- the child is node v, of which entry 0's kind decides; its subtree has at most `depth` edges below it
+unfoldable pub cellOf : List ℕ → List ℕ → ℕ → ℕ → Cell
+cellOf ws decisions depth v = cellBy (eqb v 0xffff_ffff) (getD decisions (v * 7) 0 / 0x4000_0000) (boxAt ws v) (treeAt ws depth v)
+
+-- the slots so far, and the index list
+pub record State : Type 0 where
+  pub own : Own
+  pub list : List ℕ
+
+abbrev pub made : Own → List ℕ → State
+made o l = record { own = o; list = l }
+
+-- nothing yet, with the next place in the index list
+abbrev pub begin : ℕ → Own
+begin at = record { metas = replicate 8 0; boxes = replicate 8 noSlot; imask = 0; inner = 0; at = at }
+
+-- slot i of a node of box b whose own positions start at `start`
+unfoldable pub withChild : List ℕ → Aabb → (start i : ℕ) → Cell → State → State
+withChild indices b start i none s = s
+withChild indices b start i (asLeaf c t) s = record {
+  own = record {
+    metas = set (s .own .metas) i (leafMeta (leaves t) (s .own .at - start));
+    boxes = set (s .own .boxes) i (gridBox b c);
+    imask = s .own .imask;
+    inner = s .own .inner;
+    at = s .own .at + leaves t;
+  };
+  list = splice (s .list) (s .own .at) (wordsAt indices (positions t));
+}
+withChild indices b start i (asNode c) s = record {
+  own = record {
+    metas = set (s .own .metas) i (innerMeta i);
+    boxes = set (s .own .boxes) i (gridBox b c);
+    imask = s .own .imask + 2 ^ i;
+    inner = s .own .inner + 1;
+    at = s .own .at;
+  };
+  list = s .list;
+}
+
+-- the first k slots
+unfoldable pub firstSlots : List ℕ → Aabb → ℕ → (ℕ → Cell) → ℕ → List ℕ → State
+unfolding withChild
+firstSlots indices b start cell zero list = record { own = begin start; list = list }
+firstSlots indices b start cell (suc k) list = withChild indices b start k (cell k) (firstSlots indices b start cell k list)
+
+-- what working on a slot asks: a child is a subtree, and a leaf's words have room
+unfoldable pub CellReady : ℕ → ℕ → ℕ → Cell → Type 0
+CellReady m start at none = Unit {0}
+CellReady m start at (asLeaf c t) = (at + leaves t ≤ m) × (start ≤ at) × (at - start ≤ 21) × (1 ≤ leaves t) × (leaves t ≤ 3)
+CellReady m start at (asNode c) = Unit {0}
+
+pub record SlotReady (ws decisions : List ℕ) (n m depth v start at : ℕ) : Type 0 where
+  pub tree : (v ≡ 0xffff_ffff → ⊥) → Subtree ws n depth v
+  pub decided : (v ≡ 0xffff_ffff → ⊥) → v * 7 < length decisions
+  pub cell : CellReady m start at (cellOf ws decisions depth v)
+
+pub record OwnReady (ws decisions indices slots : List ℕ) (b : Aabb) (m depth start : ℕ) (list : List ℕ) : Type 0 where
+  pub each : (k : ℕ) → k < 8 → SlotReady ws decisions (length indices) m depth (getD slots k 0) start
+      (firstSlots indices b start (λ j. cellOf ws decisions depth (getD slots j 0)) k list .own .at)
+
+-- all eight slots of binary node v
+abbrev pub allSlots : (ws decisions indices slots : List ℕ) → (v start depth : ℕ) → List ℕ → State
+allSlots ws decisions indices slots v start depth list =
+    firstSlots indices (boxAt ws v) start (λ j. cellOf ws decisions depth (getD slots j 0)) 8 list
+
+-- the node of those slots: p is the box's lower corner, bit for bit
+abbrev pub nodeBuilt : List ℕ → (v count start : ℕ) → Own → Node
+nodeBuilt ws v count start o = record {
+  px = toBits binary32 (boxAt ws v .min .x);
+  py = toBits binary32 (boxAt ws v .min .y);
+  pz = toBits binary32 (boxAt ws v .min .z);
+  ex = exponentOf (boxAt ws v .min .x) (boxAt ws v .max .x);
+  ey = exponentOf (boxAt ws v .min .y) (boxAt ws v .max .y);
+  ez = exponentOf (boxAt ws v .min .z) (boxAt ws v .max .z);
+  imask = o .imask;
+  «child_base_idx» = count;
+  «primitive_base_idx» = start;
+  «child_meta» = o .metas;
+  slots = o .boxes;
+}
+
+pub record BuiltAs (ws : List ℕ) (v count start : ℕ) (s : State) (r : Built) (l : List ℕ) : Type 0 where
+  pub node : r .node ≡ nodeBuilt ws v count start (s .own)
+  pub inner : r .inner ≡ s .own .inner
+  pub at : r .at ≡ s .own .at
+  pub list : l ≡ s .list
+
+-- what a slot's word says is what stands in a wide node's slot
+unfoldable pub Matches : Cell → Child → Type 0
+Matches none d = d ≡ R.none
+Matches (asLeaf b t) d = d ≡ leafChild b (positions t)
+Matches (asNode b) d = (s : Slots 8) × (d ≡ innerChild b s)
