@@ -1,0 +1,131 @@
+-- A node's own part: what building it asks, and what writing it leaves.
+use mathlib.Core.Path.{_≡_, refl, sym, ap, ap₂, subst, _∙_}
+use mathlib.Core.Bool.{Bool, true}
+use mathlib.Core.List.{List}
+use Prim.Native.Nat.{ℕ, zero, suc, _+_, _-_, _*_, _^_, _≤_, _<_}
+use native.Mathlib.Omega.{arith}
+use lib.ListN.{length, getD}
+use Rattle.lists.specs.Splice.{splice}
+use Rattle.aabb.specs.declared.Aabb.{Aabb}
+use Rattle.aabb.specs.Aabb.{acceptedBox}
+use Rattle.bvh2.specs.Tree.{Tree, leaves, positions}
+use Rattle.bvh2.specs.Words.{nodeCount, boxAt, treeAt}
+use Rattle.bvh2.proofs.Subtree.{node}
+use Rattle.cost.proofs.Bound.{leaves-pos}
+use Rattle.wide.specs.Wide.{Slots, end, empty, leaf, inner}
+use Rattle.wide.specs.Sizes.{innerChildren, ownCount, ownBefore, countBelow, nodesBelow, SmallLeaves}
+use Rattle.wide.specs.Layout.{Entry, entry}
+use Rattle.wide.specs.Conversion.{State, enter}
+use Rattle.wide.proofs.Sizes.{own-inside}
+use Rattle.wide_tree.proofs.WideTree.{small-leaves}
+use Rattle.node.specs.declared.Node.{Node}
+use Rattle.node.specs.Node.{nodeBytes}
+use Rattle.record.specs.Record.{nodeOf}
+use Rattle.record.specs.Children.{Child, childAt, childPositions, leafChild}
+use Rattle.record.proofs.Children.{own-next, own-first}
+use Rattle.emit.specs.declared.Built.{Built}
+use Rattle.emit.specs.declared.Own.{Own}
+use Rattle.emit.specs.Own as O
+use Rattle.emit.specs.Own.{Cell, none, asLeaf, asNode, cellOf, Matches, CellReady, SlotReady, OwnReady, firstSlots, allSlots, nodeBuilt, BuiltAs}
+use Rattle.emit.proofs.LeafSteps.{positions-length}
+use Rattle.emit.proofs.Whole.{first-upto, Entered, all-slots}
+use Rattle.emit_tree.specs.declared.Next.{Next}
+use Rattle.emit_tree.specs.Emission.{placing, slotWords, slotsAt, Reached, NodeRoom, Room, Emits, Written, writeEntry, stateOf}
+use Rattle.emit_tree.proofs.Matching.{slots-match}
+use Rattle.emit_tree.proofs.Turns.{slot-subtree}
+
+-- ---- positions of small leaf children
+small-own : {w : ℕ} (s : Slots w) (k : ℕ) → SmallLeaves s → length (childPositions (childAt s k)) ≤ 3
+unfolding childAt childPositions
+small-own end k h = omega arith
+small-own (empty s) zero h = omega arith
+small-own (empty s) (suc k) h = small-own s k h
+small-own (leaf b ps s) zero h = h .1
+small-own (leaf b ps s) (suc k) h = small-own s k (h .2)
+small-own (inner b t s) zero h = omega arith
+small-own (inner b t s) (suc k) h = small-own s k (h .1)
+
+before-few : {w : ℕ} (s : Slots w) (k : ℕ) → SmallLeaves s → ownBefore s k ≤ 3 * k
+before-few s zero h = omega (arith, own-first s .0)
+before-few s (suc k) h = omega (arith, own-next s k, small-own s k h, before-few s k h)
+
+cell-ready : (s : Slots 8) (m start at k : ℕ) (c : Cell) → SmallLeaves s → k < 8 → at ≡ start + ownBefore s k → start + ownCount s ≤ m → Matches c (childAt s k) → CellReady m start at c
+unfolding CellReady Matches childPositions
+cell-ready s m start at k none h l e r q = tt
+cell-ready s m start at k (asLeaf b t) h l e r q =
+    let p = own-next s k ∙ ap (λ (d : Child). ownBefore s k + length (childPositions d)) q in
+    let u = positions-length t in
+    let x = small-own s k h in
+    let y = ap (λ (d : Child). length (childPositions d)) q in
+    (omega (arith, p, own-inside s (suc k)), omega arith, omega (arith, before-few s k h), omega (arith, leaves-pos t), omega (arith, x, y))
+cell-ready s m start at k (asNode b) h l e r q = tt
+
+module _ (ws ds indices bytes out xs : List ℕ) (d v i : ℕ) (ordered : Bool) (x : Next)
+    (h : Emits ws ds (length indices) d v ordered (length bytes) (length out) i x) (q : xs ≡ slotWords ordered (h .at .limit) (treeAt ws d v))
+  where
+    small : SmallLeaves (slotsAt ws ordered (h .at .limit) d v)
+    small = small-leaves (placing ordered) (h .at .limit) (h .at .small) (treeAt ws d v)
+
+    matches : (k : ℕ) → k < 8 → Matches (cellOf ws ds d (getD xs k 0)) (childAt (slotsAt ws ordered (h .at .limit) d v) k)
+    matches k l = rw q (slots-match ws ds (length indices) d v ordered (h .at) k l)
+
+    fits : x .positions + ownCount (slotsAt ws ordered (h .at .limit) d v) ≤ length out
+    fits = omega (arith, h .room .list)
+
+    pub own-ready : OwnReady ws ds indices xs (boxAt ws v) (length out) d (x .positions) out
+    own-ready = record {
+      each = λ k l. record {
+        tree = λ z. rw q (slot-subtree ws ds (length indices) d v ordered (h .at) k l (rw q at z));
+        decided = λ z. (let n = node (slot-subtree ws ds (length indices) d v ordered (h .at) k l (rw q at z)) in rw q (omega (arith, n .below, h .at .room)));
+        cell = cell-ready (slotsAt ws ordered (h .at .limit) d v) (length out) (x .positions) _ k (cellOf ws ds d (getD xs k 0)) small l
+            (first-upto indices (boxAt ws v) (x .positions) (slotsAt ws ordered (h .at .limit) d v) out fits (λ j. cellOf ws ds d (getD xs j 0)) matches k (omega arith) .at) fits (matches k l);
+      };
+    }
+
+    pub build-asks : (v * 7 + 6 < length ws) × (acceptedBox (boxAt ws v) ≡ true) × (x .nodes < 2 ^ 32) × (x .positions < 2 ^ 32)
+    build-asks = let n = node (h .at .tree) in (omega (arith, n .room), n .box, omega (arith, h .room .few), omega (arith, h .room .short))
+
+    pub node-room : 80 * i + 80 ≤ length bytes
+    node-room = omega (arith, h .room .mine, h .room .nodes)
+
+    module _ (r : Built) (bytes₁ out₁ : List ℕ) (b : BuiltAs ws v (x .nodes) (x .positions) (allSlots ws ds indices xs v (x .positions) d out) r out₁)
+        (w : bytes₁ ≡ splice bytes (80 * i) (nodeBytes (r .node)))
+      where
+        entered : Entered indices (boxAt ws v) (x .positions) (slotsAt ws ordered (h .at .limit) d v) out (allSlots ws ds indices xs v (x .positions) d out)
+        entered = all-slots indices (boxAt ws v) (x .positions) (slotsAt ws ordered (h .at .limit) d v) out fits (λ j. cellOf ws ds d (getD xs j 0)) matches
+
+        node-is : (l p k : ℕ) → r .node ≡ nodeOf (entry (boxAt ws v) (slotsAt ws ordered (h .at .limit) d v) l p k i (x .nodes) (x .positions))
+        unfolding nodeOf
+        node-is l p k = let e = entered in b .node ∙ rw (e .metas, e .boxes, e .mask) refl
+
+        pub free-nodes : x .nodes + r .inner ≡ x .nodes + innerChildren (slotsAt ws ordered (h .at .limit) d v)
+        free-nodes = ap (λ (n : ℕ). x .nodes + n) (b .inner ∙ entered .inner)
+
+        pub free-positions : r .at ≡ x .positions + ownCount (slotsAt ws ordered (h .at .limit) d v)
+        free-positions = b .at ∙ entered .at
+
+        -- what is written, and what is free then
+        pub node-entered : (l p k : ℕ) → stateOf bytes₁ out₁ (record { nodes = x .nodes + r .inner; positions = r .at })
+            ≡ enter (writeEntry indices) (boxAt ws v) (slotsAt ws ordered (h .at .limit) d v) l p k i (stateOf bytes out x)
+        unfolding writeEntry
+        node-entered l p k =
+            let a : bytes₁ ≡ splice bytes (80 * i) (nodeBytes (nodeOf (entry (boxAt ws v) (slotsAt ws ordered (h .at .limit) d v) l p k i (x .nodes) (x .positions)))) =
+            w ∙ ap (λ (y : Node). splice bytes (80 * i) (nodeBytes y)) (node-is l p k) in
+            let c = b .list ∙ entered .list in
+            let m = free-nodes in
+            let o = free-positions in
+            λ j. record { written = record { bytes = a j; list = c j }; nodes = m j; positions = o j }
+
+        pub room-begun : length bytes₁ ≡ length bytes → length out₁ ≡ length out
+            → Room (slotsAt ws ordered (h .at .limit) d v) (length bytes₁) (length out₁) (x .nodes) (record { nodes = x .nodes + r .inner; positions = r .at })
+        room-begun e f =
+            let m = free-nodes in
+            let o = free-positions in
+            let z = h .room in
+            record {
+              mine = omega (arith, m);
+              nodes = omega (arith, m, e, z .nodes);
+              few = omega (arith, m, z .few);
+              list = omega (arith, o, f, z .list);
+              short = omega (arith, o, z .short);
+            }
