@@ -1,0 +1,53 @@
+use native.Mathlib.Omega.{arith}
+use borrow.Author.Needs.{needs}
+use mathlib.Core.Path.{_≡_, refl}
+use Prim.Native.Nat.{_≤_, _-_}
+use lib.ListN.{length, take, replicate, length-set}
+use Rattle.validate.proofs.Filling.{clear-more, clear-all}
+use Rattle.validate.proofs.clear.Statement.{statement}
+use Rattle.validate.proofs.clear.Tie as tie
+
+abbrev Inv-loop : tie.InvT-loop
+Inv-loop work₀ i₀ work i = (i ≤ length work) × (length work ≡ length work₀) × (take i work ≡ replicate i 0)
+
+abbrev μ-loop : tie.MeasureT-loop
+μ-loop work₀ i₀ work i = length work - i
+
+loop-holds : tie.Need-loop-holds Inv-loop μ-loop
+loop-holds c = (omega arith, refl, refl)
+
+mul-work : tie.Need-mul-work Inv-loop μ-loop
+mul-work c = search needs
+
+slice-write-work : tie.Need-slice-write-work Inv-loop μ-loop
+slice-write-work c = search needs
+
+add-i : tie.Need-add-i Inv-loop μ-loop
+add-i c = search needs
+
+loop-less : tie.Need-loop-less Inv-loop μ-loop
+loop-less c = simp length-set (omega arith)
+
+loop-again : tie.Need-loop-again Inv-loop μ-loop
+loop-again c = (simp length-set (omega arith), simp length-set (c .before .loop .inv .1), clear-more _ _ (c .loop-test .taken) (c .before .loop .inv .2))
+
+same-length : tie.Need-same-length Inv-loop μ-loop
+same-length c = c .before .loop .inv .1
+
+returns : tie.Need-returns Inv-loop μ-loop
+returns c = clear-all _ _ _ (c .before .loop .inv .0) (c .loop-test .left) (c .before .loop .inv .1) (c .before .loop .inv .2)
+
+pub clear-spec : {M : Type 1} → statement M
+clear-spec =
+    tie.close
+    (tie.spec
+    Inv-loop
+    μ-loop
+    loop-holds
+    mul-work
+    slice-write-work
+    add-i
+    loop-less
+    loop-again
+    same-length
+    returns)
