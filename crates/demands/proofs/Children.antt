@@ -1,0 +1,55 @@
+-- The children that a node's bytes show: child nodes and leaves.
+use mathlib.Core.List.{List}
+use mathlib.Core.Path.{_≡_, refl, sym, ap, _∙_}
+use Prim.Native.Nat.{ℕ, zero, suc, _+_, _/_, _%_, _^_, _<_, _≤_, min}
+use native.Mathlib.Omega.{arith}
+use Rattle.lists.specs.Sums.{sum}
+use Rattle.lists.proofs.Sums.{sum-cong, sum-add}
+use Rattle.words.specs.Ones.{onesBelow}
+use Rattle.node.specs.Node.{nodeAt, innerBit, codeCount}
+use Rattle.rule.specs.Rule.{LeafTop, one, two, three, SlotRule, empty, child, leaf}
+use Rattle.record_shape.specs.Record.{metaAt, leafCount, shapeAt, RuleAt}
+use Rattle.demands.specs.Children.{childCount, leafChildren}
+
+sum-most : (f : ℕ → ℕ) (k : ℕ) → ((j : ℕ) → f j ≤ 1) → sum f k ≤ k
+unfolding sum
+sum-most f zero h = omega arith
+sum-most f (suc k) h = omega (arith, sum-most f k h, h k)
+
+pub at-most-eight : (bytes : List ℕ) (v : ℕ) → childCount bytes v ≤ 8
+unfolding childCount
+at-most-eight bytes v = sum-most _ 8 (λ s. omega arith)
+
+-- ---- by the node rule
+some : (top : ℕ) → LeafTop top → (0 < top) × (0 < onesBelow 3 top)
+unfolding onesBelow
+some top (one e) = rw e (omega arith, omega arith)
+some top (two e) = rw e (omega arith, omega arith)
+some top (three e) = rw e (omega arith, omega arith)
+
+both-one : (meta count : ℕ) → 0 < meta / 32 → 0 < count → min 1 meta ≡ 0 + min 1 count
+both-one meta count h k = omega arith
+
+-- a slot is a child if it holds a node or if it holds positions
+slot-child : (meta bit s base n : ℕ) → SlotRule meta bit s base n → min 1 meta ≡ bit + min 1 (leafCount bit meta)
+unfolding leafCount onesBelow
+slot-child meta bit s base n (empty e f) = rw (e, f) refl
+slot-child meta bit s base n (child e f) = rw (e, f) (omega arith)
+slot-child meta bit s base n (leaf t f a b) =
+    let k = some (meta / 32) t in
+    rw f (both-one meta (codeCount meta) (k .0) (k .1))
+
+ones-sum : (k m : ℕ) → onesBelow k m ≡ sum (λ s. innerBit m s) k
+unfolding onesBelow sum
+ones-sum zero m = refl
+ones-sum (suc k) m = ap (λ (x : ℕ). x + m / 2 ^ k % 2) (ones-sum k m)
+
+-- a node's children are its child nodes and its leaves
+pub children-are : (bytes : List ℕ) (n v : ℕ) → RuleAt bytes n v → childCount bytes v ≡ shapeAt bytes n .children v + leafChildren (shapeAt bytes n) v
+unfolding childCount leafChildren shapeAt
+children-are bytes n v r =
+    let p = nodeAt bytes v in
+    let f : ℕ → ℕ = λ s. min 1 (leafCount (innerBit (p .imask) s) (metaAt p s)) in
+    sum-cong (λ s. min 1 (metaAt p s)) (λ s. innerBit (p .imask) s + f s) 8 (λ s l. slot-child (metaAt p s) (innerBit (p .imask) s) s (p .«primitive_base_idx») n (r .slots s l))
+    ∙ sum-add (λ s. innerBit (p .imask) s) f 8
+    ∙ ap (λ (x : ℕ). x + sum f 8) (sym (ones-sum 8 (p .imask)))

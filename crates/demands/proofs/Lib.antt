@@ -1,0 +1,5 @@
+pub mod Words
+pub mod Slices
+pub mod Sound
+pub mod Children
+pub mod Demands
