@@ -1,0 +1,2 @@
+pub mod TreeT
+pub mod Samples

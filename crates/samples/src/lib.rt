@@ -1,0 +1,1 @@
+// Internal: the worked samples over the definitions, as one checked table. It has no code of its own.
