@@ -1,0 +1,51 @@
+// The words of a stored case, and its floats.
+
+// Word i of a case; 0 past its end.
+pub fn word(case: &[u8], i: usize) -> u32 {
+    if i < case.len() / 4 {
+        return words::load_u32(case, i * 4);
+    }
+    0
+}
+
+// Word i as a float.
+pub fn real(case: &[u8], i: usize) -> f32 {
+    float::of_bits(word(case, i))
+}
+
+// Words i to i + 2 as a vector.
+pub fn vector(case: &[u8], i: usize) -> ray::Vec3 {
+    if i > 1000 {
+        return ray::Vec3 {
+            x: 0.0,
+            y: 0.0,
+            z: 0.0,
+        };
+    }
+    let x = real(case, i);
+    let y = real(case, i + 1);
+    let z = real(case, i + 2);
+    ray::Vec3 { x, y, z }
+}
+
+// Whether word i is a float's pattern; every NaN is stored as one.
+pub fn same(case: &[u8], i: usize, x: f32) -> bool {
+    let stored = word(case, i);
+    if x <= x {
+        return f32::to_bits(x) == stored;
+    }
+    stored == 0x7fc0_0000
+}
+
+// Whether three words are a vector's patterns.
+pub fn same_vector(case: &[u8], i: usize, v: ray::Vec3) -> bool {
+    if i > 1000 {
+        return false;
+    }
+    if same(case, i, v.x) {
+        if same(case, i + 1, v.y) {
+            return same(case, i + 2, v.z);
+        }
+    }
+    false
+}

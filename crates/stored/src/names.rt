@@ -1,0 +1,19 @@
+// What each kind of case is about.
+use libc::STDOUT_FILENO;
+
+pub fn print_name(kind: u32) {
+    match kind {
+        1 => io::write_all(STDOUT_FILENO, b"safe_inverse"),
+        2 => io::write_all(STDOUT_FILENO, b"rays"),
+        3 => io::write_all(STDOUT_FILENO, b"boxes"),
+        4 => io::write_all(STDOUT_FILENO, b"unions"),
+        5 => io::write_all(STDOUT_FILENO, b"entry distances"),
+        6 => io::write_all(STDOUT_FILENO, b"exponent bytes"),
+        7 => io::write_all(STDOUT_FILENO, b"quantised ends"),
+        16 => io::write_all(STDOUT_FILENO, b"trees accepted"),
+        17 => io::write_all(STDOUT_FILENO, b"trees refused"),
+        18 => io::write_all(STDOUT_FILENO, b"trees refused by lengths"),
+        _ => io::write_all(STDOUT_FILENO, b"unknown"),
+    }
+    ;
+}

@@ -1,0 +1,74 @@
+//! Runs the published code and the rules on many random trees and rays, and stores nothing.
+use crate::accept::{Room, conversion_refusal};
+use crate::checks::{damage, forward, validated};
+use crate::conversions::some_tree;
+use crate::convert::convert;
+use crate::generate::{BOXES, Shape, ray, tree};
+use crate::queries::{by_rules, panes, published, same, target_box, told};
+use crate::record::{Verdict, check};
+use crate::rng::Rng;
+use crate::tree::Tree;
+
+/// A tree of some hundred leaves.
+fn large_tree(rng: &mut Rng, k: usize) -> Tree {
+    let n = 100 + rng.below(900);
+    tree(rng, n, Shape::Balanced, BOXES[k / 50 % BOXES.len()])
+}
+
+pub fn run(seed: u64, trees: usize) -> bool {
+    std::panic::set_hook(Box::new(|_| {}));
+    let mut rng = Rng::new(seed);
+    let rng = &mut rng;
+    let (mut converted, mut deep, mut rays, mut hits, mut tests) = (0, 0, 0, 0, 0u64);
+    let (mut sound, mut damaged, mut laxer, mut stricter) = (0, 0, 0, 0);
+    for k in 0..trees {
+        let t = if k % 50 == 0 { large_tree(rng, k) } else { some_tree(rng, k) };
+        let n = t.indices.len();
+        assert_eq!(conversion_refusal(&t, 3, Room::needed(n)), 0);
+        let c = convert(&t, rng.below(4) as u32, rng.once_in(2));
+        if c.deepest > 31 {
+            deep += 1;
+            continue;
+        }
+        converted += 1;
+        match check(&c.record, n, usize::MAX) {
+            Verdict::Sound(level) => assert!(level == c.deepest && validated(&c.record, n) == Some(level)),
+            _ => panic!("a converted record is not sound"),
+        }
+        sound += 1;
+        for _ in 0..5 {
+            let (mut record, mut n) = (c.record.clone(), n);
+            damage(rng, &mut record, &mut n);
+            damaged += 1;
+            let by_rules = match check(&record, n, usize::MAX) {
+                Verdict::Sound(level) => Some(level),
+                _ => None,
+            };
+            if !forward(&record) {
+                continue;
+            }
+            match (by_rules, validated(&record, n)) {
+                (None, Some(_)) => laxer += 1,
+                (Some(_), None) => stricter += 1,
+                (a, b) => assert_eq!(a, b),
+            }
+        }
+        if t.indices.iter().any(|&x| x as usize >= n) {
+            continue;
+        }
+        let panes = panes(rng, &t);
+        for _ in 0..20 {
+            let about = target_box(rng, &t);
+            let (r, told) = (ray(rng, &about), told(rng));
+            let a = published(&c.record, &c.list, &panes, &r, &told);
+            assert!(same(&a, &by_rules(&c.record, &c.list, &panes, &r, &told)));
+            rays += 1;
+            hits += !a.closest.found.is_empty() as u32;
+            tests += a.any.tests as u64;
+        }
+    }
+    println!("trees converted: {converted} (and {deep} with a level over 31); sound by both: {sound}");
+    println!("damaged records: {damaged}; unsound, yet validated: {laxer}; sound, yet not validated: {stricter}");
+    println!("rays: {rays}, of which {hits} hit a pane; node tests of any-hit: {tests}");
+    stricter == 0
+}

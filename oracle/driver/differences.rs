@@ -1,0 +1,165 @@
+//! Prints where the published code and the rules differ, each with a smallest input.
+use crate::checks::validated;
+use crate::convert::{bvh_of, convert};
+use crate::generate::{BOXES, Boxes, Shape, chain, tree};
+use crate::query;
+use crate::record::{Verdict, check};
+use crate::rng::Rng;
+use glam::{Vec3A, power_of_two_not_below, vec3a};
+use obvhs::aabb::Aabb;
+use obvhs::ray::Ray;
+
+fn scaled(extent: f32) -> f32 {
+    extent.max(1e-20) * (1.0 / 255.0)
+}
+
+/// The published exponent byte, by the platform's log2 and exp2.
+fn published_exponent(extent: f32) -> u32 {
+    scaled(extent).log2().ceil().exp2().to_bits() >> 23
+}
+
+fn exact_exponent(extent: f32) -> u32 {
+    power_of_two_not_below(scaled(extent)).to_bits() >> 23
+}
+
+/// Extents from 255 * 2^k on, for each k that the bound allows.
+fn logarithm() {
+    println!("log2().ceil().exp2() against the smallest power of two not below, extents from 255 * 2^k on:");
+    let mut all = 0;
+    let mut least: Option<f32> = None;
+    for k in -74..=33 {
+        let start = (255.0 * 2f64.powi(k)) as f32;
+        let near = (0..4096).map(|j| f32::from_bits(start.to_bits() - 64 + j));
+        let short: Vec<f32> = near.filter(|&x| published_exponent(x) != exact_exponent(x)).collect();
+        if let (Some(&first), Some(&last)) = (short.first(), short.last()) {
+            all += short.len();
+            least = Some(least.map_or(first, |l| l.min(first)));
+            if [-74, -1, 3, 4, 10, 33].contains(&k) {
+                println!(
+                    "  k = {k}: {} extents, {first:?} ({:#010x}) to {last:?}; published {}, exact {}",
+                    short.len(),
+                    first.to_bits(),
+                    published_exponent(first),
+                    exact_exponent(first)
+                );
+            }
+        }
+    }
+    println!("  {all} extents in all; the least is {:?}", least);
+    let whole = (0..=u32::MAX >> 1).map(f32::from_bits).take_while(|x| *x <= 2199023255552.0);
+    let (mut tried, mut differ, mut over, mut far) = (0u32, 0u32, 0u32, 0u32);
+    let mut from_one: Option<f32> = None;
+    whole.for_each(|x| {
+        let (p, e) = (published_exponent(x), exact_exponent(x));
+        tried += 1;
+        if p != e {
+            differ += 1;
+            over += (p + 1 != e) as u32;
+            // 255 * 2^k has the fraction bits 0x7f0000
+            far += !(0x7f0001..0x7f0040).contains(&(x.to_bits() & 0x7f_ffff)) as u32;
+            if x >= 1.0 && from_one.is_none() {
+                from_one = Some(x);
+            }
+        }
+    });
+    println!("  of all {tried} extents from 0 to 2^41: {differ} differ; not one too low: {over}; further than 63 floats above 255 * 2^k: {far}");
+    println!("  the least from 1 on: {from_one:?} ({:#010x})", from_one.unwrap().to_bits());
+}
+
+fn zeros() {
+    let b = |lo: f32| Aabb::new(Vec3A::splat(lo), Vec3A::splat(1.0));
+    let u = b(0.0).union(&b(-0.0)).min.x;
+    println!("union of boxes from +0 and from -0: published {u:?}, given as +0");
+    let r = Ray::new(vec3a(1.0, 0.5, 0.5), vec3a(-1.0, 0.0, 0.0), 0.0, f32::INFINITY);
+    let d = b(0.0).intersect_ray(&r);
+    println!("entry of the ray from (1, 0.5, 0.5) along -x into (0,0,0)-(1,1,1): published {d:?}, given as +0");
+}
+
+/// A record of nodes at the origin with scale 1, each with imask, child base, primitive base and metas.
+fn record(nodes: &[(u8, u32, u32, [u8; 8])]) -> Vec<u8> {
+    let mut out = vec![];
+    for (imask, child, primitive, meta) in nodes {
+        let mut d = vec![0u8; 80];
+        d[12..15].fill(127);
+        d[15] = *imask;
+        d[16..20].copy_from_slice(&child.to_le_bytes());
+        d[20..24].copy_from_slice(&primitive.to_le_bytes());
+        d[24..32].copy_from_slice(meta);
+        out.extend(d);
+    }
+    out
+}
+
+/// A record of one node with the metas of its first slots.
+fn one(meta: &[u8]) -> Vec<u8> {
+    let mut all = [0; 8];
+    all[..meta.len()].copy_from_slice(meta);
+    record(&[(0, 1, 0, all)])
+}
+
+fn with(mut record: Vec<u8>, at: usize, bytes: &[u8]) -> Vec<u8> {
+    record[at..at + bytes.len()].copy_from_slice(bytes);
+    record
+}
+
+fn soundness() {
+    println!("the record check beside `validate` without its box comparisons:");
+    let say = |what: &str, record: Vec<u8>, n: usize| {
+        let sound = matches!(check(&record, n, usize::MAX), Verdict::Sound(_));
+        let passes = validated(&record, n).is_some();
+        let verdicts = (if passes { "passes" } else { "fails" }, if sound { "sound" } else { "unsound" });
+        println!("  {what}: validate {}, check {}", verdicts.0, verdicts.1);
+    };
+    let leaf0 = [0x20, 0, 0, 0, 0, 0, 0, 0];
+    say("one leaf", one(&[0x20]), 1);
+    say("codes 010 at 0 and 001 at 0, n = 2", one(&[0x40, 0x20]), 2);
+    say("codes 100 at 0 and 011 at 0, n = 3", one(&[0x80, 0x60]), 3);
+    say("codes 101 at 0 and 001 at 1, n = 3", one(&[0xa0, 0x21]), 3);
+    say("codes 110 at 0 and 001 at 0, n = 3", one(&[0xc0, 0x20]), 3);
+    say("a position in two leaf ranges, n = 1", one(&[0x20, 0x20]), 1);
+    let threes = [0xe0, 0xe3, 0xe6, 0xe9, 0xec, 0xef, 0xf2, 0x75];
+    say("offset 23 and 2 positions, n = 25", record(&[(1, 1, 0, [56, 0x77, 0, 0, 0, 0, 0, 0]), (0, 2, 0, threes)]), 25);
+    say("e byte 52", with(one(&[0x20]), 12, &[52]), 1);
+    say("e byte 162", with(one(&[0x20]), 12, &[162]), 1);
+    say("p x the next above 2^40", with(one(&[0x20]), 0, &[1, 0, 0x80, 0x53]), 1);
+    say("imask bit on an empty slot", with(one(&[0x20]), 15, &[0x80]), 1);
+    say("meta 56 in slot 1, imask 2", record(&[(2, 1, 0, [0, 56, 0, 0, 0, 0, 0, 0]), (0, 2, 0, leaf0)]), 1);
+    say("two slots with meta 56, imask 3", record(&[(3, 1, 0, [56, 56, 0, 0, 0, 0, 0, 0]), (0, 2, 0, leaf0)]), 1);
+    let shared = [(3, 1, 0, [56, 57, 0, 0, 0, 0, 0, 0]), (1, 3, 0, [56, 0, 0, 0, 0, 0, 0, 0]), (1, 3, 0, [56, 0, 0, 0, 0, 0, 0, 0]), (0, 4, 0, leaf0)];
+    say("a node in two child ranges", record(&shared), 1);
+    let back = [(1, 2, 0, [56, 0, 0, 0, 0, 0, 0, 0]), (0, 3, 0, leaf0), (1, 1, 0, [56, 0, 0, 0, 0, 0, 0, 0])];
+    say("a child with a smaller number than its parent", record(&back), 1);
+}
+
+/// The smallest of many random trees on which the published conversion panics at leaf limit 4.
+fn limit_four() {
+    for n in 2..40 {
+        for seed in 0..3000 {
+            let t = tree(&mut Rng::new(seed), n, Shape::Uneven, BOXES[seed as usize % BOXES.len()]);
+            if std::panic::catch_unwind(|| convert(&t, 4, false).record.len()).is_err() {
+                println!("leaf limit 4: published panics on a tree of {n} leaves (seed {seed}; none smaller found), refused 3");
+                return;
+            }
+        }
+    }
+}
+
+fn refusals() {
+    limit_four();
+    let c = convert(&chain(34, Boxes::Point), 3, false);
+    let valid = validated(&c.record, 34).is_some();
+    let says = if valid { "passes" } else { "fails" };
+    println!("a chain of 34 points: published converts to level {}, validate {says}, refused 8", c.deepest);
+    let bvh = bvh_of(&c.record, &c.list);
+    let r = Ray::new(vec3a(0.0, 0.0, 0.0), vec3a(1.0, 0.0, 0.0), 0.0, f32::NAN);
+    println!("tmax NaN: published any-hit tests {} nodes, refused 9", query::any_hit(&bvh, r).tests);
+}
+
+pub fn run() -> bool {
+    std::panic::set_hook(Box::new(|_| {}));
+    refusals();
+    zeros();
+    soundness();
+    logarithm();
+    true
+}

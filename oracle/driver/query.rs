@@ -1,0 +1,86 @@
+//! The published traversals, with node tests counted and zero distances given as +0.
+use crate::tree::{aabb, unsigned_zero};
+use crate::walk::{Answer, Step};
+use obvhs::aabb::Aabb;
+use obvhs::cwbvh::{CwBvh, simd::NODE_TESTS};
+use obvhs::ray::{Ray, RayHit};
+
+fn tests() -> u32 {
+    NODE_TESTS.with(|n| n.get())
+}
+
+fn counted<T>(run: impl FnOnce() -> T) -> (T, u32) {
+    NODE_TESTS.with(|n| n.set(0));
+    let r = run();
+    (r, tests())
+}
+
+pub fn any_hit(bvh: &CwBvh, ray: Ray) -> Answer {
+    let (found, tests) = counted(|| {
+        let mut found = vec![];
+        bvh.ray_traverse_anyhit(ray, |_, id| found.push(id as u32));
+        found
+    });
+    Answer { refusal: 0, tests, found }
+}
+
+pub fn panes_of(words: &[u32]) -> Vec<Aabb> {
+    words.chunks(6).map(aabb).collect()
+}
+
+fn distance(bvh: &CwBvh, panes: &[Aabb], ray: &Ray, id: usize) -> f32 {
+    unsigned_zero(panes[bvh.primitive_indices[id] as usize].intersect_ray(ray))
+}
+
+pub fn closest(bvh: &CwBvh, panes: &[Aabb], ray: Ray) -> Answer {
+    let (found, tests) = counted(|| {
+        let mut hit = RayHit::none();
+        if bvh.ray_traverse(ray, &mut hit, |r, id| distance(bvh, panes, r, id)) {
+            vec![hit.primitive_id, hit.t.to_bits()]
+        } else {
+            vec![]
+        }
+    });
+    Answer { refusal: 0, tests, found }
+}
+
+pub fn miss(bvh: &CwBvh, panes: &[Aabb], ray: Ray) -> Answer {
+    let (missed, tests) = counted(|| bvh.ray_traverse_miss(ray, |r, id| distance(bvh, panes, r, id)));
+    Answer { refusal: 0, tests, found: vec![missed as u32] }
+}
+
+/// Closest by the dynamic traversal, run until it yields nothing.
+pub fn closest_dynamic(bvh: &CwBvh, panes: &[Aabb], ray: Ray) -> Answer {
+    let (found, tests) = counted(|| {
+        let mut hit = RayHit::none();
+        let mut state = bvh.new_ray_traversal(ray);
+        let mut found = vec![];
+        while bvh.ray_traverse_dynamic(&mut state, &mut hit, |r, id| distance(bvh, panes, r, id)) {
+            found = vec![hit.primitive_id, hit.t.to_bits()];
+        }
+        found
+    });
+    Answer { refusal: 0, tests, found }
+}
+
+/// The tests and reports of the dynamic traversal in their order, the k-th report answered with the k-th told distance.
+pub fn steps(bvh: &CwBvh, ray: Ray, told: &[f32]) -> Vec<Step> {
+    let mut out: Vec<Step> = vec![];
+    let (_, all) = counted(|| {
+        let mut hit = RayHit::none();
+        let mut state = bvh.new_ray_traversal(ray);
+        let (mut seen, mut reports) = (0, 0);
+        let mut report = |_: &Ray, id: usize| {
+            out.extend((seen..tests()).map(|_| Step::Tested));
+            seen = tests();
+            out.push(Step::Reported(id as u32));
+            reports += 1;
+            told[(reports - 1) % told.len()]
+        };
+        while bvh.ray_traverse_dynamic(&mut state, &mut hit, &mut report) {}
+    });
+    let seen = out.iter().filter(|s| **s == Step::Tested).count() as u32;
+    out.extend((seen..all).map(|_| Step::Tested));
+    out.push(Step::Done);
+    out
+}

@@ -1,0 +1,82 @@
+//! The samples that the Rust can say something of, and the record line of T.
+use crate::accept::{Room, accepted_box, conversion_refusal};
+use crate::convert::{bvh_of, convert};
+use crate::generate::{Boxes, chain};
+use crate::query;
+use crate::show::{input_of, shown, showrecord};
+use crate::tree::{BOUND, Tree, leaf, sample_tree};
+use glam::{Vec3A, vec3a};
+use obvhs::aabb::Aabb;
+use obvhs::ray::Ray;
+
+/// The e byte that the conversion writes for an extent.
+fn exponent(extent: f32) -> u8 {
+    let mut t = Tree { nodes: vec![], indices: vec![0] };
+    t.push(&Aabb::new(Vec3A::ZERO, vec3a(extent, 0.0, 0.0)), leaf(0));
+    convert(&t, 3, false).record[12]
+}
+
+fn next_up(x: f32) -> f32 {
+    f32::from_bits(x.to_bits() + 1)
+}
+
+struct Tally {
+    failed: u32,
+}
+
+impl Tally {
+    fn holds(&mut self, name: &str, held: bool) {
+        println!("{name}: {}", if held { "holds" } else { "FAILS" });
+        self.failed += !held as u32;
+    }
+}
+
+const T_LINES: &str = "0 0000000000000000000000007978780001000000000000002021000000000000008000000000000040c00000000000000000000000000000808000000000000000000000000000008080000000000000\nindices 0 1\n";
+
+pub fn run() -> bool {
+    let mut all = Tally { failed: 0 };
+    let t = sample_tree();
+    let c = convert(&t, 3, false);
+    print!("{}", shown(&c));
+    all.holds("S1 the e bytes of T are 121, 120, 120", c.record[12..15] == [121, 120, 120]);
+    all.holds("S2 extent 255 and the next: 127, 128", (exponent(255.0), exponent(next_up(255.0))) == (127, 128));
+    all.holds(
+        "S3 extent 261120 and the next: 137, 138",
+        (exponent(261120.0), exponent(next_up(261120.0))) == (137, 138),
+    );
+    all.holds("S4 extent 0: 53", exponent(0.0) == 53);
+    let o = convert(&t, 3, true);
+    let metas: Vec<usize> = (0..8).filter(|&s| o.record[24 + s] != 0).collect();
+    all.holds(
+        "S5 ordering puts A in slot 0, B in slot 4",
+        metas == [0, 4] && o.list == [0, 1] && (o.record[32], o.record[40]) == (0, 0x40) && (o.record[36], o.record[44]) == (0x80, 0xc0),
+    );
+    let bvh = bvh_of(&c.record, &c.list);
+    let panes: Vec<Aabb> = vec![t.aabb(1), t.aabb(2)];
+    let ray = |y: f32| Ray::new(vec3a(-1.0, 0.5, 0.5), vec3a(1.0, y, 0.0), 0.0, f32::INFINITY);
+    let any = query::any_hit(&bvh, ray(0.0));
+    let near = query::closest(&bvh, &panes, ray(0.0));
+    all.holds(
+        "S6 any-hit 1 then 0, one test, closest position 0 at 1.0",
+        any.found == [1, 0] && any.tests == 1 && near.found == [0, 1.0f32.to_bits()] && near.tests == 1,
+    );
+    let turned = query::any_hit(&bvh, ray(-0.0));
+    all.holds("S7 the same with -0.0 in y: nothing, one test", turned.found.is_empty() && turned.tests == 1);
+    let empty = convert(&Tree::default(), 3, false);
+    let none = query::any_hit(&bvh_of(&empty.record, &empty.list), ray(0.0));
+    all.holds("S8 n = 0: no nodes, nothing, no test", empty.record.is_empty() && none == Default::default());
+    let room = Room::needed(2);
+    all.holds(
+        "S9 leaf limit 3 accepted, 4 refused 3 (by the rules; the Rust refuses nothing)",
+        conversion_refusal(&t, 3, room) == 0 && conversion_refusal(&t, 4, room) == 3,
+    );
+    let far = |x: f32| accepted_box(&Aabb::new(vec3a(-x, 0.0, 0.0), vec3a(x, 0.0, 0.0)));
+    all.holds("S10 coordinate 2^40 accepted, the next refused (by the rules)", far(BOUND) && !far(next_up(BOUND)));
+    let deepest = |n| (0..4).map(|limit| convert(&chain(n, Boxes::Point), limit, false).deepest).collect::<Vec<_>>();
+    all.holds(
+        "S11 chains of 33 and 34 zero-size leaves reach levels 31 and 32",
+        deepest(33) == [31; 4] && deepest(34) == [32; 4],
+    );
+    all.holds("S12 T's record line", shown(&c) == T_LINES && showrecord(&input_of(&t, 3, 0)) == T_LINES);
+    all.failed == 0
+}

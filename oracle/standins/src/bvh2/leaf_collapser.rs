@@ -1,0 +1,1 @@
+//! Declared by a published file; the oracle uses nothing of it.
