@@ -1,0 +1,43 @@
+-- `first_cause`: sizes answers 0 for a tree that structure may look at, and structure for an accepted one.
+use native.Mathlib.Omega.{arith}
+use Rattle.replay_trees.proofs.Accepted.{sized, no-cause}
+use borrow.Author.Needs.{needs}
+use Rattle.replay_trees.proofs.trees.first_cause.Statement.{statement}
+use Rattle.replay_trees.proofs.trees.first_cause.Tie as tie
+
+sizes-requires : tie.Need-sizes-requires
+sizes-requires c κs = search needs
+
+returns : tie.Need-returns
+returns c = search needs
+
+slice-aggregate-structure : tie.Need-slice-aggregate-structure
+slice-aggregate-structure c = search needs
+
+structure-requires : tie.Need-structure-requires
+structure-requires c κs = (sized _ _ (c .before .before .sizes .ensures) (c .before .if1 .left), omega arith)
+
+slice-aggregate-all-zero : tie.Need-slice-aggregate-all-zero
+slice-aggregate-all-zero c = search needs
+
+all-zero-requires : tie.Need-all-zero-requires
+all-zero-requires c κs = search needs
+
+returns-2 : tie.Need-returns-2
+returns-2 c = λ e. no-cause _ _ (sized _ _ (c .before .before .before .before .before .before .before .sizes .ensures) (c .before .before .before .before .before .before .if1 .left)) (c .before .before .before .before .structure .ensures .0) e
+
+returns-3 : tie.Need-returns-3
+returns-3 c = search needs
+
+pub first-cause-spec : {M : Type 1} → statement M
+first-cause-spec =
+    tie.close
+    (tie.spec
+    sizes-requires
+    returns
+    slice-aggregate-structure
+    structure-requires
+    slice-aggregate-all-zero
+    all-zero-requires
+    returns-2
+    returns-3)
