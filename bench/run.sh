@@ -1,0 +1,12 @@
+#!/usr/bin/env bash
+# Measures the library beside the published Rust: bench/run.sh SRC_FOLDER
+# SRC_FOLDER is the oracle's (oracle/README.md). Builds under target/bench. A ratio means something on a quiet machine only.
+set -eu
+cd "$(dirname "$0")/.."
+src=$1
+out=$PWD/target/bench
+"${RT:-rt}" staticlib funnelcress
+ORACLE_FLAGS="--cfg uncounted" oracle/build.sh "$src" "$out"
+rustc --edition 2024 -C opt-level=3 --crate-name bench -o "$out/bench" -L "$out" --extern obvhs="$out/libobvhs.rlib" \
+    --extern glam="$out/libglam.rlib" -L target/staticlib -l static=funnelcress bench/main.rs
+"$out/bench"

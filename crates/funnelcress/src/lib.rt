@@ -1,0 +1,106 @@
+// The library for C and Rust: each function is exported under its name. Numbers that are returned are those of
+// refusals, 0 for none; a refused call writes nothing.
+ghost use mathlib.Core.Path.{_≡_};
+ghost use Prim.Native.Nat.{_+_, _*_, _/_, _≤_, _<_};
+ghost use lib.ListN.{length};
+ghost use Rattle.aabb.specs.Aabb.{halfArea, entryDistance};
+ghost use Rattle.funnelcress.specs.Lists.{vecAt, boxAt, rayAt, filled, areaAt, entryAt, refusal, rayRefusal, answered};
+use aabb::Aabb;
+use ray::Ray;
+use ray::Vec3;
+
+// Three floats, from a place on.
+fn vec_at(s: &[f32], at: usize) -> Vec3
+    requires { ⌜ at + 3 ≤ length (now s) ⌝ }
+    ensures { λ r. ⌜ r ≡ vecAt (now (s .entry)) at ⌝ }
+{
+    Vec3 {
+        x: s[at],
+        y: s[at + 1],
+        z: s[at + 2],
+    }
+}
+
+// Box k of a list.
+fn box_at(s: &[f32], k: usize) -> Aabb
+    requires { ⌜ k * 6 + 6 ≤ length (now s) ⌝ }
+    ensures { λ r. ⌜ r ≡ boxAt (now (s .entry)) k ⌝ }
+{
+    let min = vec_at(s, k * 6);
+    let max = vec_at(s, k * 6 + 3);
+    Aabb { min, max }
+}
+
+// A ray of eight floats.
+fn ray_at(s: &[f32]) -> Ray
+    requires { ⌜ 8 ≤ length (now s) ⌝ }
+    ensures { λ r. ⌜ r ≡ rayAt (now (s .entry)) ⌝ }
+{
+    Ray::new(vec_at(s, 0), vec_at(s, 3), s[6], s[7])
+}
+
+// What refuses a list of boxes with room for an answer to each.
+fn list_refusal(boxes: &[f32], out: &[f32]) -> u32
+    ensures { λ r. ⌜ r ≡ refusal (now (boxes .entry)) (now (out .entry)) ⌝ }
+{
+    if boxes.len() % 6 != 0 {
+        return 1;
+    }
+    if boxes.len() / 6 > out.len() {
+        return 4;
+    }
+    0
+}
+
+fn fill_areas(boxes: &[f32], out: &mut [f32])
+    requires { ⌜ length (now boxes) / 6 ≤ length (now out) ⌝ }
+    ensures { λ _. ⌜ now (out .exit) ≡ filled (areaAt (now (boxes .entry))) (length (now (boxes .entry)) / 6) (now (out .entry)) ⌝ }
+{
+    let count = boxes.len() / 6;
+    let mut i: usize = 0;
+    while i < count {
+        out[i] = box_at(boxes, i).half_area();
+        i += 1;
+    }
+}
+
+fn fill_entries(boxes: &[f32], r: Ray, out: &mut [f32])
+    requires { ⌜ length (now boxes) / 6 ≤ length (now out) ⌝ }
+    ensures { λ _. ⌜ now (out .exit) ≡ filled (λ k. entryDistance (boxAt (now (boxes .entry)) k) r) (length (now (boxes .entry)) / 6) (now (out .entry)) ⌝ }
+{
+    let count = boxes.len() / 6;
+    let mut i: usize = 0;
+    while i < count {
+        out[i] = box_at(boxes, i).intersect_ray(r);
+        i += 1;
+    }
+}
+
+// The half area of each box, at the front of the answers.
+#[no_mangle]
+pub extern "C" fn funnelcress_half_areas(boxes: &[f32], out: &mut [f32]) -> u32
+    ensures { λ r. ⌜ r ≡ refusal (now (boxes .entry)) (now (out .entry)) ⌝ }
+    ensures { λ r. ⌜ now (out .exit) ≡ answered r (areaAt (now (boxes .entry))) (now (boxes .entry)) (now (out .entry)) ⌝ }
+{
+    let number = list_refusal(boxes, out);
+    if number == 0 {
+        fill_areas(boxes, out);
+    }
+    number
+}
+
+// The distance at which the ray enters each box, +infinity where it misses, at the front of the answers.
+#[no_mangle]
+pub extern "C" fn funnelcress_entry_distances(boxes: &[f32], ray: &[f32], out: &mut [f32]) -> u32
+    ensures { λ r. ⌜ r ≡ rayRefusal (now (boxes .entry)) (now (ray .entry)) (now (out .entry)) ⌝ }
+    ensures { λ r. ⌜ now (out .exit) ≡ answered r (entryAt (now (boxes .entry)) (now (ray .entry))) (now (boxes .entry)) (now (out .entry)) ⌝ }
+{
+    if ray.len() != 8 {
+        return 1;
+    }
+    let number = list_refusal(boxes, out);
+    if number == 0 {
+        fill_entries(boxes, ray_at(ray), out);
+    }
+    number
+}
