@@ -9,11 +9,12 @@ use Rattle.lists.proofs.Perms.{counts-perm}
 use Rattle.soundness.specs.Shape.{Child, Holds}
 use Rattle.soundness.specs.Sound.{OneParent, OneHolder}
 use Rattle.soundness.proofs.Sound.{parent-of, first-has-none, holder-of, holds-position}
+use Rattle.wide.specs.Layout.{wordsAt}
 use Rattle.wide.proofs.Demands.{indices-rearranged}
 use Rattle.record_shape.specs.Record.{nodeCount, shapeAt, RuleAt, SoundRecord, DeepestLevel}
 use Rattle.record_shape.specs.Check.{sound, checkOf}
 use Rattle.record_shape.proofs.Placed.{placed}
-use Rattle.demands.specs.Conversion.{wordsAt, Conversion, nothing, written}
+use Rattle.demands.specs.Conversion.{Conversion, nothing, written}
 use Rattle.demands.specs.Children.{childCount, leafChildren}
 use Rattle.demands.proofs.Words.{all-words}
 use Rattle.demands.proofs.Sound.{good, good-check}

@@ -7,12 +7,12 @@ use lib.Seq.{take-at}
 use Rattle.lists.proofs.Perms.{perm-length}
 use Rattle.wide.specs.Wide.{Wide}
 use Rattle.wide.specs.Sizes.{positions}
-use Rattle.wide.specs.Layout.{nodes, indexList, level}
+use Rattle.wide.specs.Layout.{nodes, indexList, level, wordsAt}
 use Rattle.wide.proofs.Sizes.{index-length, positions-length}
 use Rattle.record.specs.Record.{recordBytes}
 use Rattle.record_laws.specs.Converted.{Converted}
 use Rattle.record_laws.proofs.ReadBack.{record-length}
-use Rattle.demands.specs.Conversion.{wordsAt, Conversion, written}
+use Rattle.demands.specs.Conversion.{Conversion, written}
 
 -- the first 80 bytes to each node are the record, and as many words as the tree has leaves are the index list
 pub of-slices : (t : Wide) (leaves indices out rest list tail : List ℕ) → Converted t → Perm (positions (t .slots)) leaves

@@ -1,17 +1,12 @@
 -- A record and an index list as conversion writes them (01, "Words, bytes and bounds").
-use mathlib.Core.List.{List, [], map, Perm}
+use mathlib.Core.List.{List, [], Perm}
 use mathlib.Core.Path.{_≡_}
 use Prim.Native.Nat.{ℕ}
-use lib.ListN.{getD}
 use Rattle.wide.specs.Wide.{Wide}
 use Rattle.wide.specs.Sizes.{positions}
-use Rattle.wide.specs.Layout.{indexList, level}
+use Rattle.wide.specs.Layout.{indexList, level, wordsAt}
 use Rattle.record.specs.Record.{recordBytes}
 use Rattle.record_laws.specs.Converted.{Converted}
-
--- the index words at positions
-abbrev pub wordsAt : List ℕ → List ℕ → List ℕ
-wordsAt indices ps = map (λ p. getD indices p 0) ps
 
 -- `leaves` are the positions that the tree's leaves hold, `indices` its index words, `bytes` and `list` the record and the index list written, and
 -- `deepest` the deepest level. A tree without leaves has nothing written; any other becomes a wide tree with the same leaves, whose layout is written.
