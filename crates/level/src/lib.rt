@@ -51,15 +51,15 @@ pub fn deepest_level(words: &[u32], decisions: &[u32]) -> u32
     ensures { λ r. ⌜ ((limit : ℕ) (ordered : Bool) → Holds (wordOf limit) 0 (now (decisions .entry)) (treeOf (now (words .entry))) → r ≡ level (wideTree ordered limit (treeOf (now (words .entry))))) ⌝ }
 {
     let link = bvh2::link_word(words, 0);
-    if link / 0x4000_0000 != 0 {
-        return 0;
+    if link / 0x4000_0000 == 0 {
+        let first = (link % 0x4000_0000) as usize;
+        let word = decisions[0];
+        let left = (word / 256 % 256) as usize;
+        let right = (word % 256) as usize;
+        return greater(
+            added_levels(words, decisions, first, left, 126),
+            added_levels(words, decisions, first + 1, right, 126),
+        );
     }
-    let first = (link % 0x4000_0000) as usize;
-    let word = decisions[0];
-    let left = (word / 256 % 256) as usize;
-    let right = (word % 256) as usize;
-    greater(
-        added_levels(words, decisions, first, left, 126),
-        added_levels(words, decisions, first + 1, right, 126),
-    )
+    0
 }

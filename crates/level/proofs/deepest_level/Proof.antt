@@ -21,20 +21,17 @@ abbrev S : Type 0
 S = lts.Start Given reads.Pre reads.Post
 
 abbrev I : Type 0
-I = lts.Else1 Given reads.Pre reads.Post
+I = lts.Then1 Given reads.Pre reads.Post
 
 abbrev start : I → S
 start i = i .before .before .before .before
 
 below : (i : I) → let x = getD (start i .args .decisions .now) 0 0 in
     Down (start i .args .words .now) (start i .args .decisions .now) 127 0 0 (i .before .link-word .result % 0x4000_0000) (x / 256 % 256) (x % 256)
-below i = root-down (start i .pre) (i .before .link-word .ensures) (i .if1 .left)
+below i = root-down (start i .pre) (i .before .link-word .ensures) (i .if1 .taken)
 
 link-word-requires : tie.Need-link-word-requires
 link-word-requires c κs = let h = here (c .before .before .pre) in omega arith
-
-returns : tie.Need-returns
-returns c = λ limit ordered k. root-leaf (c .before .before .before .before .pre) (c .before .link-word .ensures) (c .if1 .taken) limit ordered
 
 cast-first : tie.Need-cast-first
 cast-first c = search needs
@@ -60,20 +57,22 @@ added-levels-requires-2 c κs = let h = below (c .before .before) in (h .right, 
 greater-requires : tie.Need-greater-requires
 greater-requires c κs = search needs
 
-returns-2 : tie.Need-returns-2
-returns-2 c =
+returns : tie.Need-returns
+returns c =
     let y = c .before in
     let x = y .before in
     let i = x .before .before in
     λ limit ordered k. c .greater .ensures
     ∙ root-joined (start i .pre) (below i) (x .added-levels .ensures .1) (y .added-levels2 .ensures .1) limit ordered k
 
+returns-2 : tie.Need-returns-2
+returns-2 c = λ limit ordered k. root-leaf (c .before .before .before .before .pre) (c .before .link-word .ensures) (c .if1 .left) limit ordered
+
 pub deepest-level-spec : {M : Type 1} → statement M
 deepest-level-spec =
     tie.close
     (tie.spec
     link-word-requires
-    returns
     cast-first
     shared-slice-read-word
     cast-left
@@ -82,4 +81,5 @@ deepest-level-spec =
     add-added-levels
     added-levels-requires-2
     greater-requires
+    returns
     returns-2)
