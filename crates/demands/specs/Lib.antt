@@ -1,2 +1,2 @@
-pub mod Conversion
+pub mod Call
 pub mod Children
