@@ -7,6 +7,7 @@ mod convert;
 mod differences;
 mod generate;
 mod leaves;
+mod nodes;
 mod queries;
 mod query;
 mod record;
@@ -41,6 +42,7 @@ fn store(folder: &str) -> bool {
     store::write(&at("check"), &checks::groups(SEED + 2));
     store::write(&at("queries"), &queries::groups(SEED + 3));
     store::write(&at("showrecord"), &show::groups(SEED + 4));
+    store::write(&at("nodes"), &nodes::groups(SEED + 6));
     true
 }
 
