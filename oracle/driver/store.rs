@@ -18,6 +18,7 @@ pub const HIT_MASK: u32 = 10;
 pub const CONVERSION: u32 = 16;
 pub const CONVERSION_REFUSED: u32 = 17;
 pub const CONVERSION_SIZES: u32 = 18;
+pub const CHILDREN: u32 = 19;
 pub const CHECK: u32 = 24;
 pub const QUERIES: u32 = 32;
 pub const SHOWRECORD: u32 = 40;

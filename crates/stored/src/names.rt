@@ -16,6 +16,7 @@ pub fn print_name(kind: u32) {
         16 => io::write_all(STDOUT_FILENO, b"trees accepted"),
         17 => io::write_all(STDOUT_FILENO, b"trees refused"),
         18 => io::write_all(STDOUT_FILENO, b"trees refused by lengths"),
+        19 => io::write_all(STDOUT_FILENO, b"children and slots"),
         _ => io::write_all(STDOUT_FILENO, b"unknown"),
     }
     ;
