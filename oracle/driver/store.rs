@@ -15,6 +15,7 @@ pub const ENDS: u32 = 7;
 pub const DECODED: u32 = 8;
 pub const NODE_RULE: u32 = 9;
 pub const HIT_MASK: u32 = 10;
+pub const SLOTS: u32 = 11;
 pub const CONVERSION: u32 = 16;
 pub const CONVERSION_REFUSED: u32 = 17;
 pub const CONVERSION_SIZES: u32 = 18;
