@@ -126,3 +126,32 @@ module _ (ws indices : List ℕ) (limit : ℕ) (ordered : Bool) (ds : List ℕ) 
 
       from : 31 < levelOf ws n limit ordered → answerFor ws n limit ordered cause ≡ refused 8
       from l = ap (answerFor ws n limit ordered) (cause-eight ws n limit ordered (length ds) (length cs) (length bytes) (length list) none l)
+
+  -- ---- refused, for the first cause
+  pub refused-cause : (k : ℕ) → conversionOf ws indices limit ordered ds cs bytes list .answer ≡ refused k ↔ ((cause ≡ k) × (0 < k))
+  unfolding conversionOf answerFor
+  refused-cause k = (some-cause cause k, λ h. from k (h .0) (h .1))
+    where
+      from : (k : ℕ) → cause ≡ k → 0 < k → answerFor ws n limit ordered cause ≡ refused k
+      from zero e h = absurd (omega arith)
+      from (suc k) e h = ap (answerFor ws n limit ordered) e
+
+  -- the slices then: the outputs as they were, the working slices as they were for causes 1 to 4, else cleared
+  pub record Kept (k : ℕ) : Type 0 where
+    pub decisions : conversionOf ws indices limit ordered ds cs bytes list .decisions ≡ workAfter 0 (wordOf limit) ws n k ds
+    pub costs : conversionOf ws indices limit ordered ds cs bytes list .costs ≡ workAfter plusZero (costOf limit) ws n k cs
+    pub bytes-kept : conversionOf ws indices limit ordered ds cs bytes list .bytes ≡ bytes
+    pub list-kept : conversionOf ws indices limit ordered ds cs bytes list .list ≡ list
+
+  pub refused-keeps : (k : ℕ) → conversionOf ws indices limit ordered ds cs bytes list .answer ≡ refused k → Kept k
+  unfolding conversionOf outputAfter
+  refused-keeps k e = let h = refused-cause k .0 e in go k (h .0) (h .1)
+    where
+      go : (k : ℕ) → cause ≡ k → 0 < k → Kept k
+      go zero e h = absurd (omega arith)
+      go (suc k) e h = record {
+        decisions = ap (λ (x : ℕ). workAfter 0 (wordOf limit) ws n x ds) e;
+        costs = ap (λ (x : ℕ). workAfter plusZero (costOf limit) ws n x cs) e;
+        bytes-kept = ap (λ (x : ℕ). outputAfter x (recordOf ws n limit ordered) bytes) e;
+        list-kept = ap (λ (x : ℕ). outputAfter x (listOf ws indices limit ordered) list) e;
+      }

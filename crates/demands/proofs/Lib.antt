@@ -5,3 +5,4 @@ pub mod Answered
 pub mod Sound
 pub mod Children
 pub mod Demands
+pub mod Refusals
