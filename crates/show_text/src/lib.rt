@@ -91,15 +91,8 @@ pub fn show_text(
     }
     show::read_words(input, 12, k, words);
     show::read_words(input, 12 + 4 * k, n, indices);
-    tree_text(
-        &words[..k],
-        &indices[..n],
-        limit,
-        order == 1,
-        decisions,
-        costs,
-        record,
-        list,
-        out,
-    )
+    let ws = &words[..k];
+    let is = &indices[..n];
+    let ordered = order == 1;
+    tree_text(ws, is, limit, ordered, decisions, costs, record, list, out)
 }

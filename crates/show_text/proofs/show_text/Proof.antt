@@ -29,7 +29,11 @@ same-length-2 : tie.Need-same-length-2
 same-length-2 c = search needs
 
 returns-2 : tie.Need-returns-2
-returns-2 c = wrote-as _ _ _ _ _ (text-many (c .before .before .before .before .before .before .before .before .before .before .before .before .before .before .before .args .input .now) _ (c .before .before .before .before .before .before .if1 .left) (c .before .before .before .before .before .load-u32 .ensures .value) (c .before .before .before .before .if2 .taken)) (c .before .before .print-refusal2 .ensures)
+returns-2 c =
+    let q = c .before .before .before .before in
+    wrote-as _ _ _ _ _
+    (text-many (q .before .before .before .before .before .before .before .before .before .before .before .args .input .now) _ (q .before .before .if1 .left) (q .before .load-u32 .ensures .value) (q .if2 .taken))
+    (c .before .before .print-refusal2 .ensures)
 
 tree-size-requires : tie.Need-tree-size-requires
 tree-size-requires c κs = search needs
@@ -50,7 +54,11 @@ same-length-3 : tie.Need-same-length-3
 same-length-3 c = search needs
 
 returns-3 : tie.Need-returns-3
-returns-3 c = wrote-as _ _ _ _ _ (text-unfit (c .before .before .before .before .before .before .before .before .before .before .before .before .before .before .before .before .before .args .input .now) _ (c .before .before .before .before .before .before .before .before .if1 .left) (c .before .before .before .before .before .before .before .load-u32 .ensures .value) (c .before .before .before .before .before .before .if2 .left) _ (c .before .before .before .before .before .tree-size .ensures) (c .before .before .before .before .if3 .taken)) (c .before .before .print-refusal3 .ensures)
+returns-3 c =
+    let q = c .before .before .before .before in
+    wrote-as _ _ _ _ _
+    (text-unfit (q .before .before .before .before .before .before .before .before .before .before .before .before .before .args .input .now) _ (q .before .before .before .before .if1 .left) (q .before .before .before .load-u32 .ensures .value) (q .before .before .if2 .left) _ (q .before .tree-size .ensures) (q .if3 .taken))
+    (c .before .before .print-refusal3 .ensures)
 
 load-u32-requires-2 : tie.Need-load-u32-requires-2
 load-u32-requires-2 c κs = search needs
@@ -65,7 +73,12 @@ same-length-4 : tie.Need-same-length-4
 same-length-4 c = search needs
 
 returns-4 : tie.Need-returns-4
-returns-4 c = wrote-as _ _ _ _ _ (text-disorder (c .before .before .before .before .before .before .before .before .before .before .before .before .before .before .before .before .before .before .before .before .args .input .now) _ (c .before .before .before .before .before .before .before .before .before .before .before .if1 .left) (c .before .before .before .before .before .before .before .before .before .before .load-u32 .ensures .value) (c .before .before .before .before .before .before .before .before .before .if2 .left) _ (c .before .before .before .before .before .before .before .before .tree-size .ensures) (c .before .before .before .before .before .before .before .if3 .left) _ _ (c .before .before .before .before .before .before .load-u322 .ensures .value) (c .before .before .before .before .before .load-u323 .ensures .value) (c .before .before .before .before .if4 .taken)) (c .before .before .print-refusal4 .ensures)
+returns-4 c =
+    let q = c .before .before .before .before in
+    let s = q .before .before .before in
+    wrote-as _ _ _ _ _
+    (text-disorder (s .before .before .before .before .before .before .before .before .before .before .before .before .before .args .input .now) _ (s .before .before .before .before .if1 .left) (s .before .before .before .load-u32 .ensures .value) (s .before .before .if2 .left) _ (s .before .tree-size .ensures) (s .if3 .left) _ _ (q .before .before .load-u322 .ensures .value) (q .before .load-u323 .ensures .value) (q .if4 .taken))
+    (c .before .before .print-refusal4 .ensures)
 
 read-words-requires : tie.Need-read-words-requires
 read-words-requires c κs = search needs
@@ -79,20 +92,22 @@ add-read-words c = search needs
 read-words-requires-2 : tie.Need-read-words-requires-2
 read-words-requires-2 c κs = search needs
 
-slice-reshare-prefix-tree-text : tie.Need-slice-reshare-prefix-tree-text
-slice-reshare-prefix-tree-text c = search needs
+slice-reshare-prefix-ws : tie.Need-slice-reshare-prefix-ws
+slice-reshare-prefix-ws c = search needs
 
-slice-aggregate-tree-text : tie.Need-slice-aggregate-tree-text
-slice-aggregate-tree-text c = sym (length-take-le _ _ (omega arith))
+slice-aggregate-ws : tie.Need-slice-aggregate-ws
+slice-aggregate-ws c = sym (length-take-le _ _ (omega arith))
 
-slice-reshare-prefix-tree-text-2 : tie.Need-slice-reshare-prefix-tree-text-2
-slice-reshare-prefix-tree-text-2 c = search needs
+slice-reshare-prefix-is : tie.Need-slice-reshare-prefix-is
+slice-reshare-prefix-is c = search needs
 
-slice-aggregate-tree-text-2 : tie.Need-slice-aggregate-tree-text-2
-slice-aggregate-tree-text-2 c = sym (length-take-le _ _ (omega arith))
+slice-aggregate-is : tie.Need-slice-aggregate-is
+slice-aggregate-is c = sym (length-take-le _ _ (omega arith))
 
 tree-text-requires : tie.Need-tree-text-requires
-tree-text-requires c κs = (take-most _ _ _ (c .before .before .before .before .before .before .before .before .before .before .before .before .before .before .before .before .before .before .before .before .if2 .left), c .before .before .before .before .before .before .before .before .before .before .before .before .before .before .before .before .before .before .before .before .before .before .before .before .before .before .before .before .before .before .before .pre .1)
+tree-text-requires c κs =
+    let q = c .before .before .before .before .before .before .before .before .before .before .before .before .before .before .before .before .before .before .before .before in
+    (take-most _ _ _ (q .if2 .left), q .before .before .before .before .before .before .before .before .before .before .before .pre .1)
 
 same-length-5 : tie.Need-same-length-5
 same-length-5 c = search needs
@@ -116,7 +131,12 @@ same-length-11 : tie.Need-same-length-11
 same-length-11 c = search needs
 
 returns-5 : tie.Need-returns-5
-returns-5 c = wrote-as _ _ _ _ _ (text-tree (c .before .before .before .before .before .before .before .before .before .before .before .before .before .before .before .before .before .before .before .before .before .before .before .before .before .before .before .before .before .before .before .before .before .before .before .before .before .before .before .before .before .before .args .input .now) _ (c .before .before .before .before .before .before .before .before .before .before .before .before .before .before .before .before .before .before .before .before .before .before .before .before .before .before .before .before .before .before .before .before .before .if1 .left) (c .before .before .before .before .before .before .before .before .before .before .before .before .before .before .before .before .before .before .before .before .before .before .before .before .before .before .before .before .before .before .before .before .load-u32 .ensures .value) (c .before .before .before .before .before .before .before .before .before .before .before .before .before .before .before .before .before .before .before .before .before .before .before .before .before .before .before .before .before .before .before .if2 .left) _ (c .before .before .before .before .before .before .before .before .before .before .before .before .before .before .before .before .before .before .before .before .before .before .before .before .before .before .before .before .before .before .tree-size .ensures) (c .before .before .before .before .before .before .before .before .before .before .before .before .before .before .before .before .before .before .before .before .before .before .before .before .before .before .before .before .before .if3 .left) _ _ (c .before .before .before .before .before .before .before .before .before .before .before .before .before .before .before .before .before .before .before .before .before .before .before .before .before .before .before .before .load-u322 .ensures .value) (c .before .before .before .before .before .before .before .before .before .before .before .before .before .before .before .before .before .before .before .before .before .before .before .before .before .before .before .load-u323 .ensures .value) (c .before .before .before .before .before .before .before .before .before .before .before .before .before .before .before .before .before .before .before .before .before .before .before .before .before .before .if4 .left) _ _ _ _ (c .before .before .before .before .before .before .before .before .before .before .before .before .before .before .before .before .before .before .before .before .before .before .before .before .read-words .ensures) (c .before .before .before .before .before .before .before .before .before .before .before .before .before .before .before .before .before .before .before .before .read-words2 .ensures)) (c .before .before .before .before .before .before .before .before .before .before .tree-text .ensures)
+returns-5 c =
+    let q = c .before .before .before .before .before .before .before .before .before .before .before .before .before .before .before .before .before .before .before .before .before .before .before .before .before .before in
+    let s = q .before .before .before in
+    wrote-as _ _ _ _ _
+    (text-tree (s .before .before .before .before .before .before .before .before .before .before .before .before .before .args .input .now) _ (s .before .before .before .before .if1 .left) (s .before .before .before .load-u32 .ensures .value) (s .before .before .if2 .left) _ (s .before .tree-size .ensures) (s .if3 .left) _ _ (q .before .before .load-u322 .ensures .value) (q .before .load-u323 .ensures .value) (q .if4 .left) _ _ _ _ (c .before .before .before .before .before .before .before .before .before .before .before .before .before .before .before .before .before .before .before .before .before .before .before .before .read-words .ensures) (c .before .before .before .before .before .before .before .before .before .before .before .before .before .before .before .before .before .before .before .before .read-words2 .ensures))
+    (c .before .before .before .before .before .before .before .before .before .before .tree-text .ensures)
 
 pub show-text-spec : {M : Type 1} → statement M
 show-text-spec =
@@ -146,10 +166,10 @@ show-text-spec =
     mul-read-words
     add-read-words
     read-words-requires-2
-    slice-reshare-prefix-tree-text
-    slice-aggregate-tree-text
-    slice-reshare-prefix-tree-text-2
-    slice-aggregate-tree-text-2
+    slice-reshare-prefix-ws
+    slice-aggregate-ws
+    slice-reshare-prefix-is
+    slice-aggregate-is
     tree-text-requires
     same-length-5
     same-length-6
