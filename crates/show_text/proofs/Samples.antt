@@ -9,13 +9,15 @@ use Rattle.words.specs.Le.{leAt, sumOf}
 use Rattle.float.specs.Compare.{maxOf, inBounds}
 use Rattle.float.specs.PowerOfTwo.{scaleOf, nextPower}
 use Rattle.ray.specs.Ray.{boundedVec}
-use Rattle.aabb.specs.Aabb.{halfArea, inOrder, acceptedBox}
+use Rattle.aabb.specs.Aabb.{halfArea, centerOf, inOrder, acceptedBox}
 use Rattle.quantization.specs.Exponent.{extentScale, exponentOf}
 use Rattle.quantization.specs.Ends.{clampedByte, reciprocalOf, onGrid, childMin, childMax}
 use Rattle.bvh2.specs.Tree.{boxOf, leaves, positions, labels}
 use Rattle.bvh2.specs.Words.{linkOf, boxAt, readLink}
 use Rattle.bvh2.specs.FirstCause.{sizesCause, isInside, isPosition, isWhole, eachOnce, isTree, structureCause}
 use Rattle.cost.specs.Table.{bestOf, decision, table}
+use Rattle.order.specs.Assign.{partner, rowPairs, pairs, openPairs, leastPair, assigned}
+use Rattle.order.specs.Lists.{keep, some, padded}
 use Rattle.order.specs.Order as order
 use Rattle.wide.specs.Shape.{nodeAt}
 use Rattle.wide_tree.specs.WideTree.{slotsFrom, childrenOf, wideOf}
@@ -71,3 +73,12 @@ sample-empty = refl
 sample-limit : showText (bytesOf (0 ∷ 4 ∷ 0 ∷ [])) ≡ chars "refused 3\n"
 unfolding showText leavesText orderText treeText causeText conversionCause prepareCause sizesCause inputWords leAt sumOf numbered chars decimal digits
 sample-limit = refl
+
+-- tree T at leaf limit 3, order 0, and order 1, where B stands in slot 4
+samples-T :
+    (showText (bytesOf (2 ∷ 3 ∷ 0 ∷ treeT))
+    ≡ chars "0 0000000000000000000000007978780001000000000000002021000000000000008000000000000040c00000000000000000000000000000808000000000000000000000000000008080000000000000\nindices 0 1\n")
+    × (showText (bytesOf (2 ∷ 3 ∷ 1 ∷ treeT))
+    ≡ chars "0 0000000000000000000000007978780001000000000000002000000021000000000000008000000040000000c00000000000000000000000800000008000000000000000000000008000000080000000\nindices 0 1\n")
+unfolding showText leavesText orderText treeText causeText inputWords leAt sumOf conversionCause prepareCause sizesCause structureCause hasRoom recordSize levelCause levelOf recordOf nodesOf positionsOf listOf linkOf boxAt readLink isInside isPosition isWhole eachOnce isTree allBelow same count labels positions boxOf leaves inBounds boundedVec inOrder acceptedBox halfArea centerOf bestOf decision table order.inOrder order.slotsOf order.signOf order.directionOf order.dotOf order.directionCost order.costTable rowPairs pairs partner openPairs leastPair assigned keep some padded slotsFrom childrenOf wideOf recordBytes joined nodeAt nodeOf gridBox gridBoxes metas innerMask nodeBytes headBytes putSlots putSlot slotOffset childMin childMax clampedByte onGrid reciprocalOf scaleOf exponentOf extentScale nextPower maxOf ofInt ofBits toBits round add sub mul div lt le recordText nodeLines nodeLine indicesLine spaced chars decimal digits hex hexDigit
+samples-T = (refl, refl)
