@@ -2,6 +2,7 @@
 use mathlib.Core.Path.{_≡_, refl, sym, ap, _∙_}
 use mathlib.Core.Bool.{Bool, true, false}
 use mathlib.Core.List.{List}
+use mathlib.Core.Logic.{_⊎_, inl, inr}
 use Prim.Native.Nat.{ℕ, zero, suc, _+_, _*_, _≤_, _<_}
 use native.Mathlib.Omega.{arith}
 use lib.Dec.{leb}
@@ -9,6 +10,7 @@ use lib.Ieee.{Float}
 use lib.ListN.{length, getD, length-map}
 use borrow.Author.Tests.{le-leb}
 use Rattle.lists.specs.Splice.{splice}
+use Rattle.lists.proofs.Tells.{clash}
 use Rattle.bvh2.specs.FirstCause.{sizesCause, structureCause}
 use Rattle.bvh2.proofs.Decoded.{accepted-decoded}
 use Rattle.wide.specs.Layout.{nodes}
@@ -21,8 +23,9 @@ use Rattle.record.specs.Record.{nodeOf, recordBytes}
 use Rattle.record.proofs.Joined.{joined-length}
 use Rattle.tables.specs.Tables.{tableSize, recordSize, hasRoom, prepareCause}
 use Rattle.tables.proofs.Room.{room-list}
+use Rattle.tables.proofs.Causes.{sizes-most, structure-range}
 use Rattle.tables.proofs.Prepared.{Prepared, prepared}
-use Rattle.bvh2_to_cwbvh.specs.Conversion.{wideAt, recordOf, nodesOf, positionsOf, listOf, converted, refused, levelCause, conversionCause, answerFor, outputAfter, conversionOf}
+use Rattle.bvh2_to_cwbvh.specs.Conversion.{wideAt, recordOf, nodesOf, levelOf, positionsOf, listOf, converted, refused, levelCause, conversionCause, answerFor, outputAfter, conversionOf}
 use Rattle.bvh2_to_cwbvh.specs.declared.Conversion.{Conversion}
 use Rattle.bvh2_to_cwbvh.specs.declared.Conversion.the-variants.{Converted, Refused}
 use Rattle.bvh2_to_cwbvh.specs.Answer.{answerOf}
@@ -31,14 +34,14 @@ use Rattle.show_text.specs.Room.{Room}
 
 -- ---- the cause
 
-module _ (ws : List ℕ) (n limit : ℕ) (ordered : Bool) where
-  fits : (d c b l : ℕ) → tableSize n ≤ d → tableSize n ≤ c → recordSize n ≤ b → n ≤ l → hasRoom n d c b l ≡ true
-  fits d c b l h g k m = sym (room-list n d c b l h g k) ∙ le-leb n l m
+has-room : (n d c b l : ℕ) → tableSize n ≤ d → tableSize n ≤ c → recordSize n ≤ b → n ≤ l → hasRoom n d c b l ≡ true
+has-room n d c b l h g k m = sym (room-list n d c b l h g k) ∙ le-leb n l m
 
+module _ (ws : List ℕ) (n limit : ℕ) (ordered : Bool) where
   -- longer slices change nothing
   roomy : (d c b l : ℕ) → tableSize n ≤ d → tableSize n ≤ c → recordSize n ≤ b → n ≤ l → conversionCause ws n limit ordered d c b l ≡ roomyCause ws n limit ordered
   unfolding conversionCause prepareCause
-  roomy d c b l h g k m = ap by (fits d c b l h g k m ∙ sym (fits (tableSize n) (tableSize n) (recordSize n) n (omega arith) (omega arith) (omega arith) (omega arith)))
+  roomy d c b l h g k m = ap by (has-room n d c b l h g k m ∙ sym (has-room n (tableSize n) (tableSize n) (recordSize n) n (omega arith) (omega arith) (omega arith) (omega arith)))
     where
       first : Bool → ℕ
       first q = elim (sizesCause (length ws) n) [ suc k ↦ suc k | zero ↦ elim (leb limit 3) [ false ↦ 3 | true ↦ elim q [ false ↦ 4 | true ↦ structureCause ws n ] ] ]
@@ -58,6 +61,35 @@ module _ (ws : List ℕ) (n limit : ℕ) (ordered : Bool) where
       go zero e = refl
       go (suc k) e = absurd (omega (arith, e))
 
+  -- no slice is short
+  pub never-four : roomyCause ws n limit ordered ≡ 4 → ⊥
+  unfolding conversionCause prepareCause levelCause
+  never-four e =
+      go (sizesCause (length ws) n)
+      (sizes-most (length ws) n)
+      (leb limit 3)
+      (hasRoom n (tableSize n) (tableSize n) (recordSize n) n)
+      (has-room n (tableSize n) (tableSize n) (recordSize n) n (omega arith) (omega arith) (omega arith) (omega arith))
+      (structureCause ws n)
+      (structure-range ws n)
+      (leb (levelOf ws n limit ordered) 31)
+      e
+    where
+      first : ℕ → Bool → Bool → ℕ → ℕ
+      first s p q t = elim s [ suc k ↦ suc k | zero ↦ elim p [ false ↦ 3 | true ↦ elim q [ false ↦ 4 | true ↦ t ] ] ]
+
+      pick : ℕ → Bool → Bool → ℕ → Bool → ℕ
+      pick s p q t v = elim (first s p q t) [ zero ↦ elim v [ true ↦ 0 | false ↦ 8 ] | suc k ↦ suc k ]
+
+      go : (s : ℕ) → s ≤ 2 → (p q : Bool) → q ≡ true → (t : ℕ) → (t ≡ 0) ⊎ (5 ≤ t) → (v : Bool) → pick s p q t v ≡ 4 → ⊥
+      go (suc s) a p q b t c v e = omega (arith, e)
+      go zero a false q b t c v e = omega (arith, e)
+      go zero a true false b t c v e = clash b
+      go zero a true true b zero c true e = omega (arith, e)
+      go zero a true true b zero c false e = omega (arith, e)
+      go zero a true true b (suc t) (inl c) v e = omega (arith, c)
+      go zero a true true b (suc t) (inr c) v e = omega (arith, c, e)
+
 -- the record bytes of up to 256 leaves
 size-most : (n : ℕ) → n ≤ mostLeaves → recordSize n ≤ 80 * 255
 unfolding recordSize
@@ -72,24 +104,23 @@ pub record Sizes (ws indices : List ℕ) (limit : ℕ) (ordered : Bool) : Type 0
   pub bytes-length : length (recordOf ws (length indices) limit ordered) ≡ 80 * nodesOf ws (length indices) limit ordered
   pub list-length : length (listOf ws indices limit ordered) ≡ length indices
 
-module _ (ws : List ℕ) (n limit : ℕ) (ordered : Bool) (few : n ≤ mostLeaves) (none : roomyCause ws n limit ordered ≡ 0) where
-  parts : Prepared ws n limit (tableSize n) (tableSize n) (recordSize n) n
-  parts = prepared ws n limit (tableSize n) (tableSize n) (recordSize n) n (none-early ws n limit ordered none)
+parts : (ws : List ℕ) (n limit : ℕ) (ordered : Bool) → roomyCause ws n limit ordered ≡ 0 → Prepared ws n limit (tableSize n) (tableSize n) (recordSize n) n
+parts ws n limit ordered none = prepared ws n limit (tableSize n) (tableSize n) (recordSize n) n (none-early ws n limit ordered none)
 
 module _ (ws : List ℕ) (limit : ℕ) (ordered : Bool) where
   few-nodes : (n : ℕ) → n ≤ mostLeaves → roomyCause ws n limit ordered ≡ 0 → nodesOf ws n limit ordered ≤ 255
   unfolding nodesOf
   few-nodes zero few none = omega arith
   few-nodes (suc k) few none =
-      let p = parts ws (suc k) limit ordered few none in
+      let p = parts ws (suc k) limit ordered none in
       let t = accepted-decoded ws (suc k) (omega arith) .0 (p .accepted) in
       omega (arith, node-count ordered limit ws (suc k) t (p .small))
 
-  positions-length : (n : ℕ) → n ≤ mostLeaves → roomyCause ws n limit ordered ≡ 0 → length (positionsOf ws n limit ordered) ≡ n
+  positions-length : (n : ℕ) → roomyCause ws n limit ordered ≡ 0 → length (positionsOf ws n limit ordered) ≡ n
   unfolding positionsOf
-  positions-length zero few none = refl
-  positions-length (suc k) few none =
-      let p = parts ws (suc k) limit ordered few none in
+  positions-length zero none = refl
+  positions-length (suc k) none =
+      let p = parts ws (suc k) limit ordered none in
       let t = accepted-decoded ws (suc k) (omega arith) .0 (p .accepted) in
       index-length (wideAt ws limit ordered) ∙ index-count ordered limit ws (suc k) t
 
@@ -105,7 +136,7 @@ module _ (ws : List ℕ) (limit : ℕ) (ordered : Bool) where
   sizes indices few none = record {
     nodes-most = few-nodes (length indices) few none;
     bytes-length = record-length (length indices);
-    list-length = length-map (positionsOf ws (length indices) limit ordered) (λ p. getD indices p 0) ∙ positions-length (length indices) few none;
+    list-length = length-map (positionsOf ws (length indices) limit ordered) (λ p. getD indices p 0) ∙ positions-length (length indices) none;
   }
 
 -- ---- the outcome

@@ -5,9 +5,10 @@ use libc::STDOUT_FILENO;
 ghost use Prim.Native.Nat.{_≤_};
 ghost use lib.ListN.{length};
 
-// The most leaves, and the most tree words: seven for each of 511 nodes.
+// The most leaves.
 const MOST_LEAVES: usize = 256;
 
+// Seven words for each of 511 tree nodes.
 const MOST_WORDS: usize = 3577;
 
 // One byte more than 12 and four for each of 3,577 words and 256 indices.

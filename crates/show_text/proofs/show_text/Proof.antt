@@ -77,7 +77,7 @@ returns-4 c =
     let q = c .before .before .before .before in
     let s = q .before .before .before in
     wrote-as _ _ _ _ _
-    (text-disorder (s .before .before .before .before .before .before .before .before .before .before .before .before .before .args .input .now) _ (s .before .before .before .before .if1 .left) (s .before .before .before .load-u32 .ensures .value) (s .before .before .if2 .left) _ (s .before .tree-size .ensures) (s .if3 .left) _ _ (q .before .before .load-u322 .ensures .value) (q .before .load-u323 .ensures .value) (q .if4 .taken))
+    (text-disorder (s .before .before .before .before .before .before .before .before .before .before .before .before .before .args .input .now) _ (s .before .before .before .before .if1 .left) (s .before .before .before .load-u32 .ensures .value) (s .before .before .if2 .left) _ (s .before .tree-size .ensures) (s .if3 .left) _ _ (q .before .before .load-u322 .ensures .value) (q .before .load-u323 .ensures .value) (omega (arith, q .if4 .taken)))
     (c .before .before .print-refusal4 .ensures)
 
 read-words-requires : tie.Need-read-words-requires
@@ -135,7 +135,7 @@ returns-5 c =
     let q = c .before .before .before .before .before .before .before .before .before .before .before .before .before .before .before .before .before .before .before .before .before .before .before .before .before .before in
     let s = q .before .before .before in
     wrote-as _ _ _ _ _
-    (text-tree (s .before .before .before .before .before .before .before .before .before .before .before .before .before .args .input .now) _ (s .before .before .before .before .if1 .left) (s .before .before .before .load-u32 .ensures .value) (s .before .before .if2 .left) _ (s .before .tree-size .ensures) (s .if3 .left) _ _ (q .before .before .load-u322 .ensures .value) (q .before .load-u323 .ensures .value) (q .if4 .left) _ _ _ _ (c .before .before .before .before .before .before .before .before .before .before .before .before .before .before .before .before .before .before .before .before .before .before .before .before .read-words .ensures) (c .before .before .before .before .before .before .before .before .before .before .before .before .before .before .before .before .before .before .before .before .read-words2 .ensures))
+    (text-tree (s .before .before .before .before .before .before .before .before .before .before .before .before .before .args .input .now) _ (s .before .before .before .before .if1 .left) (s .before .before .before .load-u32 .ensures .value) (s .before .before .if2 .left) _ (s .before .tree-size .ensures) (s .if3 .left) _ _ (q .before .before .load-u322 .ensures .value) (q .before .load-u323 .ensures .value) (omega (arith, q .if4 .left)) _ _ _ _ (c .before .before .before .before .before .before .before .before .before .before .before .before .before .before .before .before .before .before .before .before .before .before .before .before .read-words .ensures) (c .before .before .before .before .before .before .before .before .before .before .before .before .before .before .before .before .before .before .before .before .read-words2 .ensures))
     (c .before .before .before .before .before .before .before .before .before .before .tree-text .ensures)
 
 pub show-text-spec : {M : Type 1} → statement M
