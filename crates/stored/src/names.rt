@@ -13,6 +13,13 @@ pub fn print_name(kind: u32) {
         16 => io::write_all(STDOUT_FILENO, b"trees accepted"),
         17 => io::write_all(STDOUT_FILENO, b"trees refused"),
         18 => io::write_all(STDOUT_FILENO, b"trees refused by lengths"),
+        24 => io::write_all(STDOUT_FILENO, b"records checked"),
+        25 => io::write_all(
+            STDOUT_FILENO,
+            b"unsound records that `validate` lets through",
+        ),
+        26 => io::write_all(STDOUT_FILENO, b"records checked by lengths"),
+        41 => io::write_all(STDOUT_FILENO, b"lines of checkrecord"),
         _ => io::write_all(STDOUT_FILENO, b"unknown"),
     }
     ;
