@@ -10,7 +10,8 @@ use obvhs::ray::Ray;
 use std::hint::black_box;
 
 const LEAVES: usize = 4096;
-const RAYS: usize = 64;
+// So many that the processor does not learn from one run to the next which slots are passed: with 256 it does.
+const RAYS: usize = 1024;
 
 /// A ray from outside the tree towards a point of it, as eight floats.
 fn ray(rng: &mut Rng) -> [f32; 8] {
