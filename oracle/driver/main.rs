@@ -1,12 +1,14 @@
 //! The oracle: the published Rust, run on trees and rays, with its answers written for the gate's `replay`.
 mod accept;
 mod checks;
+mod children;
 mod compare;
 mod conversions;
 mod convert;
 mod differences;
 mod generate;
 mod leaves;
+mod nodes;
 mod queries;
 mod query;
 mod record;
@@ -23,9 +25,6 @@ use std::path::Path;
 
 const SEED: u64 = 20261005;
 
-/// The most words of a tree that `replay_trees` has room for.
-const TREE_WORDS: usize = 2048;
-
 const USAGE: &str = "oracle samples          print T's record and check the samples
 oracle store FOLDER     write the files of stored answers
 oracle compare TREES    compare the published code with the rules on random trees and rays
@@ -37,11 +36,12 @@ fn store(folder: &str) -> bool {
     let at = |name: &str| Path::new(folder).join(name);
     std::fs::create_dir_all(folder).unwrap();
     store::write(&at("leaves"), &leaves::groups(SEED));
-    store::write(&at("conversion"), &conversions::groups(SEED + 1, usize::MAX));
-    store::write(&at("trees"), &conversions::groups(SEED + 1, TREE_WORDS));
+    store::write(&at("trees"), &conversions::groups(SEED + 1));
     store::write(&at("check"), &checks::groups(SEED + 2));
     store::write(&at("queries"), &queries::groups(SEED + 3));
     store::write(&at("showrecord"), &show::groups(SEED + 4));
+    store::write(&at("nodes"), &nodes::groups(SEED + 6));
+    store::write(&at("children"), &children::groups(SEED + 7));
     true
 }
 

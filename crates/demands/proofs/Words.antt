@@ -6,7 +6,7 @@ use native.Mathlib.Nat.{zero-add}
 use native.Mathlib.Omega.{arith}
 use lib.ListN.{length, getD}
 use Rattle.lists.specs.Counts.{upto}
-use Rattle.demands.specs.Conversion.{wordsAt}
+use Rattle.wide.specs.Layout.{wordsAt}
 
 from : (l : List ℕ) (a : ℕ) (f : ℕ → ℕ) → ((j : ℕ) → j < length l → f (a + j) ≡ getD l j 0) → map f (upto a (length l)) ≡ l
 unfolding upto

@@ -11,7 +11,8 @@ use Rattle.bvh2.specs.Tree.{Tree, leaf, inner, leaves, positions}
 use Rattle.bvh2.specs.Words.{nodeCount, wordAt, treeAt}
 use Rattle.bvh2.specs.Decoded.{Subtree}
 use Rattle.bvh2.proofs.Subtree.{Leaf, at-leaf, Inner, at-inner}
-use Rattle.emit.specs.Leaves.{wordsAt, LeavesReady, LeavesWritten}
+use Rattle.wide.specs.Layout.{wordsAt}
+use Rattle.emit.specs.Leaves.{LeavesReady, LeavesWritten}
 
 -- as many positions as leaves
 pub positions-length : {A : Type 0} (t : Tree A) → length (positions t) ≡ leaves t

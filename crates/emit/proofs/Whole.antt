@@ -21,7 +21,7 @@ use Rattle.record.specs.Record.{metas, innerMask, gridBoxes, leafMeta, innerMet
 use Rattle.record.specs.Children.{Child, leafChild, innerChild, childAt, childMeta, childBytes, childBit, childPositions, childInner, bitsBefore, positionsBefore}
 use Rattle.record.specs.Children as R
 use Rattle.record.proofs.Children.{metas-length, boxes-length, meta-at, bytes-at, mask-all, bits-next, positions-all, positions-next, own-next, inner-next, own-all, inner-all, own-first, before-length}
-use Rattle.emit.specs.Leaves.{wordsAt}
+use Rattle.wide.specs.Layout.{wordsAt}
 use Rattle.emit.specs.Own.{Cell, none, asLeaf, asNode, State, begin, withChild, firstSlots, Matches}
 use Rattle.emit.proofs.LeafSteps.{positions-length, words-length}
 

@@ -22,7 +22,7 @@ use Rattle.record.specs.Children.{Child, leafChild, innerChild}
 use Rattle.record.specs.Children as R
 use Rattle.emit.specs.declared.Own.{Own}
 use Rattle.emit.specs.declared.Built.{Built}
-use Rattle.emit.specs.Leaves.{wordsAt}
+use Rattle.wide.specs.Layout.{wordsAt}
 
 -- what a slot's word says: no child, a child that becomes a leaf, or one that becomes a node
 pub data Cell : Type 0 where

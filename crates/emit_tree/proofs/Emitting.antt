@@ -20,7 +20,8 @@ use Rattle.wide.specs.Conversion.{State, convert, convertNode}
 use Rattle.wide_tree.specs.WideTree.{rootSlots, slotsFrom}
 use Rattle.record.specs.Children.{Child, innerChild}
 use Rattle.emit_tree.specs.declared.Next.{Next}
-use Rattle.emit_tree.specs.Emission.{placing, slotWords, slotsAt, Reached, isInner, Room, NodeRoom, Emits, Written, writeEntry, stateOf}
+use Rattle.wide_tree.specs.Ordered.{placing}
+use Rattle.emit_tree.specs.Emission.{slotWords, slotsAt, Reached, isInner, Room, NodeRoom, Emits, Written, writeEntry, stateOf}
 use Rattle.emit_tree.proofs.Turns.{Below, rest, rest-all, rest-next, standing, slot-below, slot-other, slot-subtree}
 use Rattle.emit_tree.proofs.Rolling.{put, Rolling, child-room, child-done, other-done}
 

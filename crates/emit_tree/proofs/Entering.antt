@@ -30,7 +30,8 @@ use Rattle.emit.specs.Own.{Cell, none, asLeaf, asNode, cellOf, Matches, CellRea
 use Rattle.emit.proofs.LeafSteps.{positions-length}
 use Rattle.emit.proofs.Whole.{first-upto, Entered, all-slots}
 use Rattle.emit_tree.specs.declared.Next.{Next}
-use Rattle.emit_tree.specs.Emission.{placing, slotWords, slotsAt, Reached, NodeRoom, Room, Emits, Written, writeEntry, stateOf}
+use Rattle.wide_tree.specs.Ordered.{placing}
+use Rattle.emit_tree.specs.Emission.{slotWords, slotsAt, Reached, NodeRoom, Room, Emits, Written, writeEntry, stateOf}
 use Rattle.emit_tree.proofs.Matching.{slots-match}
 use Rattle.emit_tree.proofs.Turns.{slot-subtree}
 

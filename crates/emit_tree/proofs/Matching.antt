@@ -27,7 +27,8 @@ use Rattle.record.specs.Children.{childAt}
 use Rattle.record.specs.Children as R
 use Rattle.emit.specs.Own.{Cell, asLeaf, asNode, cellOf, Matches}
 use Rattle.emit.proofs.OwnSteps.{cell-none, cell-leaf, cell-node}
-use Rattle.emit_tree.specs.Emission.{placing, slotWords, Reached, slotsAt}
+use Rattle.wide_tree.specs.Ordered.{placing}
+use Rattle.emit_tree.specs.Emission.{slotWords, Reached, slotsAt}
 
 -- ---- what stands in a slot
 abbrev pub heldAs : Child → R.Child

@@ -29,7 +29,8 @@ use Rattle.wide_tree.proofs.Gathered.{childOf}
 use Rattle.record.specs.Children.{childAt}
 use Rattle.record.specs.Children as R
 use Rattle.emit.specs.Own.{Cell, none, asLeaf, asNode, cellBy, cellOf, Matches}
-use Rattle.emit_tree.specs.Emission.{placing, slotWords, Reached, slotsAt, isInner}
+use Rattle.wide_tree.specs.Ordered.{placing}
+use Rattle.emit_tree.specs.Emission.{slotWords, Reached, slotsAt, isInner}
 use Rattle.emit_tree.proofs.Matching.{heldAs, heldAt, from-at, kind-says, box-says, a-node, root-slots, slots-match}
 use Rattle.emit_tree.proofs.Rolling.{put}
 

@@ -21,7 +21,8 @@ use Rattle.node.proofs.RoundTrip.{length-node}
 use Rattle.record.specs.Record.{nodeOf, recordBytes}
 use Rattle.record.proofs.Written.{put, written}
 use Rattle.emit_tree.specs.declared.Next.{Next}
-use Rattle.emit_tree.specs.Emission.{placing, slotsAt, wideAt, Reached, NodeRoom, Emits, Whole, Emitted, Written, writeEntry, stateOf}
+use Rattle.wide_tree.specs.Ordered.{placing}
+use Rattle.emit_tree.specs.Emission.{slotsAt, wideAt, Reached, NodeRoom, Emits, Whole, Emitted, Written, writeEntry, stateOf}
 
 block : Entry → List ℕ
 block e = nodeBytes (nodeOf e)

@@ -13,21 +13,16 @@ use Rattle.bvh2.specs.Decoded.{Subtree}
 use Rattle.cost.specs.Table.{wordOf}
 use Rattle.cost.specs.Rows.{Holds}
 use Rattle.children.specs.Gather.{gather}
-use Rattle.order.specs.Assign.{childOf}
 use Rattle.order.specs.Order.{slotsOf, placed}
 use Rattle.wide.specs.Wide.{Slots, Wide}
 use Rattle.wide.specs.Sizes.{innerChildren, nodesBelow, ownCount, countBelow}
-use Rattle.wide.specs.Layout.{Entry, nodes, indexCount, indexList}
+use Rattle.wide.specs.Layout.{Entry, nodes, indexCount, indexList, wordsAt}
 use Rattle.wide.specs.Conversion.{State, writePositions}
-use Rattle.wide_tree.specs.WideTree.{Placing, rootSlots, wideOf}
+use Rattle.wide_tree.specs.WideTree.{rootSlots}
+use Rattle.wide_tree.specs.Ordered.{placing, wideTree}
 use Rattle.node.specs.Node.{nodeBytes}
 use Rattle.record.specs.Record.{nodeOf, recordBytes}
-use Rattle.emit.specs.Leaves.{wordsAt}
 use Rattle.emit_tree.specs.declared.Next.{Next}
-
--- which child stands in which slot, with ordering on or off
-abbrev pub placing : Bool → Placing
-placing ordered box boxes slot = childOf (slotsOf ordered box boxes) slot
 
 -- the numbers of a node's children by slots, all ones in a slot without a child
 unfoldable pub slotWords : Bool → ℕ → Tree ℕ → List ℕ
@@ -89,7 +84,7 @@ pub record Emits (ws ds : List ℕ) (n d v : ℕ) (ordered : Bool) (m l i : ℕ)
 
 -- the wide tree of the words
 abbrev pub wideAt : List ℕ → Bool → ℕ → Wide
-wideAt ws ordered limit = wideOf (placing ordered) limit (treeOf ws)
+wideAt ws ordered limit = wideTree ordered limit (treeOf ws)
 
 -- what emission of a whole tree of n leaves asks
 pub record Whole (ws ds : List ℕ) (n : ℕ) (ordered : Bool) (m l : ℕ) : Type 0 where

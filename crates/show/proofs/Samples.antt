@@ -5,7 +5,7 @@ use Prim.Native.Nat.{ℕ}
 use lib.ListN.{replicate}
 use Rattle.text.specs.Text.{chars, digits, decimal, hexDigit, hex}
 use Rattle.words.specs.Le.{leAt, sumOf}
-use Rattle.show.specs.Input.{wordsAt}
+use Rattle.show.specs.Input.{inputWords}
 use Rattle.show.specs.Show.{nodeLine, nodeLines, spaced, indicesLine, recordText, numbered, refusalText, soundText}
 
 -- tree T's one node at leaf limit 3, order 0, a row to a field or two
@@ -45,6 +45,6 @@ sample-sound : soundText 31 ≡ chars "sound 31\n"
 unfolding numbered chars decimal digits
 sample-sound = refl
 
-sample-words : wordsAt (9 ∷ 2 ∷ 0 ∷ 0 ∷ 0 ∷ 1 ∷ 2 ∷ 3 ∷ 4 ∷ []) 1 2 ≡ 2 ∷ 0x0403_0201 ∷ []
-unfolding wordsAt leAt sumOf
+sample-words : inputWords (9 ∷ 2 ∷ 0 ∷ 0 ∷ 0 ∷ 1 ∷ 2 ∷ 3 ∷ 4 ∷ []) 1 2 ≡ 2 ∷ 0x0403_0201 ∷ []
+unfolding inputWords leAt sumOf
 sample-words = refl

@@ -6,13 +6,13 @@ ghost use lib.ListN.{length, take};
 ghost use Rattle.lists.specs.Splice.{splice};
 ghost use Rattle.text.specs.Put.{Put};
 ghost use Rattle.text.specs.Text.{chars, decimal};
-ghost use Rattle.show.specs.Input.{wordsAt};
+ghost use Rattle.show.specs.Input.{inputWords};
 ghost use Rattle.show.specs.Show.{nodeLine, nodeLines, spaced, indicesLine, recordText, numbered, refusalText, soundText, unsoundText};
 
 // Reads words from a place of the input on.
 pub fn read_words(input: &[u8], from: usize, count: usize, words: &mut [u32])
     requires { ⌜ (from + 4 * count ≤ length (now input)) × (count ≤ length (now words)) ⌝ }
-    ensures { λ _. ⌜ now (words .exit) ≡ splice (now (words .entry)) 0 (wordsAt (now (input .entry)) from count) ⌝ }
+    ensures { λ _. ⌜ now (words .exit) ≡ splice (now (words .entry)) 0 (inputWords (now (input .entry)) from count) ⌝ }
 {
     for k in 0..count {
         words[k] = words::load_u32(input, from + 4 * k);

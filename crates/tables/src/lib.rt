@@ -8,7 +8,8 @@ ghost use Rattle.bvh2.specs.FirstCause.{structureCause};
 ghost use Rattle.cost.specs.Table.{wordOf, costOf};
 ghost use Rattle.tables.specs.Tables.{tableSize, recordSize, hasRoom, prepareCause, cleared, tabled, workAfter};
 
-fn clear_words(s: &mut [u32], k: usize)
+// Zeroes the first k decision words.
+pub fn clear_words(s: &mut [u32], k: usize)
     requires { ⌜ k ≤ length (now s) ⌝ }
     ensures { λ _. ⌜ now (s .exit) ≡ cleared 0 k (now (s .entry)) ⌝ }
 {
@@ -19,7 +20,8 @@ fn clear_words(s: &mut [u32], k: usize)
     }
 }
 
-fn clear_costs(s: &mut [f32], k: usize)
+// Zeroes the first k costs.
+pub fn clear_costs(s: &mut [f32], k: usize)
     requires { ⌜ k ≤ length (now s) ⌝ }
     ensures { λ _. ⌜ now (s .exit) ≡ cleared plusZero k (now (s .entry)) ⌝ }
 {

@@ -4,13 +4,13 @@ use mathlib.Core.List.{[], _∷_}
 use native.Mathlib.Nat.{add-zero, sub-zero}
 use native.Mathlib.Omega.{arith}
 use Rattle.text.proofs.Put.{put-one, Rest, rest-all, rest-put, rest-none}
-use Rattle.show.specs.Input.{wordsAt}
+use Rattle.show.specs.Input.{inputWords}
 use Rattle.show.proofs.Words.{length-words, words-next, words-none}
 use Rattle.show.proofs.read_words.Statement.{statement}
 use Rattle.show.proofs.read_words.Tie as tie
 
 abbrev Inv-loop : tie.InvT-loop
-Inv-loop input from count words₀ k₀ words k = (k ≤ count) × Rest words₀ 0 (wordsAt input from count) k (wordsAt input (from + 4 * k) (count - k)) words
+Inv-loop input from count words₀ k₀ words k = (k ≤ count) × Rest words₀ 0 (inputWords input from count) k (inputWords input (from + 4 * k) (count - k)) words
 
 abbrev μ-loop : tie.MeasureT-loop
 μ-loop input from count words₀ k₀ words k = count - k
@@ -46,7 +46,7 @@ loop-again c =
     let i = c .before .before .loop in
     let a = c .before .before .before .before .before .args in
     let l = a .input .now in
-    let rest = wordsAt l (a .from + 4 * (i .k + 1)) (a .count - (i .k + 1)) in (
+    let rest = inputWords l (a .from + 4 * (i .k + 1)) (a .count - (i .k + 1)) in (
       omega arith,
       rest-put
           (i .inv .1)
