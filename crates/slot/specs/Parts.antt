@@ -1,5 +1,5 @@
 -- What the parts of the test of eight slots compute, for their contracts.
-use mathlib.Core.Bool.{Bool, false, cond}
+use mathlib.Core.Bool.{Bool, cond}
 use mathlib.Core.List.{List}
 use Prim.Native.Nat.{ℕ, _+_, _-_, _*_, _%_, _^_, _<_}
 use lib.Ieee.{Float, binary32, ofBits, le}
@@ -64,12 +64,12 @@ slotPasses s o e g near tmax k =
     g near tmax
 
 -- what slot k puts in, by the words of child bits and of indices
-unfoldable pub wordHit : List Bool → ℕ → ℕ → ℕ → ℕ
+unfoldable pub wordHit : (ℕ → Bool) → ℕ → ℕ → ℕ → ℕ
 unfolding field
-wordHit pass child index k = onlyIf (getD pass k false) ((field 8 k child * 2 ^ field 8 k index) % 2 ^ 32)
+wordHit pass child index k = onlyIf (pass k) ((field 8 k child * 2 ^ field 8 k index) % 2 ^ 32)
 
 -- the first n slots
-unfoldable pub wordMask : ℕ → List Bool → ℕ → ℕ → ℕ
+unfoldable pub wordMask : ℕ → (ℕ → Bool) → ℕ → ℕ → ℕ
 unfolding orOf wordHit
 wordMask n pass child index = orOf n (wordHit pass child index)
 

@@ -1,9 +1,8 @@
 // Internal: a ray against the eight slot boxes of a node, as a mask of children and positions (cwbvh/node.rs).
 ghost use mathlib.Core.Path.{_≡_};
-ghost use mathlib.Core.Bool.{Bool, false};
-ghost use Prim.Native.Nat.{ℕ, _+_, _-_, _%_, _≤_, _<_};
+ghost use Prim.Native.Nat.{_+_, _-_, _%_, _≤_, _<_};
 ghost use lib.Bits.{bitXor};
-ghost use lib.ListN.{length, getD};
+ghost use lib.ListN.{length};
 ghost use Rattle.node.specs.Node.{nodeFrom, childIndex};
 ghost use Rattle.slot.specs.Slot.{planeAt};
 ghost use Rattle.slot.specs.Mask.{hitMask};
@@ -114,29 +113,24 @@ fn slot_passes(s: &[u8], o: usize, e: Ends, g: Grid, near: f32, tmax: f32, k: us
     box_passes(nx, ny, nz, fx, fy, fz, g, near, tmax)
 }
 
-// Which of the eight slots the ray passes.
-fn slots_passed(s: &[u8], o: usize, e: Ends, g: Grid, near: f32, tmax: f32) -> [bool; 8]
-    requires { ⌜ (o + 80 ≤ length (now s)) × (e .x < 2) × (e .y < 2) × (e .z < 2) ⌝ }
-    ensures { λ r. ⌜ ((k : ℕ) → k < 8 → getD r k false ≡ slotPasses (now (s .entry)) o e g near tmax k) ⌝ }
-{
-    let mut pass = [false; 8];
-    let mut k: usize = 0;
-    while k < 8 {
-        pass[k] = slot_passes(s, o, e, g, near, tmax, k);
-        k += 1;
-    }
-    pass
-}
-
-// The bits of the slots passed, each at its index.
-fn hit_mask(pass: &[bool; 8], child8: u64, index8: u64) -> u32
-    requires { ⌜ Placed index8 ⌝ }
-    ensures { λ r. ⌜ r ≡ wordMask 8 (now (pass .entry)) child8 index8 ⌝ }
+// The bits of the slots that the ray passes, each at its index. Test and mask stand in one loop, which compiles to no branch.
+fn hit_mask(
+    s: &[u8],
+    o: usize,
+    e: Ends,
+    g: Grid,
+    near: f32,
+    tmax: f32,
+    child8: u64,
+    index8: u64,
+) -> u32
+    requires { ⌜ (o + 80 ≤ length (now s)) × (e .x < 2) × (e .y < 2) × (e .z < 2) × Placed index8 ⌝ }
+    ensures { λ r. ⌜ r ≡ wordMask 8 (slotPasses (now (s .entry)) o e g near tmax) child8 index8 ⌝ }
 {
     let mut mask: u32 = 0;
     let mut k: u32 = 0;
     while k < 8 {
-        if pass[k as usize] {
+        if slot_passes(s, o, e, g, near, tmax, k as usize) {
             mask |= words::byte(child8, k) << words::byte(index8, k);
         }
         k += 1;
@@ -154,9 +148,8 @@ pub fn intersect_ray(s: &[u8], o: usize, ray: Ray, octant: u32) -> u32
     let y = near_end(ray.direction.y);
     let z = near_end(ray.direction.z);
     let e = Ends { x, y, z };
-    let pass = slots_passed(s, o, e, g, EPSILON, ray.tmax);
     let bits = decode::get_child_and_index_bits(node::metas(s, o), octant);
-    hit_mask(&pass, bits.child, bits.index)
+    hit_mask(s, o, e, g, EPSILON, ray.tmax, bits.child, bits.index)
 }
 
 // The number of the child that a bit of a hit mask stands for. The low byte of group is the node's imask, above which hit bits may stand:

@@ -1,7 +1,7 @@
 use mathlib.Core.Path.{_∙_}
+use native.Mathlib.Omega.{arith}
 use Rattle.slot.proofs.Boxes.{limit-is}
 use Rattle.slot.proofs.Masks.{placed, mask-whole}
-use Rattle.slot.proofs.Masks.{placed}
 use borrow.Author.Needs.{needs}
 use Rattle.slot.proofs.intersect_ray.Statement.{statement}
 use Rattle.slot.proofs.intersect_ray.Tie as tie
@@ -18,9 +18,6 @@ near-end-requires-2 c κs = search needs
 near-end-requires-3 : tie.Need-near-end-requires-3
 near-end-requires-3 c κs = search needs
 
-slots-passed-requires : tie.Need-slots-passed-requires
-slots-passed-requires c κs = search needs
-
 metas-requires : tie.Need-metas-requires
 metas-requires c κs = search needs
 
@@ -28,21 +25,20 @@ get-child-and-index-bits-requires : tie.Need-get-child-and-index-bits-requires
 get-child-and-index-bits-requires c κs = search needs
 
 hit-mask-requires : tie.Need-hit-mask-requires
-hit-mask-requires c κs = rw (c .before .get-child-and-index-bits .ensures .1) (placed _ _ (c .before .before .before .before .before .before .before .before .before .pre .1))
+hit-mask-requires c κs = (omega arith, omega arith, omega arith, omega arith, rw (c .get-child-and-index-bits .ensures .1) (placed _ _ (omega arith)))
 
 returns : tie.Need-returns
 returns c =
-    let b = c .before .before in
+    let b = c .before in
     let m = b .before in
-    let p = m .before in
-    let z = p .before in
+    let z = m .before in
     let y = z .before in
     let x = y .before in
     let g = x .before in
     let o = g .before .before in
     c .hit-mask .ensures
-    ∙ mask-whole (o .args .s .now) (o .args .o) (o .args .ray) (o .args .octant) _ (g .ray-in-grid .result) _ (p .slots-passed .result) (m .metas .result) _ _ (o .pre .1)
-    (rw (z .near-end3 .ensures .0, y .near-end2 .ensures .0, x .near-end .ensures .0)) (g .ray-in-grid .ensures) (limit-is (o .args .ray)) (p .slots-passed .ensures) (m .metas .ensures)
+    ∙ mask-whole (o .args .s .now) (o .args .o) (o .args .ray) (o .args .octant) _ (g .ray-in-grid .result) _ (m .metas .result) _ _ (o .pre .1)
+    (rw (z .near-end3 .ensures .0, y .near-end2 .ensures .0, x .near-end .ensures .0)) (g .ray-in-grid .ensures) (limit-is (o .args .ray)) (m .metas .ensures)
     (b .get-child-and-index-bits .ensures .0) (b .get-child-and-index-bits .ensures .1)
 
 pub intersect-ray-spec : {M : Type 1} → statement M
@@ -53,7 +49,6 @@ intersect-ray-spec =
     near-end-requires
     near-end-requires-2
     near-end-requires-3
-    slots-passed-requires
     metas-requires
     get-child-and-index-bits-requires
     hit-mask-requires
