@@ -5,3 +5,7 @@ pub mod Gather
 pub mod Subtrees
 pub mod Once
 pub mod Levels
+pub mod Valid
+pub mod Listing
+pub mod Ends
+pub mod AnyHit

@@ -1,15 +1,15 @@
 -- Laws of members, sums over lists and joined lists.
 use mathlib.Core.List.{List, [], _∷_, _++_}
 use mathlib.Core.Logic.{_⊎_, inl, inr}
-use mathlib.Core.Path.{_≡_, refl, sym, ap, ap₂}
+use mathlib.Core.Path.{_≡_, refl, sym, ap, ap₂, _∙_}
 use Prim.Native.Nat.{ℕ, zero, suc, _+_, _*_, _≤_, _<_}
 use native.Mathlib.Nat.{mul-le-mul-right}
 use native.Mathlib.Omega.{arith}
 use lib.ListN.{length}
-use Rattle.lists.specs.Counts.{count, upto}
+use Rattle.lists.specs.Counts.{same, count, upto}
 use Rattle.lists.specs.Sums.{sum, sumOver}
 use Rattle.lists.proofs.Counts.{same-self, same-one, count-append, Some, none, some, some?}
-use Rattle.lists.proofs.Sums.{sum-front, sum-counted}
+use Rattle.lists.proofs.Sums.{sum-cong, sum-front, sum-counted}
 use Rattle.walk.specs.Listing.{In, joined, flat}
 
 -- ---- members
@@ -56,10 +56,15 @@ unfolding sumOver
 sum-over-cong f g [] h = refl
 sum-over-cong f g (x ∷ l) h = ap₂ _+_ (h x (in-head x l)) (sum-over-cong f g l (λ y i. h y (in-tail y x l i)))
 
-pub sum-over-mono : (f g : ℕ → ℕ) (l : List ℕ) → ((x : ℕ) → f x ≤ g x) → sumOver f l ≤ sumOver g l
+pub sum-over-mono : (f g : ℕ → ℕ) (l : List ℕ) → ((x : ℕ) → In x l → f x ≤ g x) → sumOver f l ≤ sumOver g l
 unfolding sumOver
 sum-over-mono f g [] h = omega arith
-sum-over-mono f g (x ∷ l) h = omega (arith, h x, sum-over-mono f g l h)
+sum-over-mono f g (x ∷ l) h = omega (arith, h x (in-head x l), sum-over-mono f g l (λ y i. h y (in-tail y x l i)))
+
+pub sum-same : (x : ℕ) (l : List ℕ) → sumOver (λ y. same x y) l ≡ count x l
+unfolding sumOver count
+sum-same x [] = refl
+sum-same x (y ∷ l) = omega (arith, sum-same x l)
 
 -- a member's value is at most the sum, and a sum that is not zero has a member whose value is not
 pub sum-over-term : (f : ℕ → ℕ) (x : ℕ) (l : List ℕ) → In x l → f x ≤ sumOver f l
@@ -97,19 +102,19 @@ sum-over-part n f a b h z =
     let q = sum-counted n f b z in
     omega (arith, sum-le (λ x. count x a * f x) (λ x. count x b * f x) n (λ j. mul-le-mul-right (f j) (h j)))
 
--- the numbers below n
-pub sum-upto : (f : ℕ → ℕ) (a n : ℕ) → sumOver f (upto a n) ≡ sum (λ j. f (a + j)) n
+-- over the numbers from a on
+sum-from : (f : ℕ → ℕ) (a n : ℕ) → sumOver f (upto a n) ≡ sum (λ j. f (a + j)) n
 unfolding sumOver upto sum
-sum-upto f a zero = refl
-sum-upto f a (suc n) =
+sum-from f a zero = refl
+sum-from f a (suc n) =
     let e : a + 0 ≡ a = omega arith in
-    let i = sum-upto f (suc a) n in
-    let c : sum (λ j. f (suc a + j)) n ≡ sum (λ j. f (a + suc j)) n = shift n in
+    let i = sum-from f (suc a) n in
+    let c = sum-cong (λ j. f (suc a + j)) (λ j. f (a + suc j)) n (λ j h. let e : suc a + j ≡ a + suc j = omega arith in ap f e) in
     rw (sum-front (λ j. f (a + j)) n, e) (omega arith)
-  where
-    shift : (k : ℕ) → sum (λ j. f (suc a + j)) k ≡ sum (λ j. f (a + suc j)) k
-    shift zero = refl
-    shift (suc k) = let e : suc a + k ≡ a + suc k = omega arith in ap₂ _+_ (shift k) (ap f e)
+
+-- over the numbers below n
+pub sum-upto : (f : ℕ → ℕ) (n : ℕ) → sumOver f (upto 0 n) ≡ sum f n
+sum-upto f n = sum-from f 0 n ∙ sum-cong (λ j. f (0 + j)) f n (λ j h. let e : 0 + j ≡ j = omega arith in ap f e)
 
 -- ---- joined lists
 

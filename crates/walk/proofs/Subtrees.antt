@@ -53,14 +53,11 @@ module _ (S : Shape) (Rule : ℕ → Type 0) (place : (v : ℕ) → v < S .nodes
   ranges : List ℕ
   ranges = flat (childRange S) (upto 0 (S .nodes))
 
-  over-nodes : (f : ℕ → ℕ) → sumOver f (upto 0 (S .nodes)) ≡ sum f (S .nodes)
-  over-nodes f = sum-upto f 0 (S .nodes) ∙ sum-cong (λ j. f (0 + j)) f (S .nodes) (λ j h. let e : 0 + j ≡ j = omega arith in ap f e)
-
   ranges-count : (x : ℕ) → count x ranges ≡ parents S (S .nodes) x
   unfolding ranges
   ranges-count x =
       count-flat x (childRange S) (upto 0 (S .nodes))
-      ∙ over-nodes (λ v. count x (childRange S v))
+      ∙ sum-upto (λ v. count x (childRange S v)) (S .nodes)
       ∙ sum-cong (λ v. count x (childRange S v)) (λ v. inRange x (S .base v) (S .children v)) (S .nodes) (λ v h. count-range x (S .base v) (S .children v))
 
   -- with the first node in front each node stands there once, and no other number
@@ -86,7 +83,7 @@ module _ (S : Shape) (Rule : ℕ → Type 0) (place : (v : ℕ) → v < S .nodes
       let all = sum-renumbered (S .nodes) (total S w) (0 ∷ ranges) once (λ x l. past x l h) in
       let each = sum-cong (total S w) (λ v. w v + sumOver (total S w) (childRange S v)) (S .nodes) (total-is w) in
       let both = sum-add w (λ v. sumOver (total S w) (childRange S v)) (S .nodes) in
-      let below = sum-flat (total S w) (childRange S) (upto 0 (S .nodes)) ∙ over-nodes (λ v. sumOver (total S w) (childRange S v)) in
+      let below = sum-flat (total S w) (childRange S) (upto 0 (S .nodes)) ∙ sum-upto (λ v. sumOver (total S w) (childRange S v)) (S .nodes) in
       omega (arith, all, each, both, below)
 
   pub total-ones : 0 < S .nodes → total S (λ v. 1) 0 ≡ S .nodes

@@ -2,6 +2,7 @@
 use mathlib.Core.Bool.{true, false}
 use mathlib.Core.Path.{_≡_}
 use Prim.Native.Nat.{ℕ, _≤_, _<_}
+use lib.ListN.{length}
 use Rattle.lists.specs.Counts.{count}
 use Rattle.soundness.specs.Range.{inRange}
 use Rattle.soundness.specs.Shape.{Shape, held, Placed}
@@ -17,3 +18,7 @@ pub record Lawful {s d : Type 0} (S : Shape) (Rule : ℕ → Type 0) (T : Tests 
   pub own-children : (ray : s) (v c : ℕ) → T .forged ray ≡ false → v < S .nodes → Rule v → count c (T .children ray v) ≤ inRange c (S .base v) (S .children v)
   -- telling makes no ray a forged one
   pub told-accepted : (x : d) (ray : s) → T .forged ray ≡ false → T .forged (T .told x ray) ≡ false
+
+-- a node that meets the rule has at most 24 positions
+abbrev pub Narrow : {s d : Type 0} → ℕ → Tests s d → Type 0
+Narrow {s} m T = (ray : s) (n v : ℕ) → T .forged ray ≡ false → v < m → T .rule n v ≡ true → length (T .positions ray v) ≤ 24

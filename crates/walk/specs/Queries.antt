@@ -109,3 +109,26 @@ module _ {s d : Type 0} (pane : ℕ → s → Pane d) (nearer : d → s → Bool
 
     abbrev pub missOf : Outcome s (Found d)
     missOf = query m T miss (stepsFor m) n (fresh ray) none
+
+-- ---- how a query ends
+
+-- there is a next step
+abbrev pub Going : Answer → Type 0
+Going (tested v) = Unit {0}
+Going (position p) = Unit {0}
+Going done = ⊥
+Going (refused e) = ⊥
+
+-- it has ended: done, refused, or stopped at a position
+abbrev pub Halted : Answer → Type 0
+Halted (tested v) = ⊥
+Halted (position p) = Unit {0}
+Halted done = Unit {0}
+Halted (refused e) = Unit {0}
+
+-- it has ended without a refusal by the walk
+abbrev pub Ended : Answer → Type 0
+Ended (tested v) = ⊥
+Ended (position p) = Unit {0}
+Ended done = Unit {0}
+Ended (refused e) = ⊥
