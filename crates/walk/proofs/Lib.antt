@@ -9,3 +9,6 @@ pub mod Valid
 pub mod Listing
 pub mod Ends
 pub mod AnyHit
+pub mod Falling
+pub mod Slots
+pub mod Demands

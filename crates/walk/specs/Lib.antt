@@ -4,3 +4,4 @@ pub mod Calls
 pub mod Listing
 pub mod Queries
 pub mod Lawful
+pub mod Slots
