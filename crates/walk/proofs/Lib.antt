@@ -12,3 +12,6 @@ pub mod AnyHit
 pub mod Falling
 pub mod Slots
 pub mod Demands
+pub mod Words
+pub mod Stacks
+pub mod WordStep

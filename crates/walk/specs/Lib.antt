@@ -5,3 +5,5 @@ pub mod Listing
 pub mod Queries
 pub mod Lawful
 pub mod Slots
+pub mod Words
+pub mod WordStep
