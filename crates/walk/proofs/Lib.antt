@@ -15,3 +15,7 @@ pub mod Demands
 pub mod Words
 pub mod Stacks
 pub mod WordStep
+pub mod WordRuns
+pub mod Masks
+pub mod WordQueries
+pub mod WordDemands

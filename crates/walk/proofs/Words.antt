@@ -40,7 +40,7 @@ cut-bit t j n h = ap (λ (x : ℕ). field 1 j (n % 2 ^ x)) (sym (mul-one t)) ∙
 pub cut-set : (t j n : ℕ) → j < t → isSet j (n % 2 ^ t) ≡ isSet j n
 cut-set t j n h = ap (λ (x : ℕ). eqb x 1) (cut-bit t j n h)
 
-cut-rank : (t j n : ℕ) → j ≤ t → onesBelow j (n % 2 ^ t) ≡ onesBelow j n
+pub cut-rank : (t j n : ℕ) → j ≤ t → onesBelow j (n % 2 ^ t) ≡ onesBelow j n
 unfolding onesBelow
 cut-rank t zero n h = refl
 cut-rank t (suc j) n h = omega (arith, rank-step j (n % 2 ^ t), rank-step j n, cut-bit t j n (omega arith), cut-rank t j n (omega arith))

@@ -7,3 +7,5 @@ pub mod Lawful
 pub mod Slots
 pub mod Words
 pub mod WordStep
+pub mod Masks
+pub mod WordQueries
