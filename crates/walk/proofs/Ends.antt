@@ -21,8 +21,8 @@ use Rattle.walk.proofs.Valid.{Valid, step-valid, step-answered, tell-va
 
 module _ {s d a : Type 0} (m : ℕ) (T : Tests s d) (react : ℕ → s → a → Reaction d a) (P : Outcome s a → Type 0) where
   pub follow-cases : (b : Answer) (u : Walker s) (x : a) (go : Walker s → a → Outcome s a)
-      → (Going b → (l : List d) (y : a) → P (go (toldAll m T react l u) y))
-      → ((p : ℕ) (l : List d) (y : a) → P (record { walker = toldAll m T react l u; noted = y; ended = position p }))
+      → (Going b → (l : List d) (y : a) → P (go (toldAll T l u) y))
+      → ((p : ℕ) (l : List d) (y : a) → P (record { walker = toldAll T l u; noted = y; ended = position p }))
       → P (record { walker = u; noted = x; ended = done })
       → ((e : ℕ) → b ≡ refused e → P (record { walker = u; noted = x; ended = refused e }))
       → P (follow m T react b u x go)
@@ -51,7 +51,7 @@ module _ {s d : Type 0} (m : ℕ) (T : Tests s d) (narrow : Narrow m T) where
       })
 
   module _ {a : Type 0} (react : ℕ → s → a → Reaction d a) where
-    pub told-left : (l : List d) (w : Walker s) → stepsLeft m (toldAll m T react l w) ≡ stepsLeft m w
+    pub told-left : (l : List d) (w : Walker s) → stepsLeft m (toldAll T l w) ≡ stepsLeft m w
     told-left [] w = refl
     told-left (x ∷ l) w = told-left l (tellOf T x w)
 
@@ -62,7 +62,7 @@ module _ {s d : Type 0} (m : ℕ) (T : Tests s d) (narrow : Narrow m T) where
     halts zero n w x h = absurd (omega arith)
     halts (suc f) n w x h =
         follow-cases m T react (λ (o : Outcome s a). Halted (o .ended)) (stepOf m T n w .answer) (stepOf m T n w .walker) x (query m T react f n)
-        (λ g l y. halts f n (toldAll m T react l (stepOf m T n w .walker)) y (omega (arith, step-falls n w g, told-left l (stepOf m T n w .walker))))
+        (λ g l y. halts f n (toldAll T l (stepOf m T n w .walker)) y (omega (arith, step-falls n w g, told-left l (stepOf m T n w .walker))))
         (λ p l y. tt) tt (λ e z. tt)
 
     -- a query from a walker just begun ends within the steps that it is given
@@ -83,15 +83,15 @@ module _ {s d : Type 0} (m : ℕ) (T : Tests s d) (narrow : Narrow m T) where
         go (position p) u l i =
             let r : Reaction d a = react p (u .ray) x in
             let z = told-left (r .tells) u in
-            ap (λ (o : Outcome s a). cond (r .stop) (record { walker = toldAll m T react (r .tells) u; noted = r .noted; ended = position p }) o)
-            (i (toldAll m T react (r .tells) u) (r .noted) (omega (arith, l tt)) (omega (arith, l tt)))
+            ap (λ (o : Outcome s a). cond (r .stop) (record { walker = toldAll T (r .tells) u; noted = r .noted; ended = position p }) o)
+            (i (toldAll T (r .tells) u) (r .noted) (omega (arith, l tt)) (omega (arith, l tt)))
         go done u l i = refl
         go (refused e) u l i = refl
 
 -- ---- a query is its list of calls
 
 module _ {s d a : Type 0} (m : ℕ) (T : Tests s d) (react : ℕ → s → a → Reaction d a) where
-  tell-run : (l : List d) (k : List (Op d)) (w : Walker s) → runOps m T (tellings m T react l ++ k) w ≡ runOps m T k (toldAll m T react l w)
+  tell-run : (l : List d) (k : List (Op d)) (w : Walker s) → runOps m T (tellings l ++ k) w ≡ runOps m T k (toldAll T l w)
   unfolding runOps
   tell-run [] k w = refl
   tell-run (x ∷ l) k w = tell-run l k (tellOf T x w)
@@ -108,17 +108,17 @@ module _ {s d a : Type 0} (m : ℕ) (T : Tests s d) (react : ℕ → s → a →
       go (position p) v h = rw tell-run (stopped (react p (v .ray) x))
         where
           stopped : (r : Reaction d a)
-              → runOps m T (cond (r .stop) [] (calls m T react f n (toldAll m T react (r .tells) v) (r .noted))) (toldAll m T react (r .tells) v) .walker
-              ≡ cond (r .stop) (record { walker = toldAll m T react (r .tells) v; noted = r .noted; ended = position p })
-              (query m T react f n (toldAll m T react (r .tells) v) (r .noted)) .walker
+              → runOps m T (cond (r .stop) [] (calls m T react f n (toldAll T (r .tells) v) (r .noted))) (toldAll T (r .tells) v) .walker
+              ≡ cond (r .stop) (record { walker = toldAll T (r .tells) v; noted = r .noted; ended = position p })
+              (query m T react f n (toldAll T (r .tells) v) (r .noted)) .walker
           stopped r = by (r .stop)
             where
               by : (t : Bool)
-                  → runOps m T (cond t [] (calls m T react f n (toldAll m T react (r .tells) v) (r .noted))) (toldAll m T react (r .tells) v) .walker
-                  ≡ cond t (record { walker = toldAll m T react (r .tells) v; noted = r .noted; ended = position p })
-                  (query m T react f n (toldAll m T react (r .tells) v) (r .noted)) .walker
+                  → runOps m T (cond t [] (calls m T react f n (toldAll T (r .tells) v) (r .noted))) (toldAll T (r .tells) v) .walker
+                  ≡ cond t (record { walker = toldAll T (r .tells) v; noted = r .noted; ended = position p })
+                  (query m T react f n (toldAll T (r .tells) v) (r .noted)) .walker
               by true = refl
-              by false = h (toldAll m T react (r .tells) v) (r .noted)
+              by false = h (toldAll T (r .tells) v) (r .noted)
       go done v h = refl
       go (refused e) v h = refl
 
@@ -126,7 +126,7 @@ module _ {s d a : Type 0} (m : ℕ) (T : Tests s d) (react : ℕ → s → a →
 
 module _ {s d a : Type 0} (S : Shape) (Rule : ℕ → Type 0) (T : Tests s d) (L : Lawful S Rule T) (sound : Sound S Rule)
     (few-positions : S .positions ≤ 65536) (few-nodes : S .nodes ≤ 65535) (react : ℕ → s → a → Reaction d a) where
-  told-valid : (l : List d) (w : Walker s) → Valid S Rule T L sound w → Valid S Rule T L sound (toldAll (S .nodes) T react l w)
+  told-valid : (l : List d) (w : Walker s) → Valid S Rule T L sound w → Valid S Rule T L sound (toldAll T l w)
   told-valid [] w v = v
   told-valid (x ∷ l) w v = told-valid l (tellOf T x w) (tell-valid S Rule T L sound x w v)
 
@@ -138,7 +138,7 @@ module _ {s d a : Type 0} (S : Shape) (Rule : ℕ → Type 0) (T : Tests s d) (L
   ends (suc f) w x v =
       follow-cases (S .nodes) T react (λ (o : Outcome s a). Halted (o .ended) → Ended (o .ended))
       (stepOf (S .nodes) T (S .positions) w .answer) (stepOf (S .nodes) T (S .positions) w .walker) x (query (S .nodes) T react f (S .positions))
-      (λ g l y. ends f (toldAll (S .nodes) T react l (stepOf (S .nodes) T (S .positions) w .walker)) y
+      (λ g l y. ends f (toldAll T l (stepOf (S .nodes) T (S .positions) w .walker)) y
       (told-valid l (stepOf (S .nodes) T (S .positions) w .walker) (step-valid S Rule T L sound (S .positions) w v)))
       (λ p l y h. h) (λ h. h)
       (λ e z h. absurd (subst Answered z (step-answered S Rule T L sound few-positions few-nodes w v)))

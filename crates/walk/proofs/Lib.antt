@@ -19,3 +19,4 @@ pub mod WordRuns
 pub mod Masks
 pub mod WordQueries
 pub mod WordDemands
+pub mod WordKept

@@ -10,7 +10,7 @@ use Rattle.words.specs.Ones.{onesBelow}
 use Rattle.words.specs.Fields.{field}
 use Rattle.words.proofs.Ranks.{bit-is}
 use Rattle.node.specs.Node.{childIndex}
-use Rattle.walk.specs.Slots.{Slots, childAt, passedChild, passedPosition, positionsOf, childrenOf, testsOf}
+use Rattle.walk.specs.Slots.{Slots, childAt, passedChild, passedPosition, positionsOf, childrenOf}
 use Rattle.walk.specs.Words.{isSet, positionsIn, childrenIn}
 use Rattle.walk.specs.WordStep.{passedPositions, passedChildren, Decodes}
 use Rattle.walk.specs.Masks.{wordsOf, MaskLaws}
@@ -26,14 +26,14 @@ high-set k a b e = ap (λ (x : ℕ). eqb x 1) (digit a ∙ ap (λ (x : ℕ). x /
 
 module _ {s d : Type 0} (W : Slots s d) (mask : s → ℕ → ℕ) (H : MaskLaws W mask) where
   positions-are : (ray : s) (n v : ℕ) → W .forged ray ≡ false → v < W .shape .nodes → W .rule n v ≡ true
-      → positionsIn (passedPositions (W .shape .nodes) (testsOf W) (wordsOf W mask) ray v) ≡ positionsOf W ray v
+      → positionsIn (passedPositions (wordsOf W mask) ray v) ≡ positionsOf W ray v
   positions-are ray n v f h r =
       falling-cut (λ b. W .positionBase v + b) (λ b. isSet b (mask ray v % 0x100_0000)) 24 32 (omega arith) (λ i x y. past-clear 24 i (mask ray v % 0x100_0000) (omega arith) x)
       ∙ falling-same (λ b. W .positionBase v + b) (λ b. W .positionBase v + b) (λ b. isSet b (mask ray v % 0x100_0000)) (λ b. passedPosition W ray v (W .positionBase v + b)) 24
       (λ b l. cut-set 24 b (mask ray v) l ∙ H .position-bit ray n v b f h r l) (λ i l e. refl)
 
   children-are : (ray : s) (n v : ℕ) → W .forged ray ≡ false → v < W .shape .nodes → W .rule n v ≡ true
-      → childrenIn (W .octant ray) (passedChildren (W .shape .nodes) (testsOf W) (wordsOf W mask) ray v) ≡ childrenOf W ray v
+      → childrenIn (W .octant ray) (passedChildren (wordsOf W mask) ray v) ≡ childrenOf W ray v
   unfolding childIndex
   children-are ray n v f h r =
       falling-same (λ k. childIndex (W .shape .base v) (bits) (bitXor k (W .octant ray))) (λ k. childAt W v (bitXor k (W .octant ray)))
@@ -49,7 +49,7 @@ module _ {s d : Type 0} (W : Slots s d) (mask : s → ℕ → ℕ) (H : MaskLaws
           let e : (mask ray v / 0x100_0000 * 0x100_0000 + W .imask v) % 2 ^ 24 ≡ W .imask v = omega (arith, H .imask-lt v) in
           sym (cut-rank 24 j (mask ray v / 0x100_0000 * 0x100_0000 + W .imask v) (omega arith)) ∙ ap (onesBelow j) e
 
-  pub masks-decode : Decodes (W .shape .nodes) (testsOf W) (wordsOf W mask)
+  pub masks-decode : Decodes (W .shape .nodes) (wordsOf W mask) (positionsOf W) (childrenOf W)
   masks-decode =
       record {
         octant-lt = H .octant-lt;

@@ -29,6 +29,9 @@ counted n k h f = go (some? n)
     go (none e) = omega arith
     go (some e) = omega (arith, f e)
 
+pub slots-narrow : {s d : Type 0} (W : Slots s d) (m : ℕ) → Narrow m (testsOf W)
+slots-narrow W m ray n v f h r = falling-length (λ b. W .positionBase v + b) (λ b. passedPosition W ray v (W .positionBase v + b)) 24
+
 module _ {s d : Type 0} (W : Slots s d) (Rule : ℕ → Type 0) (laws : SlotLaws W Rule) where
   -- ---- children
 
@@ -133,9 +136,6 @@ module _ {s d : Type 0} (W : Slots s d) (Rule : ℕ → Type 0) (laws : SlotLaws
         own-children = λ ray v c f h r. own-children ray v c f h;
         told-accepted = laws .told-accepted;
       }
-
-  pub slots-narrow : (m : ℕ) → Narrow m (testsOf W)
-  slots-narrow m ray n v f h r = falling-length (λ b. W .positionBase v + b) (λ b. passedPosition W ray v (W .positionBase v + b)) 24
 
   -- ---- reached and passed
 

@@ -16,7 +16,7 @@ use Rattle.walk.specs.Tests.{Tests}
 use Rattle.walk.specs.Step.{Stepped, refused, fresh, sizesFit, badPosition, tellOf}
 use Rattle.walk.specs.Calls.{Op, step, tell, Run, runOps}
 use Rattle.walk.specs.Words.{Group, packed, unpacked, positionsIn, childrenIn, groupsIn, restOf, firstPosition, firstChild, hasChild, waitingDepth}
-use Rattle.walk.specs.WordStep.{WalkerWords, SteppedWords, NodeWords, freshWords, forgedWords, onlyFirstWords, badChild, stayWords, afterReportWords, afterTestWords, visitWords, stepWords, tellWords, RunWords, runWords, decoded, InRange, Decodes}
+use Rattle.walk.specs.WordStep.{WalkerWords, SteppedWords, NodeWords, freshWords, forgedWords, onlyFirstWords, badChild, stayWords, afterReportWords, afterTestWords, visitWords, stepWords, tellWords, RunWords, runWords, decoded, InRange, testsWith, Decodes}
 use Rattle.walk.proofs.Cases.{cond-elim}
 use Rattle.walk.proofs.Words.{positions-none, children-none, children-first, rest-lt}
 use Rattle.walk.proofs.Stacks.{top-bits, pushed-length, pushed-words}
@@ -40,10 +40,13 @@ first-group o h =
     children-first o (record { base = 0; bits = 0x8000_0000 }) h (omega arith) (omega arith)
     ∙ ap₂ (λ (x : ℕ) (l : List ℕ). x ∷ l) (no-rank (bitXor 7 o) (xor-lt 3 7 o (omega arith) h)) (children-none o (record { base = 0; bits = 0 }) (omega arith))
 
-module _ {s d : Type 0} (m : ℕ) (T : Tests s d) (N : NodeWords s) (D : Decodes m T N) where
+module _ {s d : Type 0} (m : ℕ) (N : NodeWords s d) (ps cs : s → ℕ → List ℕ) (D : Decodes m N ps cs) where
+  abbrev T : Tests s d
+  T = testsWith N ps cs
+
   -- ---- words stay in range
 
-  test-range : (w : WalkerWords s) (g : Group) (e : ℕ) → InRange m T N w → g .bits < 2 ^ 32 → g .base < 2 ^ 32 → InRange m T N (afterTestWords m T N w g e .walker)
+  test-range : (w : WalkerWords s) (g : Group) (e : ℕ) → InRange w → g .bits < 2 ^ 32 → g .base < 2 ^ 32 → InRange (afterTestWords m N w g e .walker)
   test-range w g e i h b =
       record {
         positions = omega arith;
@@ -54,22 +57,22 @@ module _ {s d : Type 0} (m : ℕ) (T : Tests s d) (N : NodeWords s) (D : Decodes
       }
 
   abbrev StaysIn : SteppedWords s → Type 0
-  StaysIn r = InRange m T N (r .walker)
+  StaysIn r = InRange (r .walker)
 
-  visit-range : (n : ℕ) (w : WalkerWords s) (g : Group) (e : ℕ) → InRange m T N w → g .bits < 2 ^ 32 → g .base < 2 ^ 32 → StaysIn (visitWords m T N n w g e)
+  visit-range : (n : ℕ) (w : WalkerWords s) (g : Group) (e : ℕ) → InRange w → g .bits < 2 ^ 32 → g .base < 2 ^ 32 → StaysIn (visitWords m N n w g e)
   visit-range n w g e i h b =
-      cond-elim StaysIn (badChild m T N n w g e) (stayWords m T N w (refused 10)) (afterTestWords m T N w g e) (λ _. i) (λ _. test-range w g e i h b)
+      cond-elim StaysIn (badChild m N n w g e) (stayWords w (refused 10)) (afterTestWords m N w g e) (λ _. i) (λ _. test-range w g e i h b)
 
-  report-range : (w : WalkerWords s) → InRange m T N w → InRange m T N (afterReportWords m T N w .walker)
+  report-range : (w : WalkerWords s) → InRange w → InRange (afterReportWords w .walker)
   report-range w i =
       record { positions = rest-lt (w .positions) (i .positions); base = i .base; bits = i .bits; room = i .room; words = i .words }
 
-  pub step-range : (n : ℕ) (w : WalkerWords s) → InRange m T N w → InRange m T N (stepWords m T N n w .walker)
+  pub step-range : (n : ℕ) (w : WalkerWords s) → InRange w → InRange (stepWords m N n w .walker)
   unfolding stepWords
   step-range n w i =
       cond-elim StaysIn (sizesFit m n) _ _
-      (λ _. cond-elim StaysIn (forgedWords m T N w) _ _ (λ _. i)
-      (λ _. cond-elim StaysIn (leb m 0 && onlyFirstWords m T N w) _ _ (λ _. i)
+      (λ _. cond-elim StaysIn (forgedWords m N w) _ _ (λ _. i)
+      (λ _. cond-elim StaysIn (leb m 0 && onlyFirstWords m N w) _ _ (λ _. i)
       (λ _. cond-elim StaysIn (ltb 0 (w .positions .bits)) _ _
       (λ _. cond-elim StaysIn (badPosition m n (firstPosition (w .positions))) _ _ (λ _. i) (λ _. report-range w i))
       (λ _. cond-elim StaysIn (hasChild (w .current)) _ _ (λ _. visit-range n w (w .current) (w .depth) i (i .bits) (i .base))
@@ -81,10 +84,10 @@ module _ {s d : Type 0} (m : ℕ) (T : Tests s d) (N : NodeWords s) (D : Decodes
 
   -- ---- telling
 
-  pub tell-range : (x : d) (w : WalkerWords s) → InRange m T N w → InRange m T N (tellWords m T N x w)
+  pub tell-range : (x : d) (w : WalkerWords s) → InRange w → InRange (tellWords N x w)
   tell-range x w i = record { positions = i .positions; base = i .base; bits = i .bits; room = i .room; words = i .words }
 
-  pub tell-decoded : (x : d) (w : WalkerWords s) → decoded m T N (tellWords m T N x w) ≡ tellOf T x (decoded m T N w)
+  pub tell-decoded : (x : d) (w : WalkerWords s) → decoded N (tellWords N x w) ≡ tellOf T x (decoded N w)
   tell-decoded x w =
       ap (λ (o : ℕ). record {
         ray = T .told x (w .ray);
@@ -96,27 +99,27 @@ module _ {s d : Type 0} (m : ℕ) (T : Tests s d) (N : NodeWords s) (D : Decodes
 
   -- ---- a walker just begun
 
-  pub fresh-range : (r : s) → InRange m T N (freshWords r)
+  pub fresh-range : (r : s) → InRange (freshWords r)
   fresh-range r =
       record { positions = omega arith; base = omega arith; bits = omega arith; room = omega (arith, length-replicate {A = ℕ} capacity 0); words = λ i. omega (arith, zeros capacity i) }
 
-  pub fresh-decoded : (r : s) → T .forged r ≡ false → decoded m T N (freshWords r) ≡ fresh r
+  pub fresh-decoded : (r : s) → T .forged r ≡ false → decoded N (freshWords r) ≡ fresh r
   fresh-decoded r f =
       ap₂ (λ (l g : List ℕ). record { ray = r; tests = 0; positions = l; group = g; stack = [] })
       (positions-none (record { base = 0; bits = 0 }) refl) (first-group (N .octant r) (D .octant-lt r f))
 
   -- ---- lists of calls
 
-  abbrev pub decodedRun : RunWords m T N → Run s
-  decodedRun r = record { walker = decoded m T N (r .walker); answers = r .answers }
+  abbrev pub decodedRun : RunWords s → Run s
+  decodedRun r = record { walker = decoded N (r .walker); answers = r .answers }
 
-  pub run-decoded : (l : List (Op d)) (w : WalkerWords s) → InRange m T N w → decodedRun (runWords m T N l w) ≡ runOps m T l (decoded m T N w)
+  pub run-decoded : (l : List (Op d)) (w : WalkerWords s) → InRange w → decodedRun (runWords m N l w) ≡ runOps m T l (decoded N w)
   unfolding runWords runOps
   run-decoded [] w i = refl
   run-decoded (step n ∷ l) w i =
-      ap (λ (r : Run s). record { walker = r .walker; answers = stepWords m T N n w .answer ∷ r .answers }) (run-decoded l (stepWords m T N n w .walker) (step-range n w i))
-      ∙ ap (λ (r : Stepped s). record { walker = runOps m T l (r .walker) .walker; answers = r .answer ∷ runOps m T l (r .walker) .answers }) (step-decoded m T N D n w i)
-  run-decoded (tell x ∷ l) w i = run-decoded l (tellWords m T N x w) (tell-range x w i) ∙ ap (runOps m T l) (tell-decoded x w)
+      ap (λ (r : Run s). record { walker = r .walker; answers = stepWords m N n w .answer ∷ r .answers }) (run-decoded l (stepWords m N n w .walker) (step-range n w i))
+      ∙ ap (λ (r : Stepped s). record { walker = runOps m T l (r .walker) .walker; answers = r .answer ∷ runOps m T l (r .walker) .answers }) (step-decoded m N ps cs D n w i)
+  run-decoded (tell x ∷ l) w i = run-decoded l (tellWords N x w) (tell-range x w i) ∙ ap (runOps m T l) (tell-decoded x w)
 
-  pub calls-decoded : (l : List (Op d)) (r : s) → T .forged r ≡ false → decodedRun (runWords m T N l (freshWords r)) ≡ runOps m T l (fresh r)
+  pub calls-decoded : (l : List (Op d)) (r : s) → T .forged r ≡ false → decodedRun (runWords m N l (freshWords r)) ≡ runOps m T l (fresh r)
   calls-decoded l r f = run-decoded l (freshWords r) (fresh-range r) ∙ ap (runOps m T l) (fresh-decoded r f)

@@ -12,7 +12,7 @@ use Rattle.faststack.specs.Stack.{capacity, hasRoom, topOf}
 use Rattle.walk.specs.Tests.{Tests}
 use Rattle.walk.specs.Step.{Walker, tested, done, refused, Due, report, test, dueOf, sizesFit, forgedWalker, noRoom, badPosition, badNode, onlyFirst, stay, afterReport, afterTest, advance, stepOf}
 use Rattle.walk.specs.Words.{Group, unpacked, positionsIn, childrenIn, groupsIn, restOf, firstPosition, firstChild, hasChild, waitingDepth}
-use Rattle.walk.specs.WordStep.{WalkerWords, SteppedWords, NodeWords, forgedWords, onlyFirstWords, badChild, stayWords, afterReportWords, afterTestWords, reportWords, visitWords, popWords, advanceWords, stepWords, decoded, decodedStep, InRange, Decodes}
+use Rattle.walk.specs.WordStep.{WalkerWords, SteppedWords, NodeWords, forgedWords, onlyFirstWords, badChild, stayWords, afterReportWords, afterTestWords, reportWords, visitWords, popWords, advanceWords, stepWords, decoded, decodedStep, InRange, testsWith, Decodes}
 use Rattle.walk.proofs.Cases.{cond-elim, or-false, not-false-true}
 use Rattle.walk.proofs.Words.{positions-first, positions-none, children-none, children-first, rest-lt}
 use Rattle.walk.proofs.Stacks.{groups-length, top-bits, dueWords, due-stack, waiting-child, groups-pushed}
@@ -46,7 +46,10 @@ first-same zero d true r st f g l = let q = g refl in rw (q .2)
 first-same zero d false r [] f g l = rw (f refl, ← l)
 first-same zero d false r (x ∷ st) f g l = rw (f refl, ne-eqb d 0 (λ e. omega (arith, l)))
 
-module _ {s d : Type 0} (m : ℕ) (T : Tests s d) (N : NodeWords s) (D : Decodes m T N) where
+module _ {s d : Type 0} (m : ℕ) (N : NodeWords s d) (ps cs : s → ℕ → List ℕ) (D : Decodes m N ps cs) where
+  abbrev T : Tests s d
+  T = testsWith N ps cs
+
   -- what is due, and whether only the first node is in hand, on the lists
   abbrev dueIn : WalkerWords s → Due
   dueIn w = dueOf (positionsIn (w .positions)) (childrenIn (N .octant (w .ray)) (w .current)) (groupsIn (N .octant (w .ray)) (w .stack) (w .depth))
@@ -54,8 +57,8 @@ module _ {s d : Type 0} (m : ℕ) (T : Tests s d) (N : NodeWords s) (D : Decodes
   abbrev onlyIn : WalkerWords s → Bool
   onlyIn w = onlyFirst (positionsIn (w .positions)) (childrenIn (N .octant (w .ray)) (w .current)) (groupsIn (N .octant (w .ray)) (w .stack) (w .depth))
 
-  only-same : (w : WalkerWords s) → InRange m T N w → N .octant (w .ray) < 8
-      → onlyFirstWords m T N w ≡ onlyIn w
+  only-same : (w : WalkerWords s) → InRange w → N .octant (w .ray) < 8
+      → onlyFirstWords m N w ≡ onlyIn w
   only-same w i o = go (decLt 0 (w .positions .bits)) (hasChild (w .current)) refl
     where
       rest : (b : Bool) → hasChild (restOf (w .current)) ≡ b → b ≡ true → (x : ℕ) × (t : List ℕ) × (childrenIn (N .octant (w .ray)) (restOf (w .current)) ≡ x ∷ t)
@@ -79,10 +82,10 @@ module _ {s d : Type 0} (m : ℕ) (T : Tests s d) (N : NodeWords s) (D : Decodes
   -- ---- a visit
 
   visit-decoded : (n : ℕ) (w : WalkerWords s) (g : Group) (e : ℕ) → T .forged (w .ray) ≡ false → capacity ≤ length (w .stack) → hasChild g ≡ true → g .bits < 2 ^ 32 → g .base < 2 ^ 32
-      → decodedStep m T N (visitWords m T N n w g e)
-      ≡ advance m T n (decoded m T N w) (test (firstChild (N .octant (w .ray)) g) (childrenIn (N .octant (w .ray)) (restOf g)) (groupsIn (N .octant (w .ray)) (w .stack) e))
+      → decodedStep N (visitWords m N n w g e)
+      ≡ advance m T n (decoded N w) (test (firstChild (N .octant (w .ray)) g) (childrenIn (N .octant (w .ray)) (restOf g)) (groupsIn (N .octant (w .ray)) (w .stack) e))
   visit-decoded n w g e f long h l b =
-      cond-same (decodedStep m T N) (badChild m T N n w g e) (badNode m T n (w .tests) (firstChild (N .octant (w .ray)) g) (childrenIn (N .octant (w .ray)) (restOf g)) (groupsIn (N .octant (w .ray)) (w .stack) e))
+      cond-same (decodedStep N) (badChild m N n w g e) (badNode m T n (w .tests) (firstChild (N .octant (w .ray)) g) (childrenIn (N .octant (w .ray)) (restOf g)) (groupsIn (N .octant (w .ray)) (w .stack) e))
       _ _ _ _ same-bad (λ _. refl) after
     where
       small : N .octant (w .ray) < 8
@@ -91,7 +94,7 @@ module _ {s d : Type 0} (m : ℕ) (T : Tests s d) (N : NodeWords s) (D : Decodes
       same-room : hasChild (restOf g) && not (hasRoom e) ≡ noRoom (childrenIn (N .octant (w .ray)) (restOf g)) (groupsIn (N .octant (w .ray)) (w .stack) e)
       same-room = room-same (N .octant (w .ray)) e (restOf g) (groupsIn (N .octant (w .ray)) (w .stack) e) small (rest-lt g l) (groups-length (N .octant (w .ray)) e (w .stack))
 
-      same-bad : badChild m T N n w g e
+      same-bad : badChild m N n w g e
           ≡ badNode m T n (w .tests) (firstChild (N .octant (w .ray)) g) (childrenIn (N .octant (w .ray)) (restOf g)) (groupsIn (N .octant (w .ray)) (w .stack) e)
       same-bad = ap (λ (x : Bool). x || leb m (firstChild (N .octant (w .ray)) g) || leb m (w .tests) || not (T .rule n (firstChild (N .octant (w .ray)) g))) same-room
 
@@ -102,9 +105,9 @@ module _ {s d : Type 0} (m : ℕ) (T : Tests s d) (N : NodeWords s) (D : Decodes
           go true q = refl
           go false q = not-false-true false q
 
-      after : badChild m T N n w g e ≡ false
-          → decodedStep m T N (afterTestWords m T N w g e)
-          ≡ afterTest T (decoded m T N w) (firstChild (N .octant (w .ray)) g) (childrenIn (N .octant (w .ray)) (restOf g)) (groupsIn (N .octant (w .ray)) (w .stack) e)
+      after : badChild m N n w g e ≡ false
+          → decodedStep N (afterTestWords m N w g e)
+          ≡ afterTest T (decoded N w) (firstChild (N .octant (w .ray)) g) (childrenIn (N .octant (w .ray)) (restOf g)) (groupsIn (N .octant (w .ray)) (w .stack) e)
       after z =
           let a = or-false ((hasChild (restOf g) && not (hasRoom e)) || leb m (firstChild (N .octant (w .ray)) g) || leb m (w .tests)) (not (T .rule n (firstChild (N .octant (w .ray)) g))) z in
           let a2 = or-false ((hasChild (restOf g) && not (hasRoom e)) || leb m (firstChild (N .octant (w .ray)) g)) (leb m (w .tests)) (a .0) in
@@ -119,8 +122,8 @@ module _ {s d : Type 0} (m : ℕ) (T : Tests s d) (N : NodeWords s) (D : Decodes
 
   -- ---- what is due
 
-  pop-decoded : (n : ℕ) (w : WalkerWords s) (e : ℕ) → InRange m T N w → T .forged (w .ray) ≡ false → (0 < e → hasChild (unpacked (topOf (w .stack) e)) ≡ true)
-      → decodedStep m T N (popWords m T N n w e) ≡ advance m T n (decoded m T N w) (dueWords (N .octant (w .ray)) (w .stack) e)
+  pop-decoded : (n : ℕ) (w : WalkerWords s) (e : ℕ) → InRange w → T .forged (w .ray) ≡ false → (0 < e → hasChild (unpacked (topOf (w .stack) e)) ≡ true)
+      → decodedStep N (popWords m N n w e) ≡ advance m T n (decoded N w) (dueWords (N .octant (w .ray)) (w .stack) e)
   pop-decoded n w zero i f h = refl
   pop-decoded n w (suc e) i f h =
       let z : suc e - 1 ≡ e = omega arith in
@@ -130,10 +133,10 @@ module _ {s d : Type 0} (m : ℕ) (T : Tests s d) (N : NodeWords s) (D : Decodes
   -- a step in words does what is due on the lists
   abbrev DoesDue : ℕ → WalkerWords s → SteppedWords s → Type 0
   DoesDue n w r =
-      decodedStep m T N r
-      ≡ advance m T n (decoded m T N w) (dueIn w)
+      decodedStep N r
+      ≡ advance m T n (decoded N w) (dueIn w)
 
-  advance-decoded : (n : ℕ) (w : WalkerWords s) → InRange m T N w → T .forged (w .ray) ≡ false → DoesDue n w (advanceWords m T N n w)
+  advance-decoded : (n : ℕ) (w : WalkerWords s) → InRange w → T .forged (w .ray) ≡ false → DoesDue n w (advanceWords m N n w)
   advance-decoded n w i f =
       cond-elim (DoesDue n w) (ltb 0 (w .positions .bits)) _ _ (λ a. in-hand (ltb-true 0 _ a))
       (λ a. cond-elim (DoesDue n w) (hasChild (w .current)) _ _ (λ b. in-group (ltb-false 0 _ a) b) (λ b. on-stack (ltb-false 0 _ a) b))
@@ -142,61 +145,61 @@ module _ {s d : Type 0} (m : ℕ) (T : Tests s d) (N : NodeWords s) (D : Decodes
       small = D .octant-lt (w .ray) f
 
       go : (x : Due) → dueIn w ≡ x
-          → (r : SteppedWords s) → decodedStep m T N r ≡ advance m T n (decoded m T N w) x → DoesDue n w r
-      go x e r q = q ∙ ap (advance m T n (decoded m T N w)) (sym e)
+          → (r : SteppedWords s) → decodedStep N r ≡ advance m T n (decoded N w) x → DoesDue n w r
+      go x e r q = q ∙ ap (advance m T n (decoded N w)) (sym e)
 
-      in-hand : 0 < w .positions .bits → DoesDue n w (reportWords m T N n w)
+      in-hand : 0 < w .positions .bits → DoesDue n w (reportWords m N n w)
       in-hand a =
           go (report (firstPosition (w .positions)) (positionsIn (restOf (w .positions))))
           (ap (λ (l : List ℕ). dueOf l (childrenIn (N .octant (w .ray)) (w .current)) (groupsIn (N .octant (w .ray)) (w .stack) (w .depth))) (positions-first (w .positions) a (i .positions)))
-          (reportWords m T N n w)
-          (cond-same (decodedStep m T N) (badPosition m n (firstPosition (w .positions))) (badPosition m n (firstPosition (w .positions)))
-          (stayWords m T N w (refused 10)) (afterReportWords m T N w) (stay (decoded m T N w) (refused 10))
-          (afterReport (decoded m T N w) (firstPosition (w .positions)) (positionsIn (restOf (w .positions)))) refl (λ _. refl) (λ _. refl))
+          (reportWords m N n w)
+          (cond-same (decodedStep N) (badPosition m n (firstPosition (w .positions))) (badPosition m n (firstPosition (w .positions)))
+          (stayWords w (refused 10)) (afterReportWords w) (stay (decoded N w) (refused 10))
+          (afterReport (decoded N w) (firstPosition (w .positions)) (positionsIn (restOf (w .positions)))) refl (λ _. refl) (λ _. refl))
 
-      in-group : w .positions .bits ≤ 0 → hasChild (w .current) ≡ true → DoesDue n w (visitWords m T N n w (w .current) (w .depth))
+      in-group : w .positions .bits ≤ 0 → hasChild (w .current) ≡ true → DoesDue n w (visitWords m N n w (w .current) (w .depth))
       in-group a b =
           go (test (firstChild (N .octant (w .ray)) (w .current)) (childrenIn (N .octant (w .ray)) (restOf (w .current))) (groupsIn (N .octant (w .ray)) (w .stack) (w .depth)))
           (ap₂ (λ (l h : List ℕ). dueOf l h (groupsIn (N .octant (w .ray)) (w .stack) (w .depth))) (positions-none (w .positions) (omega arith))
           (children-first (N .octant (w .ray)) (w .current) small (leb-true 0x100_0000 _ b) (i .bits)))
-          (visitWords m T N n w (w .current) (w .depth)) (visit-decoded n w (w .current) (w .depth) f (i .room) b (i .bits) (i .base))
+          (visitWords m N n w (w .current) (w .depth)) (visit-decoded n w (w .current) (w .depth) f (i .room) b (i .bits) (i .base))
 
-      on-stack : w .positions .bits ≤ 0 → hasChild (w .current) ≡ false → DoesDue n w (popWords m T N n w (waitingDepth (w .stack) (w .depth)))
+      on-stack : w .positions .bits ≤ 0 → hasChild (w .current) ≡ false → DoesDue n w (popWords m N n w (waitingDepth (w .stack) (w .depth)))
       on-stack a b =
           go (dueWords (N .octant (w .ray)) (w .stack) (waitingDepth (w .stack) (w .depth)))
           (ap₂ (λ (l h : List ℕ). dueOf l h (groupsIn (N .octant (w .ray)) (w .stack) (w .depth))) (positions-none (w .positions) (omega arith))
           (children-none (N .octant (w .ray)) (w .current) (leb-false 0x100_0000 _ b))
           ∙ due-stack (N .octant (w .ray)) (w .stack) (w .depth) small (i .words))
-          (popWords m T N n w (waitingDepth (w .stack) (w .depth)))
+          (popWords m N n w (waitingDepth (w .stack) (w .depth)))
           (pop-decoded n w (waitingDepth (w .stack) (w .depth)) i f (waiting-child (w .stack) (w .depth)))
 
   -- ---- a step
 
-  same-forged : (w : WalkerWords s) → forgedWords m T N w ≡ forgedWalker m T (decoded m T N w)
+  same-forged : (w : WalkerWords s) → forgedWords m N w ≡ forgedWalker m T (decoded N w)
   same-forged w = ap (λ (x : ℕ). T .forged (w .ray) || ltb 32 x || ltb m (w .tests)) (sym (groups-length (N .octant (w .ray)) (w .depth) (w .stack)))
 
-  pub forged-ray : (w : WalkerWords s) → forgedWords m T N w ≡ false → T .forged (w .ray) ≡ false
+  pub forged-ray : (w : WalkerWords s) → forgedWords m N w ≡ false → T .forged (w .ray) ≡ false
   forged-ray w a = or-false (T .forged (w .ray)) (ltb capacity (w .depth)) (or-false (T .forged (w .ray) || ltb capacity (w .depth)) (ltb m (w .tests)) a .0) .0
 
-  unforged-decoded : (n : ℕ) (w : WalkerWords s) → InRange m T N w → forgedWords m T N w ≡ false
-      → decodedStep m T N (cond (leb m 0 && onlyFirstWords m T N w) (stayWords m T N w done) (advanceWords m T N n w))
-      ≡ cond (leb m 0 && onlyIn w) (stay (decoded m T N w) done) (advance m T n (decoded m T N w) (dueIn w))
+  unforged-decoded : (n : ℕ) (w : WalkerWords s) → InRange w → forgedWords m N w ≡ false
+      → decodedStep N (cond (leb m 0 && onlyFirstWords m N w) (stayWords w done) (advanceWords m N n w))
+      ≡ cond (leb m 0 && onlyIn w) (stay (decoded N w) done) (advance m T n (decoded N w) (dueIn w))
   unforged-decoded n w i a =
-      cond-same (decodedStep m T N) (leb m 0 && onlyFirstWords m T N w) (leb m 0 && onlyIn w) (stayWords m T N w done) (advanceWords m T N n w)
-      (stay (decoded m T N w) done) (advance m T n (decoded m T N w) (dueIn w))
+      cond-same (decodedStep N) (leb m 0 && onlyFirstWords m N w) (leb m 0 && onlyIn w) (stayWords w done) (advanceWords m N n w)
+      (stay (decoded N w) done) (advance m T n (decoded N w) (dueIn w))
       (ap (λ (x : Bool). leb m 0 && x) (only-same w i (D .octant-lt (w .ray) (forged-ray w a)))) (λ _. refl) (λ _. advance-decoded n w i (forged-ray w a))
 
-  pub step-decoded : (n : ℕ) (w : WalkerWords s) → InRange m T N w → decodedStep m T N (stepWords m T N n w) ≡ stepOf m T n (decoded m T N w)
+  pub step-decoded : (n : ℕ) (w : WalkerWords s) → InRange w → decodedStep N (stepWords m N n w) ≡ stepOf m T n (decoded N w)
   unfolding stepWords stepOf
   step-decoded n w i =
-      cond-same (decodedStep m T N) (sizesFit m n) (sizesFit m n)
-      (cond (forgedWords m T N w) (stayWords m T N w (refused 10)) (cond (leb m 0 && onlyFirstWords m T N w) (stayWords m T N w done) (advanceWords m T N n w)))
-      (stayWords m T N w (refused 2))
-      (cond (forgedWalker m T (decoded m T N w)) (stay (decoded m T N w) (refused 10))
-      (cond (leb m 0 && onlyIn w) (stay (decoded m T N w) done) (advance m T n (decoded m T N w) (dueIn w))))
-      (stay (decoded m T N w) (refused 2)) refl
-      (λ _. cond-same (decodedStep m T N) (forgedWords m T N w) (forgedWalker m T (decoded m T N w)) (stayWords m T N w (refused 10))
-      (cond (leb m 0 && onlyFirstWords m T N w) (stayWords m T N w done) (advanceWords m T N n w)) (stay (decoded m T N w) (refused 10))
-      (cond (leb m 0 && onlyIn w) (stay (decoded m T N w) done) (advance m T n (decoded m T N w) (dueIn w)))
+      cond-same (decodedStep N) (sizesFit m n) (sizesFit m n)
+      (cond (forgedWords m N w) (stayWords w (refused 10)) (cond (leb m 0 && onlyFirstWords m N w) (stayWords w done) (advanceWords m N n w)))
+      (stayWords w (refused 2))
+      (cond (forgedWalker m T (decoded N w)) (stay (decoded N w) (refused 10))
+      (cond (leb m 0 && onlyIn w) (stay (decoded N w) done) (advance m T n (decoded N w) (dueIn w))))
+      (stay (decoded N w) (refused 2)) refl
+      (λ _. cond-same (decodedStep N) (forgedWords m N w) (forgedWalker m T (decoded N w)) (stayWords w (refused 10))
+      (cond (leb m 0 && onlyFirstWords m N w) (stayWords w done) (advanceWords m N n w)) (stay (decoded N w) (refused 10))
+      (cond (leb m 0 && onlyIn w) (stay (decoded N w) done) (advance m T n (decoded N w) (dueIn w)))
       (same-forged w) (λ _. refl) (λ a. unforged-decoded n w i a))
       (λ _. refl)

@@ -9,8 +9,8 @@ use Rattle.walk.specs.WordStep.{NodeWords}
 
 module _ {s d : Type 0} (W : Slots s d) (mask : s → ℕ → ℕ) where
   -- a record's own fields, with a mask for each ray and node
-  abbrev pub wordsOf : NodeWords s
-  wordsOf = record { octant = W .octant; mask = mask; imask = W .imask; childBase = W .shape .base; positionBase = W .positionBase }
+  abbrev pub wordsOf : NodeWords s d
+  wordsOf = record { rule = W .rule; told = W .told; forged = W .forged; octant = W .octant; mask = mask; imask = W .imask; childBase = W .shape .base; positionBase = W .positionBase }
 
   pub record MaskLaws : Type 0 where
     pub octant-lt : (ray : s) → W .forged ray ≡ false → W .octant ray < 8

@@ -19,17 +19,22 @@ pub record Outcome (s a : Type 0) : Type 0 where
   pub noted : a
   pub ended : Answer
 
-module _ {s d a : Type 0} (m : ℕ) (T : Tests s d) (react : ℕ → s → a → Reaction d a) where
-  abbrev pub toldAll : List d → Walker s → Walker s
-  toldAll [] w = w
-  toldAll (x ∷ l) w = toldAll l (tellOf T x w)
+-- several distances told
+abbrev pub toldAll : {s d : Type 0} → Tests s d → List d → Walker s → Walker s
+toldAll T [] w = w
+toldAll T (x ∷ l) w = toldAll T l (tellOf T x w)
 
+abbrev pub tellings : {d : Type 0} → List d → List (Op d)
+tellings [] = []
+tellings (x ∷ l) = tell x ∷ tellings l
+
+module _ {s d a : Type 0} (m : ℕ) (T : Tests s d) (react : ℕ → s → a → Reaction d a) where
   -- what follows an answer, `go` being the rest of the query
   abbrev pub follow : Answer → Walker s → a → (Walker s → a → Outcome s a) → Outcome s a
   follow (tested v) w x go = go w x
   follow (position p) w x go =
       let r : Reaction d a = react p (w .ray) x in
-      cond (r .stop) (record { walker = toldAll (r .tells) w; noted = r .noted; ended = position p }) (go (toldAll (r .tells) w) (r .noted))
+      cond (r .stop) (record { walker = toldAll T (r .tells) w; noted = r .noted; ended = position p }) (go (toldAll T (r .tells) w) (r .noted))
   follow done w x go = record { walker = w; noted = x; ended = done }
   follow (refused e) w x go = record { walker = w; noted = x; ended = refused e }
 
@@ -40,15 +45,11 @@ module _ {s d a : Type 0} (m : ℕ) (T : Tests s d) (react : ℕ → s → a →
   query (suc f) n w x = follow (stepOf m T n w .answer) (stepOf m T n w .walker) x (query f n)
 
   -- the calls that a query makes
-  abbrev pub tellings : List d → List (Op d)
-  tellings [] = []
-  tellings (x ∷ l) = tell x ∷ tellings l
-
   abbrev pub callsAfter : Answer → Walker s → a → (Walker s → a → List (Op d)) → List (Op d)
   callsAfter (tested v) w x go = go w x
   callsAfter (position p) w x go =
       let r : Reaction d a = react p (w .ray) x in
-      tellings (r .tells) ++ cond (r .stop) [] (go (toldAll (r .tells) w) (r .noted))
+      tellings (r .tells) ++ cond (r .stop) [] (go (toldAll T (r .tells) w) (r .noted))
   callsAfter done w x go = []
   callsAfter (refused e) w x go = []
 
