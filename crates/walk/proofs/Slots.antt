@@ -32,11 +32,22 @@ counted n k h f = go (some? n)
 pub slots-narrow : {s d : Type 0} (W : Slots s d) (m : ℕ) → Narrow m (testsOf W)
 slots-narrow W m ray n v f h r = falling-length (λ b. W .positionBase v + b) (λ b. passedPosition W ray v (W .positionBase v + b)) 24
 
+-- ---- what the tests of a slot tell
+
+module _ {s d : Type 0} (W : Slots s d) where
+  pub child-tells : (ray : s) (v j : ℕ) → Tells ((innerBit (W .imask v) j ≡ 1) × (W .passes ray v j ≡ true)) (passedChild W ray v j)
+  child-tells ray v j = and-tells (eqb-tells (innerBit (W .imask v) j) 1) (true-tells (W .passes ray v j))
+
+  pub position-tells : (ray : s) (v x : ℕ)
+      → Tells (((j : ℕ) × (j < 8) × ((inRange x (W .shape .start v j) (W .shape .count v j) ≡ 1) × (W .passes ray v j ≡ true))) × (W .admits ray x ≡ true)) (passedPosition W ray v x)
+  position-tells ray v x =
+      and-tells
+      (some-tells (λ j. (inRange x (W .shape .start v j) (W .shape .count v j) ≡ 1) × (W .passes ray v j ≡ true)) _
+      (λ j. and-tells (eqb-tells (inRange x (W .shape .start v j) (W .shape .count v j)) 1) (true-tells (W .passes ray v j))) 8)
+      (true-tells (W .admits ray x))
+
 module _ {s d : Type 0} (W : Slots s d) (Rule : ℕ → Type 0) (laws : SlotLaws W Rule) where
   -- ---- children
-
-  child-tells : (ray : s) (v j : ℕ) → Tells ((innerBit (W .imask v) j ≡ 1) × (W .passes ray v j ≡ true)) (passedChild W ray v j)
-  child-tells ray v j = and-tells (eqb-tells (innerBit (W .imask v) j) 1) (true-tells (W .passes ray v j))
 
   -- a child is found exactly if it stands at a slot of imask that the ray passes
   pub children-iff : (ray : s) (v c : ℕ) → W .forged ray ≡ false
@@ -46,13 +57,13 @@ module _ {s d : Type 0} (W : Slots s d) (Rule : ℕ → Type 0) (laws : SlotLaws
       to : In c (childrenOf W ray v) → (j : ℕ) × (j < 8) × (innerBit (W .imask v) j ≡ 1) × (W .passes ray v j ≡ true) × (c ≡ childAt W v j)
       to i =
           let q = in-falling c (λ k. childAt W v (bitXor k (W .octant ray))) (λ k. passedChild W ray v (bitXor k (W .octant ray))) 8 i in
-          let t = told (child-tells ray v (bitXor (q .0) (W .octant ray))) (q .2) in
+          let t = told (child-tells W ray v (bitXor (q .0) (W .octant ray))) (q .2) in
           (bitXor (q .0) (W .octant ray), xor-lt 3 (q .0) (W .octant ray) (q .1) (laws .octant-lt ray f), t .0, t .1, q .3)
 
       from : (j : ℕ) × (j < 8) × (innerBit (W .imask v) j ≡ 1) × (W .passes ray v j ≡ true) × (c ≡ childAt W v j) → In c (childrenOf W ray v)
       from q =
           let e : bitXor (bitXor (q .0) (W .octant ray)) (W .octant ray) ≡ q .0 = slot-back (q .0) (W .octant ray) (q .1) (laws .octant-lt ray f) in
-          let t : passedChild W ray v (bitXor (bitXor (q .0) (W .octant ray)) (W .octant ray)) ≡ true = rw e (tells-true (child-tells ray v (q .0)) (q .2, q .3)) in
+          let t : passedChild W ray v (bitXor (bitXor (q .0) (W .octant ray)) (W .octant ray)) ≡ true = rw e (tells-true (child-tells W ray v (q .0)) (q .2, q .3)) in
           subst (λ (x : ℕ). In x (childrenOf W ray v)) (ap (childAt W v) e ∙ sym (q .4))
           (falling-in (λ k. childAt W v (bitXor k (W .octant ray))) (λ k. passedChild W ray v (bitXor k (W .octant ray))) 8 (bitXor (q .0) (W .octant ray))
           (xor-lt 3 (q .0) (W .octant ray) (q .1) (laws .octant-lt ray f)) t)
@@ -64,8 +75,8 @@ module _ {s d : Type 0} (W : Slots s d) (Rule : ℕ → Type 0) (laws : SlotLaws
       let o = laws .octant-lt ray f in
       let x = bitXor i (W .octant ray) in
       let y = bitXor j (W .octant ray) in
-      let p = bit-is x (W .imask v) ∙ told (child-tells ray v x) a .0 in
-      let q = bit-is y (W .imask v) ∙ told (child-tells ray v y) b .0 in
+      let p = bit-is x (W .imask v) ∙ told (child-tells W ray v x) a .0 in
+      let q = bit-is y (W .imask v) ∙ told (child-tells W ray v y) b .0 in
       let z : x ≡ y = rank-inj x y (W .imask v) p q (omega arith) in
       sym (slot-back i (W .octant ray) h o) ∙ ap (λ (u : ℕ). bitXor u (W .octant ray)) z ∙ slot-back j (W .octant ray) k o
 
@@ -81,14 +92,6 @@ module _ {s d : Type 0} (W : Slots s d) (Rule : ℕ → Type 0) (laws : SlotLaws
 
   -- ---- positions
 
-  position-tells : (ray : s) (v x : ℕ)
-      → Tells (((j : ℕ) × (j < 8) × ((inRange x (W .shape .start v j) (W .shape .count v j) ≡ 1) × (W .passes ray v j ≡ true))) × (W .admits ray x ≡ true)) (passedPosition W ray v x)
-  position-tells ray v x =
-      and-tells
-      (some-tells (λ j. (inRange x (W .shape .start v j) (W .shape .count v j) ≡ 1) × (W .passes ray v j ≡ true)) _
-      (λ j. and-tells (eqb-tells (inRange x (W .shape .start v j) (W .shape .count v j)) 1) (true-tells (W .passes ray v j))) 8)
-      (true-tells (W .admits ray x))
-
   -- a position is found exactly if it stands in the leaf range of a slot that the ray passes, and passes itself
   pub positions-iff : (ray : s) (v x : ℕ) → v < W .shape .nodes → Rule v
       → In x (positionsOf W ray v) ↔ ((j : ℕ) × Holds (W .shape) v j x × (W .passes ray v j ≡ true) × (W .admits ray x ≡ true))
@@ -97,7 +100,7 @@ module _ {s d : Type 0} (W : Slots s d) (Rule : ℕ → Type 0) (laws : SlotLaws
       to : In x (positionsOf W ray v) → (j : ℕ) × Holds (W .shape) v j x × (W .passes ray v j ≡ true) × (W .admits ray x ≡ true)
       to i =
           let q = in-falling x (λ b. W .positionBase v + b) (λ b. passedPosition W ray v (W .positionBase v + b)) 24 i in
-          let t = told (position-tells ray v (W .positionBase v + q .0)) (q .2) in
+          let t = told (position-tells W ray v (W .positionBase v + q .0)) (q .2) in
           let r = subst (λ (y : ℕ). inRange y (W .shape .start v (t .0 .0)) (W .shape .count v (t .0 .0)) ≡ 1) (sym (q .3)) (t .0 .2 .0) in
           let z = range-stands x (W .shape .start v (t .0 .0)) (W .shape .count v (t .0 .0)) (omega arith) in
           (t .0 .0, record { node = h; slot = t .0 .1; from = z .0; before = z .1 }, t .0 .2 .1, subst (λ (y : ℕ). W .admits ray y ≡ true) (sym (q .3)) (t .1))
@@ -109,7 +112,7 @@ module _ {s d : Type 0} (W : Slots s d) (Rule : ℕ → Type 0) (laws : SlotLaws
           let u = laws .window v j h rule (g .slot) (omega arith) in
           let e : W .positionBase v + (x - W .positionBase v) ≡ x = omega (arith, u .0) in
           let t : passedPosition W ray v (W .positionBase v + (x - W .positionBase v)) ≡ true =
-          rw e (tells-true (position-tells ray v x) ((j, g .slot, (in-range x (W .shape .start v j) (W .shape .count v j) a b, p)), m)) in
+          rw e (tells-true (position-tells W ray v x) ((j, g .slot, (in-range x (W .shape .start v j) (W .shape .count v j) a b, p)), m)) in
           subst (λ (y : ℕ). In y (positionsOf W ray v)) e
           (falling-in (λ b. W .positionBase v + b) (λ b. passedPosition W ray v (W .positionBase v + b)) 24 (x - W .positionBase v) (omega (arith, u .0, u .1)) t)
 
