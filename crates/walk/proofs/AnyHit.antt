@@ -1,0 +1,181 @@
+-- On a sound record any-hit lists the first node's listing, its tests are as many as the nodes reached, and it ends with done.
+use mathlib.Core.Bool.{false}
+use mathlib.Core.List.{List, [], _∷_, _++_, append-assoc, append-nil, List·Nodup}
+use mathlib.Core.Logic.{_↔_}
+use mathlib.Core.Path.{_≡_, refl, sym, ap, _∙_, subst}
+use Prim.Native.Nat.{ℕ, zero, suc, _+_, _≤_, _<_}
+use native.Mathlib.Omega.{arith}
+use native.Mathlib.Decide.{decLt}
+use lib.ListN.{length}
+use Rattle.lists.specs.Counts.{count}
+use Rattle.lists.proofs.Perms.{no-duplicates}
+use Rattle.soundness.specs.Shape.{Shape}
+use Rattle.soundness.specs.Sound.{Sound}
+use Rattle.walk.specs.Tests.{Tests}
+use Rattle.walk.specs.Step.{Walker, Answer, tested, position, done, refused, fresh, Stepped, afterTest, stepOf}
+use Rattle.walk.specs.Listing.{In, flat, Reached, Passed, listing, reachedFrom}
+use Rattle.walk.specs.Queries.{Outcome, follow, query, stepsFor, append, anyHitOf, Going}
+use Rattle.walk.specs.Lawful.{Lawful, Narrow}
+use Rattle.walk.proofs.Dues.{flats, push-flats, report-hand, test-hand, none-hand, test-flat, none-flat}
+use Rattle.walk.proofs.Cases.{Visits, Finished, nothing-due, no-nodes, step-cases}
+use Rattle.walk.proofs.Gather.{gather-none}
+use Rattle.walk.proofs.Valid.{Valid, no-refusal, report-valid, test-valid, fresh-valid, empty-step}
+use Rattle.walk.proofs.Listing.{listing-is, reached-from-is, listed, listed-once, reached-in, reached-once}
+use Rattle.walk.proofs.Ends.{stepsLeft, step-falls}
+
+-- a query ended with done, having noted ps after x, with t tests in all
+record Ran {s : Type 0} (x ps : List ℕ) (t : ℕ) (o : Outcome s (List ℕ)) : Type 0 where
+  pub noted : o .noted ≡ x ++ ps
+  pub ended : o .ended ≡ done
+  pub tests : o .walker .tests ≡ t
+
+-- without nodes it is done at once
+empty-ran : {s d : Type 0} (T : Tests s d) (n : ℕ) (ray : s) → n ≤ 65536 → T .forged ray ≡ false
+    → Ran [] (listing 0 T ray 0) (length (reachedFrom 0 T ray 0)) (anyHitOf 0 T n ray)
+unfolding query
+empty-ran T n ray h f = rw (empty-step T n ray h f, gather-none, gather-none) (record { noted = refl; ended = refl; tests = refl })
+
+module _ {s d : Type 0} (S : Shape) (Rule : ℕ → Type 0) (T : Tests s d) (L : Lawful S Rule T) (sound : Sound S Rule)
+    (few-positions : S .positions ≤ 65536) (few-nodes : S .nodes ≤ 65535) (narrow : Narrow (S .nodes) T) (ray : s) (accepted : T .forged ray ≡ false) where
+  -- ---- what a walker has still to report, and to test
+
+  abbrev ahead : (ℕ → List ℕ) → Walker s → List ℕ
+  ahead f w = flat f (w .group) ++ flats f (w .stack)
+
+  abbrev toReport : Walker s → List ℕ
+  toReport w = w .positions ++ ahead (listing (S .nodes) T ray) w
+
+  abbrev toTest : Walker s → List ℕ
+  toTest w = ahead (reachedFrom (S .nodes) T ray) w
+
+  -- a step takes from the front what it reports or tests
+  abbrev Takes : Walker s → Answer → Walker s → Type 0
+  Takes w (tested c) u = (toReport w ≡ toReport u) × (toTest w ≡ c ∷ toTest u) × (u .tests ≡ suc (w .tests))
+  Takes w (position p) u = (toReport w ≡ p ∷ toReport u) × (toTest w ≡ toTest u) × (u .tests ≡ w .tests)
+  Takes w done u = (toReport w ≡ []) × (toTest w ≡ []) × (u .tests ≡ w .tests)
+  Takes w (refused e) u = ⊥
+
+  record After (w : Walker s) (r : Stepped s) : Type 0 where
+    pub valid : Valid S Rule T L sound (r .walker)
+    pub same-ray : r .walker .ray ≡ ray
+    pub takes : Takes w (r .answer) (r .walker)
+
+  visit-report : (w : Walker s) (c : ℕ) (r : List ℕ) (st : List (List ℕ)) → w .ray ≡ ray → Visits (S .nodes) T (S .positions) w c r st
+      → toReport w ≡ toReport (afterTest T w c r st .walker)
+  visit-report w c r st e v =
+      ap (λ (l : List ℕ). l ++ ahead (listing (S .nodes) T ray) w) (test-hand (w .positions) (w .group) (w .stack) c r st (v .is-due))
+      ∙ test-flat (w .positions) (w .group) (w .stack) c r st (v .is-due) (listing (S .nodes) T ray)
+      ∙ ap (λ (l : List ℕ). l ++ (flat (listing (S .nodes) T ray) r ++ flats (listing (S .nodes) T ray) st)) (listing-is S Rule T L sound ray accepted c (v .node))
+      ∙ rw (e, push-flats (listing (S .nodes) T ray) r st) (append-assoc (T .positions ray c) (flat (listing (S .nodes) T ray) (T .children ray c)) _)
+
+  visit-test : (w : Walker s) (c : ℕ) (r : List ℕ) (st : List (List ℕ)) → w .ray ≡ ray → Visits (S .nodes) T (S .positions) w c r st
+      → toTest w ≡ c ∷ toTest (afterTest T w c r st .walker)
+  visit-test w c r st e v =
+      test-flat (w .positions) (w .group) (w .stack) c r st (v .is-due) (reachedFrom (S .nodes) T ray)
+      ∙ ap (λ (l : List ℕ). l ++ (flat (reachedFrom (S .nodes) T ray) r ++ flats (reachedFrom (S .nodes) T ray) st)) (reached-from-is S Rule T L sound ray accepted c (v .node))
+      ∙ rw (e, push-flats (reachedFrom (S .nodes) T ray) r st)
+
+  finished-takes : 0 < S .nodes → (w : Walker s) → Finished (S .nodes) T (S .positions) w → Takes w done w
+  finished-takes h w (no-nodes z o) = absurd (omega arith)
+  finished-takes h w (nothing-due e) = (
+    ap (λ (l : List ℕ). l ++ ahead (listing (S .nodes) T ray) w) (none-hand (w .positions) (w .group) (w .stack) e)
+        ∙ none-flat (w .positions) (w .group) (w .stack) e (listing (S .nodes) T ray),
+    none-flat (w .positions) (w .group) (w .stack) e (reachedFrom (S .nodes) T ray),
+    refl,
+  )
+
+  step-takes : 0 < S .nodes → (w : Walker s) → Valid S Rule T L sound w → w .ray ≡ ray → After w (stepOf (S .nodes) T (S .positions) w)
+  step-takes h w v e =
+      step-cases (S .nodes) T (S .positions) w (After w)
+      (record {
+        refuses = λ x c. absurd (no-refusal S Rule T L sound few-positions few-nodes w v c);
+        ends = λ f o. record { valid = v; same-ray = e; takes = finished-takes h w o };
+        reports = λ p ps q. record {
+          valid = report-valid S Rule T L sound (S .positions) w p ps v q;
+          same-ray = e;
+          takes = (ap (λ (l : List ℕ). l ++ ahead (listing (S .nodes) T ray) w) (report-hand (w .positions) (w .group) (w .stack) p ps (q .is-due)), refl, refl);
+        };
+        visits = λ c r st q. record {
+          valid = test-valid S Rule T L sound (S .positions) w c r st v q;
+          same-ray = e;
+          takes = (visit-report w c r st e q, visit-test w c r st e q, refl);
+        };
+      })
+
+  -- ---- the run
+
+  runs : 0 < S .nodes → (f : ℕ) (w : Walker s) (x : List ℕ) → Valid S Rule T L sound w → w .ray ≡ ray → stepsLeft (S .nodes) w < f
+      → Ran x (toReport w) (w .tests + length (toTest w)) (query (S .nodes) T append f (S .positions) w x)
+  unfolding query
+  runs h zero w x v e l = absurd (omega arith)
+  runs h (suc f) w x v e l =
+      go (stepOf (S .nodes) T (S .positions) w .answer) (stepOf (S .nodes) T (S .positions) w .walker) (a .takes)
+      (step-falls (S .nodes) T narrow (S .positions) w) (λ y k. runs h f (stepOf (S .nodes) T (S .positions) w .walker) y (a .valid) (a .same-ray) k)
+    where
+      a : After w (stepOf (S .nodes) T (S .positions) w)
+      a = step-takes h w v e
+
+      go : (b : Answer) (u : Walker s) → Takes w b u → (Going b → stepsLeft (S .nodes) u < stepsLeft (S .nodes) w)
+          → ((y : List ℕ) → stepsLeft (S .nodes) u < f → Ran y (toReport u) (u .tests + length (toTest u)) (query (S .nodes) T append f (S .positions) u y))
+          → Ran x (toReport w) (w .tests + length (toTest w)) (follow (S .nodes) T append b u x (query (S .nodes) T append f (S .positions)))
+      go (tested c) u q k g =
+          let z = g x (omega (arith, k tt)) in
+          let n : length (toTest w) ≡ suc (length (toTest u)) = ap length (q .1) in
+          record { noted = z .noted ∙ ap (λ (l : List ℕ). x ++ l) (sym (q .0)); ended = z .ended; tests = omega (arith, z .tests, q .2) }
+      go (position p) u q k g =
+          let z = g (x ++ (p ∷ [])) (omega (arith, k tt)) in
+          let n : length (toTest w) ≡ length (toTest u) = ap length (q .1) in
+          record {
+            noted = z .noted ∙ append-assoc x (p ∷ []) (toReport u) ∙ ap (λ (l : List ℕ). x ++ l) (sym (q .0));
+            ended = z .ended;
+            tests = omega (arith, z .tests, q .2);
+          }
+      go done u q k g =
+          let n : length (toTest w) ≡ 0 = ap length (q .1) in
+          record { noted = sym (ap (λ (l : List ℕ). x ++ l) (q .0) ∙ append-nil x); ended = refl; tests = omega (arith, q .2) }
+      go (refused c) u q k g = absurd q
+
+  any-hit : Ran [] (listing (S .nodes) T ray 0) (length (reachedFrom (S .nodes) T ray 0)) (anyHitOf (S .nodes) T (S .positions) ray)
+  unfolding query
+  any-hit = go (decLt 0 (S .nodes))
+    where
+      go : Dec (0 < S .nodes) → Ran [] (listing (S .nodes) T ray 0) (length (reachedFrom (S .nodes) T ray 0)) (anyHitOf (S .nodes) T (S .positions) ray)
+      go (yes h) =
+          let p : toReport (fresh ray) ≡ listing (S .nodes) T ray 0 = simp append-nil in
+          let q : toTest (fresh ray) ≡ reachedFrom (S .nodes) T ray 0 = simp append-nil in
+          let n : length (toTest (fresh ray)) ≡ length (reachedFrom (S .nodes) T ray 0) = ap length q in
+          let r = runs h (stepsFor (S .nodes)) (fresh ray) [] (fresh-valid S Rule T L sound h ray accepted) refl (omega arith) in
+          record { noted = r .noted ∙ p; ended = r .ended; tests = omega (arith, r .tests) }
+      go (no h) =
+          let e : S .nodes ≡ 0 = omega arith in
+          subst (λ (m : ℕ). Ran [] (listing m T ray 0) (length (reachedFrom m T ray 0)) (anyHitOf m T (S .positions) ray)) (sym e)
+          (empty-ran T (S .positions) ray few-positions accepted)
+
+  -- ---- what it lists and counts
+
+  -- the list is the first node's listing,
+  pub any-hit-listing : anyHitOf (S .nodes) T (S .positions) ray .noted ≡ listing (S .nodes) T ray 0
+  any-hit-listing = any-hit .noted
+
+  pub any-hit-done : anyHitOf (S .nodes) T (S .positions) ray .ended ≡ done
+  any-hit-done = any-hit .ended
+
+  -- which has a position exactly if the ray passes it,
+  pub any-hit-exact : (p : ℕ) → In p (anyHitOf (S .nodes) T (S .positions) ray .noted) ↔ Passed (S .nodes) T ray p
+  any-hit-exact p = subst (λ (l : List ℕ). In p l ↔ Passed (S .nodes) T ray p) (sym any-hit-listing) (listed S Rule T L sound ray accepted p)
+
+  -- once
+  pub any-hit-once : (p : ℕ) → count p (anyHitOf (S .nodes) T (S .positions) ray .noted) ≤ 1
+  any-hit-once p = rw any-hit-listing (listed-once S Rule T L sound ray accepted p)
+
+  pub any-hit-nodup : List·Nodup (anyHitOf (S .nodes) T (S .positions) ray .noted)
+  any-hit-nodup = no-duplicates (anyHitOf (S .nodes) T (S .positions) ray .noted) any-hit-once
+
+  -- the tests are as many as a list has that holds each reached node once and no other
+  pub any-hit-tests : (l : List ℕ) × List·Nodup l × ((v : ℕ) → In v l ↔ Reached (S .nodes) T ray v) × (anyHitOf (S .nodes) T (S .positions) ray .walker .tests ≡ length l)
+  any-hit-tests = (
+    reachedFrom (S .nodes) T ray 0,
+    no-duplicates (reachedFrom (S .nodes) T ray 0) (reached-once S Rule T L sound ray accepted),
+    reached-in S Rule T L sound ray accepted,
+    any-hit .tests,
+  )

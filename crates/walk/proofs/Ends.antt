@@ -1,0 +1,154 @@
+-- Every query ends, on any record at all; on a sound record the walk does not refuse it. And a query is the list of calls that it makes.
+use mathlib.Core.Bool.{Bool, true, false, cond}
+use mathlib.Core.List.{List, [], _∷_, _++_}
+use mathlib.Core.Path.{_≡_, refl, ap, subst}
+use Prim.Native.Nat.{ℕ, zero, suc, _+_, _-_, _*_, _≤_, _<_}
+use native.Mathlib.Omega.{arith}
+use native.Mathlib.Decide.{decLt}
+use lib.ListN.{length}
+use Rattle.soundness.specs.Shape.{Shape}
+use Rattle.soundness.specs.Sound.{Sound}
+use Rattle.walk.specs.Tests.{Tests}
+use Rattle.walk.specs.Step.{Walker, Answer, tested, position, done, refused, fresh, Stepped, stepOf, tellOf}
+use Rattle.walk.specs.Calls.{Op, runOps, Answered}
+use Rattle.walk.specs.Queries.{Reaction, Outcome, toldAll, follow, query, tellings, callsAfter, calls, stepsFor, Going, Halted, Ended}
+use Rattle.walk.specs.Lawful.{Lawful, Narrow}
+use Rattle.walk.proofs.Dues.{report-hand}
+use Rattle.walk.proofs.Cases.{cond-elim, step-cases}
+use Rattle.walk.proofs.Valid.{Valid, step-valid, step-answered, tell-valid, fresh-valid, empty-step}
+
+-- ---- what follows an answer
+
+module _ {s d a : Type 0} (m : ℕ) (T : Tests s d) (react : ℕ → s → a → Reaction d a) (P : Outcome s a → Type 0) where
+  pub follow-cases : (b : Answer) (u : Walker s) (x : a) (go : Walker s → a → Outcome s a)
+      → (Going b → (l : List d) (y : a) → P (go (toldAll T l u) y))
+      → ((p : ℕ) (l : List d) (y : a) → P (record { walker = toldAll T l u; noted = y; ended = position p }))
+      → P (record { walker = u; noted = x; ended = done })
+      → ((e : ℕ) → b ≡ refused e → P (record { walker = u; noted = x; ended = refused e }))
+      → P (follow m T react b u x go)
+  follow-cases (tested c) u x go on stopped over refusal = on tt [] x
+  follow-cases (position p) u x go on stopped over refusal =
+      let r : Reaction d a = react p (u .ray) x in
+      cond-elim P (r .stop) _ _ (λ _. stopped p (r .tells) (r .noted)) (λ _. on tt (r .tells) (r .noted))
+  follow-cases done u x go on stopped over refusal = over
+  follow-cases (refused e) u x go on stopped over refusal = refusal e refl
+
+-- ---- the measure
+
+-- no more steps than this are left: each test brings at most 24 positions
+abbrev pub stepsLeft : {s : Type 0} → ℕ → Walker s → ℕ
+stepsLeft m w = 25 * (m - w .tests) + length (w .positions)
+
+module _ {s d : Type 0} (m : ℕ) (T : Tests s d) (narrow : Narrow m T) where
+  pub step-falls : (n : ℕ) (w : Walker s) → Going (stepOf m T n w .answer) → stepsLeft m (stepOf m T n w .walker) < stepsLeft m w
+  step-falls n w =
+      step-cases m T n w (λ (r : Stepped s). Going (r .answer) → stepsLeft m (r .walker) < stepsLeft m w)
+      (record {
+        refuses = λ e c g. absurd g;
+        ends = λ f o g. absurd g;
+        reports = λ p ps h g. let e : length (w .positions) ≡ suc (length ps) = ap length (report-hand (w .positions) (w .group) (w .stack) p ps (h .is-due)) in omega arith;
+        visits = λ c r st v g. omega (arith, v .untested, narrow (w .ray) n c (v .accepted) (v .node) (v .rule));
+      })
+
+  module _ {a : Type 0} (react : ℕ → s → a → Reaction d a) where
+    pub told-left : (l : List d) (w : Walker s) → stepsLeft m (toldAll T l w) ≡ stepsLeft m w
+    told-left [] w = refl
+    told-left (x ∷ l) w = told-left l (tellOf T x w)
+
+    -- ---- any record
+
+    halts : (f n : ℕ) (w : Walker s) (x : a) → stepsLeft m w < f → Halted (query m T react f n w x .ended)
+    unfolding query
+    halts zero n w x h = absurd (omega arith)
+    halts (suc f) n w x h =
+        follow-cases m T react (λ (o : Outcome s a). Halted (o .ended)) (stepOf m T n w .answer) (stepOf m T n w .walker) x (query m T react f n)
+        (λ g l y. halts f n (toldAll T l (stepOf m T n w .walker)) y (omega (arith, step-falls n w g, told-left l (stepOf m T n w .walker))))
+        (λ p l y. tt) tt (λ e z. tt)
+
+    -- a query from a walker just begun ends within the steps that it is given
+    pub query-halts : (n : ℕ) (ray : s) (x : a) → Halted (query m T react (stepsFor m) n (fresh ray) x .ended)
+    query-halts n ray x = halts (stepsFor m) n (fresh ray) x (omega arith)
+
+    -- more steps change nothing
+    pub query-enough : (f g n : ℕ) (w : Walker s) (x : a) → stepsLeft m w < f → stepsLeft m w < g → query m T react f n w x ≡ query m T react g n w x
+    unfolding query
+    query-enough zero g n w x h k = absurd (omega arith)
+    query-enough (suc f) zero n w x h k = absurd (omega arith)
+    query-enough (suc f) (suc g) n w x h k = go (stepOf m T n w .answer) (stepOf m T n w .walker) (step-falls n w) (query-enough f g n)
+      where
+        go : (b : Answer) (u : Walker s) → (Going b → stepsLeft m u < stepsLeft m w)
+            → ((u : Walker s) (x : a) → stepsLeft m u < f → stepsLeft m u < g → query m T react f n u x ≡ query m T react g n u x)
+            → follow m T react b u x (query m T react f n) ≡ follow m T react b u x (query m T react g n)
+        go (tested c) u l i = i u x (omega (arith, l tt)) (omega (arith, l tt))
+        go (position p) u l i =
+            let r : Reaction d a = react p (u .ray) x in
+            let z = told-left (r .tells) u in
+            ap (λ (o : Outcome s a). cond (r .stop) (record { walker = toldAll T (r .tells) u; noted = r .noted; ended = position p }) o)
+            (i (toldAll T (r .tells) u) (r .noted) (omega (arith, l tt)) (omega (arith, l tt)))
+        go done u l i = refl
+        go (refused e) u l i = refl
+
+-- ---- a query is its list of calls
+
+module _ {s d a : Type 0} (m : ℕ) (T : Tests s d) (react : ℕ → s → a → Reaction d a) where
+  tell-run : (l : List d) (k : List (Op d)) (w : Walker s) → runOps m T (tellings l ++ k) w ≡ runOps m T k (toldAll T l w)
+  unfolding runOps
+  tell-run [] k w = refl
+  tell-run (x ∷ l) k w = tell-run l k (tellOf T x w)
+
+  -- the walker that a query ends with is the one that its calls lead to
+  pub query-run : (f n : ℕ) (w : Walker s) (x : a) → runOps m T (calls m T react f n w x) w .walker ≡ query m T react f n w x .walker
+  unfolding runOps query calls
+  query-run zero n w x = refl
+  query-run (suc f) n w x = go (stepOf m T n w .answer) (stepOf m T n w .walker) (query-run f n)
+    where
+      go : (b : Answer) (v : Walker s) → ((u : Walker s) (y : a) → runOps m T (calls m T react f n u y) u .walker ≡ query m T react f n u y .walker)
+          → runOps m T (callsAfter m T react b v x (calls m T react f n)) v .walker ≡ follow m T react b v x (query m T react f n) .walker
+      go (tested c) v h = h v x
+      go (position p) v h = rw tell-run (stopped (react p (v .ray) x))
+        where
+          stopped : (r : Reaction d a)
+              → runOps m T (cond (r .stop) [] (calls m T react f n (toldAll T (r .tells) v) (r .noted))) (toldAll T (r .tells) v) .walker
+              ≡ cond (r .stop) (record { walker = toldAll T (r .tells) v; noted = r .noted; ended = position p })
+              (query m T react f n (toldAll T (r .tells) v) (r .noted)) .walker
+          stopped r = by (r .stop)
+            where
+              by : (t : Bool)
+                  → runOps m T (cond t [] (calls m T react f n (toldAll T (r .tells) v) (r .noted))) (toldAll T (r .tells) v) .walker
+                  ≡ cond t (record { walker = toldAll T (r .tells) v; noted = r .noted; ended = position p })
+                  (query m T react f n (toldAll T (r .tells) v) (r .noted)) .walker
+              by true = refl
+              by false = h (toldAll T (r .tells) v) (r .noted)
+      go done v h = refl
+      go (refused e) v h = refl
+
+-- ---- a sound record
+
+module _ {s d a : Type 0} (S : Shape) (Rule : ℕ → Type 0) (T : Tests s d) (L : Lawful S Rule T) (sound : Sound S Rule)
+    (few-positions : S .positions ≤ 65536) (few-nodes : S .nodes ≤ 65535) (react : ℕ → s → a → Reaction d a) where
+  told-valid : (l : List d) (w : Walker s) → Valid S Rule T L sound w → Valid S Rule T L sound (toldAll T l w)
+  told-valid [] w v = v
+  told-valid (x ∷ l) w v = told-valid l (tellOf T x w) (tell-valid S Rule T L sound x w v)
+
+  -- the walk refuses no query
+  ends : (f : ℕ) (w : Walker s) (x : a) → Valid S Rule T L sound w → Halted (query (S .nodes) T react f (S .positions) w x .ended)
+      → Ended (query (S .nodes) T react f (S .positions) w x .ended)
+  unfolding query
+  ends zero w x v = λ h. h
+  ends (suc f) w x v =
+      follow-cases (S .nodes) T react (λ (o : Outcome s a). Halted (o .ended) → Ended (o .ended))
+      (stepOf (S .nodes) T (S .positions) w .answer) (stepOf (S .nodes) T (S .positions) w .walker) x (query (S .nodes) T react f (S .positions))
+      (λ g l y. ends f (toldAll T l (stepOf (S .nodes) T (S .positions) w .walker)) y
+      (told-valid l (stepOf (S .nodes) T (S .positions) w .walker) (step-valid S Rule T L sound (S .positions) w v)))
+      (λ p l y h. h) (λ h. h)
+      (λ e z h. absurd (subst Answered z (step-answered S Rule T L sound few-positions few-nodes w v)))
+
+  -- a query from a walker just begun is done, or stops at a position
+  pub query-answered : Narrow (S .nodes) T → (ray : s) → T .forged ray ≡ false → (x : a)
+      → Ended (query (S .nodes) T react (stepsFor (S .nodes)) (S .positions) (fresh ray) x .ended)
+  unfolding query
+  query-answered narrow ray f x = go (decLt 0 (S .nodes))
+    where
+      go : Dec (0 < S .nodes) → Ended (query (S .nodes) T react (stepsFor (S .nodes)) (S .positions) (fresh ray) x .ended)
+      go (yes h) = ends (stepsFor (S .nodes)) (fresh ray) x (fresh-valid S Rule T L sound h ray f) (query-halts (S .nodes) T narrow react (S .positions) ray x)
+      go (no h) = let e : S .nodes ≡ 0 = omega arith in rw (e, empty-step T (S .positions) ray few-positions f) tt

@@ -1,0 +1,62 @@
+-- A node's mask stands for the positions and children that the slot test finds.
+use mathlib.Core.Bool.{true, false}
+use mathlib.Core.Path.{_≡_, refl, sym, ap, _∙_}
+use Prim.Native.Nat.{ℕ, _+_, _*_, _/_, _%_, _^_, _<_}
+use native.Mathlib.Omega.{arith}
+use lib.Bits.{bitXor, xor-lt}
+use lib.Dec.{eqb}
+use lib.Pow.{shr-shr}
+use Rattle.words.specs.Ones.{onesBelow}
+use Rattle.words.specs.Fields.{field}
+use Rattle.words.proofs.Ranks.{bit-is}
+use Rattle.node.specs.Node.{childIndex}
+use Rattle.walk.specs.Slots.{Slots, childAt, passedChild, passedPosition, positionsOf, childrenOf}
+use Rattle.walk.specs.Words.{isSet, positionsIn, childrenIn}
+use Rattle.walk.specs.WordStep.{passedPositions, passedChildren, Decodes}
+use Rattle.walk.specs.Masks.{wordsOf, MaskLaws}
+use Rattle.walk.proofs.Falling.{falling-same, falling-cut}
+use Rattle.walk.proofs.Words.{past-clear, cut-set, cut-rank}
+
+-- two words that are equal from digit 24 on have the same bits there
+high-set : (k a b : ℕ) → a / 0x100_0000 ≡ b / 0x100_0000 → isSet (24 + k) a ≡ isSet (24 + k) b
+high-set k a b e = ap (λ (x : ℕ). eqb x 1) (digit a ∙ ap (λ (x : ℕ). x / 2 ^ k % 2) e ∙ sym (digit b))
+  where
+    digit : (n : ℕ) → field 1 (24 + k) n ≡ n / 0x100_0000 / 2 ^ k % 2
+    digit n = bit-is (24 + k) n ∙ ap (λ (x : ℕ). x % 2) (sym (shr-shr n 24 k))
+
+module _ {s d : Type 0} (W : Slots s d) (mask : s → ℕ → ℕ) (H : MaskLaws W mask) where
+  positions-are : (ray : s) (n v : ℕ) → W .forged ray ≡ false → v < W .shape .nodes → W .rule n v ≡ true
+      → positionsIn (passedPositions (wordsOf W mask) ray v) ≡ positionsOf W ray v
+  positions-are ray n v f h r =
+      falling-cut (λ b. W .positionBase v + b) (λ b. isSet b (mask ray v % 0x100_0000)) 24 32 (omega arith) (λ i x y. past-clear 24 i (mask ray v % 0x100_0000) (omega arith) x)
+      ∙ falling-same (λ b. W .positionBase v + b) (λ b. W .positionBase v + b) (λ b. isSet b (mask ray v % 0x100_0000)) (λ b. passedPosition W ray v (W .positionBase v + b)) 24
+      (λ b l. cut-set 24 b (mask ray v) l ∙ H .position-bit ray n v b f h r l) (λ i l e. refl)
+
+  children-are : (ray : s) (n v : ℕ) → W .forged ray ≡ false → v < W .shape .nodes → W .rule n v ≡ true
+      → childrenIn (W .octant ray) (passedChildren (wordsOf W mask) ray v) ≡ childrenOf W ray v
+  unfolding childIndex
+  children-are ray n v f h r =
+      falling-same (λ k. childIndex (W .shape .base v) (bits) (bitXor k (W .octant ray))) (λ k. childAt W v (bitXor k (W .octant ray)))
+      (λ k. isSet (24 + k) bits) (λ k. passedChild W ray v (bitXor k (W .octant ray))) 8
+      (λ k l. high-set k bits (mask ray v) (omega (arith, H .imask-lt v)) ∙ H .child-bit ray n v k f h r l)
+      (λ k l e. ap (λ (x : ℕ). W .shape .base v + x) (rank (bitXor k (W .octant ray)) (xor-lt 3 k (W .octant ray) l (H .octant-lt ray f))))
+    where
+      bits : ℕ
+      bits = mask ray v / 0x100_0000 * 0x100_0000 + W .imask v
+
+      rank : (j : ℕ) → j < 8 → onesBelow j (mask ray v / 0x100_0000 * 0x100_0000 + W .imask v) ≡ onesBelow j (W .imask v)
+      rank j l =
+          let e : (mask ray v / 0x100_0000 * 0x100_0000 + W .imask v) % 2 ^ 24 ≡ W .imask v = omega (arith, H .imask-lt v) in
+          sym (cut-rank 24 j (mask ray v / 0x100_0000 * 0x100_0000 + W .imask v) (omega arith)) ∙ ap (onesBelow j) e
+
+  pub masks-decode : Decodes (W .shape .nodes) (wordsOf W mask) (positionsOf W) (childrenOf W)
+  masks-decode =
+      record {
+        octant-lt = H .octant-lt;
+        octant-told = H .octant-told;
+        mask-lt = H .mask-lt;
+        imask-lt = H .imask-lt;
+        child-base-lt = H .child-base-lt;
+        positions-are = positions-are;
+        children-are = children-are;
+      }

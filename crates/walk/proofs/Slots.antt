@@ -1,0 +1,165 @@
+-- What a slot test finds of a node: its own children and positions, each once; and the nodes reached and positions passed in words of slots.
+use mathlib.Core.Bool.{true, false}
+use mathlib.Core.Logic.{_↔_}
+use mathlib.Core.Path.{_≡_, sym, ap, _∙_, subst}
+use Prim.Native.Nat.{ℕ, _+_, _-_, _≤_, _<_}
+use native.Mathlib.Omega.{arith}
+use lib.Bits.{bitXor, xor-lt}
+use Rattle.lists.specs.Counts.{count}
+use Rattle.lists.proofs.Counts.{Some, none, some, some?}
+use Rattle.lists.proofs.Sums.{sum-term}
+use Rattle.lists.proofs.Tells.{Tells, told, tells-true, eqb-tells, true-tells, and-tells}
+use Rattle.words.proofs.Ranks.{bit-is, rank-lt, rank-inj}
+use Rattle.soundness.specs.Range.{inRange}
+use Rattle.soundness.specs.Shape.{Holds, held}
+use Rattle.soundness.proofs.Range.{in-range, range-stands}
+use Rattle.node.specs.Node.{innerBit, childIndex}
+use Rattle.decode.proofs.Decode.{slot-back}
+use Rattle.walk.specs.Listing.{In, Reached, Passed}
+use Rattle.walk.specs.Listing
+use Rattle.walk.specs.Lawful.{Lawful, Narrow}
+use Rattle.walk.specs.Slots.{Slots, childAt, passedChild, passedPosition, positionsOf, childrenOf, testsOf, ReachedBySlots, first, child, PassedBySlots, SlotLaws}
+use Rattle.walk.proofs.Falling.{falling-length, in-falling, falling-in, falling-once, some-tells}
+
+-- a list that repeats nothing and has only numbers that are counted
+pub counted : (n k : ℕ) → n ≤ 1 → (0 < n → 0 < k) → n ≤ k
+counted n k h f = go (some? n)
+  where
+    go : Some n → n ≤ k
+    go (none e) = omega arith
+    go (some e) = omega (arith, f e)
+
+pub slots-narrow : {s d : Type 0} (W : Slots s d) (m : ℕ) → Narrow m (testsOf W)
+slots-narrow W m ray n v f h r = falling-length (λ b. W .positionBase v + b) (λ b. passedPosition W ray v (W .positionBase v + b)) 24
+
+-- ---- what the tests of a slot tell
+
+module _ {s d : Type 0} (W : Slots s d) where
+  pub child-tells : (ray : s) (v j : ℕ) → Tells ((innerBit (W .imask v) j ≡ 1) × (W .passes ray v j ≡ true)) (passedChild W ray v j)
+  child-tells ray v j = and-tells (eqb-tells (innerBit (W .imask v) j) 1) (true-tells (W .passes ray v j))
+
+  pub position-tells : (ray : s) (v x : ℕ)
+      → Tells (((j : ℕ) × (j < 8) × ((inRange x (W .shape .start v j) (W .shape .count v j) ≡ 1) × (W .passes ray v j ≡ true))) × (W .admits ray x ≡ true)) (passedPosition W ray v x)
+  position-tells ray v x =
+      and-tells
+      (some-tells (λ j. (inRange x (W .shape .start v j) (W .shape .count v j) ≡ 1) × (W .passes ray v j ≡ true)) _
+      (λ j. and-tells (eqb-tells (inRange x (W .shape .start v j) (W .shape .count v j)) 1) (true-tells (W .passes ray v j))) 8)
+      (true-tells (W .admits ray x))
+
+module _ {s d : Type 0} (W : Slots s d) (Rule : ℕ → Type 0) (laws : SlotLaws W Rule) where
+  -- ---- children
+
+  -- a child is found exactly if it stands at a slot of imask that the ray passes
+  pub children-iff : (ray : s) (v c : ℕ) → W .forged ray ≡ false
+      → In c (childrenOf W ray v) ↔ ((j : ℕ) × (j < 8) × (innerBit (W .imask v) j ≡ 1) × (W .passes ray v j ≡ true) × (c ≡ childAt W v j))
+  children-iff ray v c f = (to, from)
+    where
+      to : In c (childrenOf W ray v) → (j : ℕ) × (j < 8) × (innerBit (W .imask v) j ≡ 1) × (W .passes ray v j ≡ true) × (c ≡ childAt W v j)
+      to i =
+          let q = in-falling c (λ k. childAt W v (bitXor k (W .octant ray))) (λ k. passedChild W ray v (bitXor k (W .octant ray))) 8 i in
+          let t = told (child-tells W ray v (bitXor (q .0) (W .octant ray))) (q .2) in
+          (bitXor (q .0) (W .octant ray), xor-lt 3 (q .0) (W .octant ray) (q .1) (laws .octant-lt ray f), t .0, t .1, q .3)
+
+      from : (j : ℕ) × (j < 8) × (innerBit (W .imask v) j ≡ 1) × (W .passes ray v j ≡ true) × (c ≡ childAt W v j) → In c (childrenOf W ray v)
+      from q =
+          let e : bitXor (bitXor (q .0) (W .octant ray)) (W .octant ray) ≡ q .0 = slot-back (q .0) (W .octant ray) (q .1) (laws .octant-lt ray f) in
+          let t : passedChild W ray v (bitXor (bitXor (q .0) (W .octant ray)) (W .octant ray)) ≡ true = rw e (tells-true (child-tells W ray v (q .0)) (q .2, q .3)) in
+          subst (λ (x : ℕ). In x (childrenOf W ray v)) (ap (childAt W v) e ∙ sym (q .4))
+          (falling-in (λ k. childAt W v (bitXor k (W .octant ray))) (λ k. passedChild W ray v (bitXor k (W .octant ray))) 8 (bitXor (q .0) (W .octant ray))
+          (xor-lt 3 (q .0) (W .octant ray) (q .1) (laws .octant-lt ray f)) t)
+
+  slots-apart : (ray : s) (v i j : ℕ) → W .forged ray ≡ false → i < 8 → j < 8 → passedChild W ray v (bitXor i (W .octant ray)) ≡ true → passedChild W ray v (bitXor j (W .octant ray)) ≡ true
+      → childAt W v (bitXor i (W .octant ray)) ≡ childAt W v (bitXor j (W .octant ray)) → i ≡ j
+  unfolding childIndex
+  slots-apart ray v i j f h k a b e =
+      let o = laws .octant-lt ray f in
+      let x = bitXor i (W .octant ray) in
+      let y = bitXor j (W .octant ray) in
+      let p = bit-is x (W .imask v) ∙ told (child-tells W ray v x) a .0 in
+      let q = bit-is y (W .imask v) ∙ told (child-tells W ray v y) b .0 in
+      let z : x ≡ y = rank-inj x y (W .imask v) p q (omega arith) in
+      sym (slot-back i (W .octant ray) h o) ∙ ap (λ (u : ℕ). bitXor u (W .octant ray)) z ∙ slot-back j (W .octant ray) k o
+
+  own-children : (ray : s) (v c : ℕ) → W .forged ray ≡ false → v < W .shape .nodes → count c (childrenOf W ray v) ≤ inRange c (W .shape .base v) (W .shape .children v)
+  unfolding childIndex
+  own-children ray v c f h =
+      counted (count c (childrenOf W ray v)) (inRange c (W .shape .base v) (W .shape .children v))
+      (falling-once c (λ k. childAt W v (bitXor k (W .octant ray))) (λ k. passedChild W ray v (bitXor k (W .octant ray))) 8 (λ i j k l a b e. slots-apart ray v i j f k l a b e))
+      (λ i.
+      let q = children-iff ray v c f .0 i in
+      let r = rank-lt (q .0) 8 (W .imask v) (q .1) (bit-is (q .0) (W .imask v) ∙ q .2) in
+      omega (arith, in-range c (W .shape .base v) (W .shape .children v) (omega (arith, q .4)) (omega (arith, q .4, laws .ones v h))))
+
+  -- ---- positions
+
+  -- a position is found exactly if it stands in the leaf range of a slot that the ray passes, and passes itself
+  pub positions-iff : (ray : s) (v x : ℕ) → v < W .shape .nodes → Rule v
+      → In x (positionsOf W ray v) ↔ ((j : ℕ) × Holds (W .shape) v j x × (W .passes ray v j ≡ true) × (W .admits ray x ≡ true))
+  positions-iff ray v x h rule = (to, from)
+    where
+      to : In x (positionsOf W ray v) → (j : ℕ) × Holds (W .shape) v j x × (W .passes ray v j ≡ true) × (W .admits ray x ≡ true)
+      to i =
+          let q = in-falling x (λ b. W .positionBase v + b) (λ b. passedPosition W ray v (W .positionBase v + b)) 24 i in
+          let t = told (position-tells W ray v (W .positionBase v + q .0)) (q .2) in
+          let r = subst (λ (y : ℕ). inRange y (W .shape .start v (t .0 .0)) (W .shape .count v (t .0 .0)) ≡ 1) (sym (q .3)) (t .0 .2 .0) in
+          let z = range-stands x (W .shape .start v (t .0 .0)) (W .shape .count v (t .0 .0)) (omega arith) in
+          (t .0 .0, record { node = h; slot = t .0 .1; from = z .0; before = z .1 }, t .0 .2 .1, subst (λ (y : ℕ). W .admits ray y ≡ true) (sym (q .3)) (t .1))
+
+      from : (j : ℕ) × Holds (W .shape) v j x × (W .passes ray v j ≡ true) × (W .admits ray x ≡ true) → In x (positionsOf W ray v)
+      from (j, g, p, m) =
+          let a = g .from in
+          let b = g .before in
+          let u = laws .window v j h rule (g .slot) (omega arith) in
+          let e : W .positionBase v + (x - W .positionBase v) ≡ x = omega (arith, u .0) in
+          let t : passedPosition W ray v (W .positionBase v + (x - W .positionBase v)) ≡ true =
+          rw e (tells-true (position-tells W ray v x) ((j, g .slot, (in-range x (W .shape .start v j) (W .shape .count v j) a b, p)), m)) in
+          subst (λ (y : ℕ). In y (positionsOf W ray v)) e
+          (falling-in (λ b. W .positionBase v + b) (λ b. passedPosition W ray v (W .positionBase v + b)) 24 (x - W .positionBase v) (omega (arith, u .0, u .1)) t)
+
+  own-positions : (ray : s) (v x : ℕ) → v < W .shape .nodes → Rule v → count x (positionsOf W ray v) ≤ held (W .shape) v x
+  own-positions ray v x h rule =
+      counted (count x (positionsOf W ray v)) (held (W .shape) v x)
+      (falling-once x (λ b. W .positionBase v + b) (λ b. passedPosition W ray v (W .positionBase v + b)) 24 (λ i j k l a b e. omega arith))
+      (λ i.
+      let q = positions-iff ray v x h rule .0 i in
+      omega (
+        arith,
+        sum-term (λ j. inRange x (W .shape .start v j) (W .shape .count v j)) 8 (q .0) (q .1 .slot),
+        in-range x (W .shape .start v (q .0)) (W .shape .count v (q .0)) (q .1 .from) (q .1 .before),
+      ))
+
+  -- ---- the tests are those of the shape
+
+  pub slots-lawful : Lawful (W .shape) Rule (testsOf W)
+  slots-lawful =
+      record {
+        passes-rule = laws .passes-rule;
+        placed = laws .placed;
+        own-positions = λ ray v x f h r. own-positions ray v x h r;
+        own-children = λ ray v c f h r. own-children ray v c f h;
+        told-accepted = laws .told-accepted;
+      }
+
+  -- ---- reached and passed
+
+  module _ (met : (v : ℕ) → v < W .shape .nodes → Rule v) (ray : s) (accepted : W .forged ray ≡ false) where
+    reached-to : (v : ℕ) → Reached (W .shape .nodes) (testsOf W) ray v → ReachedBySlots W ray v
+    reached-to v (Listing.Reached.first e h) = first e h
+    reached-to v (Listing.Reached.child {v = u} r i) = let q = children-iff ray u v accepted .0 i in child (q .0) (reached-to u r) (q .1) (q .2) (q .3) (q .4)
+
+    reached-from : (v : ℕ) → ReachedBySlots W ray v → Reached (W .shape .nodes) (testsOf W) ray v
+    reached-from v (first e h) = Listing.Reached.first e h
+    reached-from v (child {v = u} j r h a b e) = Listing.Reached.child (reached-from u r) (children-iff ray u v accepted .1 (j, h, a, b, e))
+
+    pub reached-iff : (v : ℕ) → Reached (W .shape .nodes) (testsOf W) ray v ↔ ReachedBySlots W ray v
+    reached-iff v = (reached-to v, reached-from v)
+
+    pub passed-iff : (p : ℕ) → ((v : ℕ) → Reached (W .shape .nodes) (testsOf W) ray v → v < W .shape .nodes)
+        → Passed (W .shape .nodes) (testsOf W) ray p ↔ PassedBySlots W ray p
+    passed-iff p node = (to, λ q. (q .node, reached-from (q .node) (q .reached), positions-iff ray (q .node) p (q .holds .node) (met (q .node) (q .holds .node)) .1 (q .slot, q .holds, q .passes, q .admitted)))
+      where
+        to : Passed (W .shape .nodes) (testsOf W) ray p → PassedBySlots W ray p
+        to q =
+            let h = node (q .0) (q .1) in
+            let z = positions-iff ray (q .0) p h (met (q .0) h) .0 (q .2) in
+            record { node = q .0; reached = reached-to (q .0) (q .1); slot = z .0; holds = z .1; passes = z .2; admitted = z .3 }

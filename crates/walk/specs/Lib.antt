@@ -1,0 +1,11 @@
+pub mod Tests
+pub mod Step
+pub mod Calls
+pub mod Listing
+pub mod Queries
+pub mod Lawful
+pub mod Slots
+pub mod Words
+pub mod WordStep
+pub mod Masks
+pub mod WordQueries

@@ -1,0 +1,135 @@
+-- Queries (01, "Walking"; "Rust forms and their replacements"): steps until done, refused or satisfied, and after each reported position a reaction
+-- of the query's own. Any-hit, closest and miss differ in the reaction alone.
+use mathlib.Core.Bool.{Bool, true, false, cond}
+use mathlib.Core.List.{List, [], _∷_, _++_}
+use Prim.Native.Nat.{ℕ, zero, suc, _*_}
+use Rattle.walk.specs.Tests.{Tests}
+use Rattle.walk.specs.Step.{Walker, Answer, tested, position, done, refused, fresh, stepOf, tellOf}
+use Rattle.walk.specs.Calls.{Op, step, tell}
+
+-- what a query does with a position: what it has noted since, which distances it tells, and whether it stops
+pub record Reaction (d a : Type 0) : Type 0 where
+  pub noted : a
+  pub tells : List d
+  pub stop : Bool
+
+-- how a query ended: with done, with a refusal, or with the position at which it stopped
+pub record Outcome (s a : Type 0) : Type 0 where
+  pub walker : Walker s
+  pub noted : a
+  pub ended : Answer
+
+-- several distances told
+abbrev pub toldAll : {s d : Type 0} → Tests s d → List d → Walker s → Walker s
+toldAll T [] w = w
+toldAll T (x ∷ l) w = toldAll T l (tellOf T x w)
+
+abbrev pub tellings : {d : Type 0} → List d → List (Op d)
+tellings [] = []
+tellings (x ∷ l) = tell x ∷ tellings l
+
+module _ {s d a : Type 0} (m : ℕ) (T : Tests s d) (react : ℕ → s → a → Reaction d a) where
+  -- what follows an answer, `go` being the rest of the query
+  abbrev pub follow : Answer → Walker s → a → (Walker s → a → Outcome s a) → Outcome s a
+  follow (tested v) w x go = go w x
+  follow (position p) w x go =
+      let r : Reaction d a = react p (w .ray) x in
+      cond (r .stop) (record { walker = toldAll T (r .tells) w; noted = r .noted; ended = position p }) (go (toldAll T (r .tells) w) (r .noted))
+  follow done w x go = record { walker = w; noted = x; ended = done }
+  follow (refused e) w x go = record { walker = w; noted = x; ended = refused e }
+
+  -- at most f steps, for n positions, from a walker and with something noted already
+  unfoldable pub query : ℕ → ℕ → Walker s → a → Outcome s a
+  unfolding stepOf
+  query zero n w x = record { walker = w; noted = x; ended = tested 0 }
+  query (suc f) n w x = follow (stepOf m T n w .answer) (stepOf m T n w .walker) x (query f n)
+
+  -- the calls that a query makes
+  abbrev pub callsAfter : Answer → Walker s → a → (Walker s → a → List (Op d)) → List (Op d)
+  callsAfter (tested v) w x go = go w x
+  callsAfter (position p) w x go =
+      let r : Reaction d a = react p (w .ray) x in
+      tellings (r .tells) ++ cond (r .stop) [] (go (toldAll T (r .tells) w) (r .noted))
+  callsAfter done w x go = []
+  callsAfter (refused e) w x go = []
+
+  unfoldable pub calls : ℕ → ℕ → Walker s → a → List (Op d)
+  unfolding stepOf
+  calls zero n w x = []
+  calls (suc f) n w x = step n ∷ callsAfter (stepOf m T n w .answer) (stepOf m T n w .walker) x (calls f n)
+
+-- More steps than any query takes: a test and at most 24 positions for each node, and the last that says done.
+abbrev pub stepsFor : ℕ → ℕ
+stepsFor m = suc (25 * m)
+
+-- ---- any-hit: each position is appended
+
+abbrev pub append : {s d : Type 0} → ℕ → s → List ℕ → Reaction d (List ℕ)
+append p r x = record { noted = x ++ (p ∷ []); tells = []; stop = false }
+
+abbrev pub anyHitOf : {s d : Type 0} → ℕ → Tests s d → ℕ → s → Outcome s (List ℕ)
+anyHitOf m T n ray = query m T append (stepsFor m) n (fresh ray) []
+
+-- ---- closest and miss, for any panes
+
+-- a position's pane is at a distance, or refused with a number
+pub data Pane (d : Type 0) : Type 0 where
+  distance : d → Pane d
+  faulty : ℕ → Pane d
+
+-- what closest and miss have noted: nothing yet, a position with its distance, or a refusal
+pub data Found (d : Type 0) : Type 0 where
+  none : Found d
+  hit : ℕ → d → Found d
+  fault : ℕ → Found d
+
+module _ {s d : Type 0} (pane : ℕ → s → Pane d) (nearer : d → s → Bool) where
+  -- closest: a distance below the reach is noted and told, so that a tie keeps the first met
+  abbrev pub lower : Bool → ℕ → d → Found d → Reaction d (Found d)
+  lower true p t x = record { noted = hit p t; tells = t ∷ []; stop = false }
+  lower false p t x = record { noted = x; tells = []; stop = false }
+
+  abbrev pub lowerAt : Pane d → ℕ → s → Found d → Reaction d (Found d)
+  lowerAt (distance t) p r x = lower (nearer t r) p t x
+  lowerAt (faulty e) p r x = record { noted = fault e; tells = []; stop = true }
+
+  abbrev pub closest : ℕ → s → Found d → Reaction d (Found d)
+  closest p r x = lowerAt (pane p r) p r x
+
+  -- miss: the first distance below the reach ends it
+  abbrev pub blockAt : Pane d → ℕ → s → Found d → Reaction d (Found d)
+  blockAt (distance t) p r x = record { noted = cond (nearer t r) (hit p t) x; tells = []; stop = nearer t r }
+  blockAt (faulty e) p r x = record { noted = fault e; tells = []; stop = true }
+
+  abbrev pub miss : ℕ → s → Found d → Reaction d (Found d)
+  miss p r x = blockAt (pane p r) p r x
+
+  module _ (m : ℕ) (T : Tests s d) (n : ℕ) (ray : s) where
+    abbrev pub closestOf : Outcome s (Found d)
+    closestOf = query m T closest (stepsFor m) n (fresh ray) none
+
+    abbrev pub missOf : Outcome s (Found d)
+    missOf = query m T miss (stepsFor m) n (fresh ray) none
+
+-- ---- how a query ends
+
+-- there is a next step
+abbrev pub Going : Answer → Type 0
+Going (tested v) = Unit {0}
+Going (position p) = Unit {0}
+Going done = ⊥
+Going (refused e) = ⊥
+
+-- it has ended: done, refused, or stopped at a position
+abbrev pub Halted : Answer → Type 0
+Halted (tested v) = ⊥
+Halted (position p) = Unit {0}
+Halted done = Unit {0}
+Halted (refused e) = Unit {0}
+
+-- it has ended without a refusal by the walk
+abbrev pub Ended : Answer → Type 0
+Ended (tested v) = ⊥
+Ended (position p) = Unit {0}
+Ended done = Unit {0}
+Ended (refused e) = ⊥

@@ -1,0 +1,91 @@
+-- A record's nodes slot by slot, and what a slot test makes of them (01, "Walking"; "Words, bytes and bounds").
+use mathlib.Core.Bool.{Bool, true, false, _&&_, _||_, cond}
+use mathlib.Core.List.{List, [], _∷_, _++_}
+use mathlib.Core.Path.{_≡_}
+use Prim.Native.Nat.{ℕ, zero, suc, _+_, _<_, _≤_}
+use lib.Bits.{bitXor}
+use lib.Dec.{eqb}
+use Rattle.words.specs.Ones.{onesBelow}
+use Rattle.soundness.specs.Range.{inRange}
+use Rattle.soundness.specs.Shape.{Shape, Holds, Placed}
+use Rattle.node.specs.Node.{innerBit, childIndex}
+use Rattle.walk.specs.Tests.{Tests}
+
+-- f of each number below w that passes the test, the highest number first
+abbrev pub falling : (ℕ → ℕ) → (ℕ → Bool) → ℕ → List ℕ
+falling f b zero = []
+falling f b (suc w) = cond (b w) (f w ∷ []) [] ++ falling f b w
+
+-- some number below w passes the test
+abbrev pub someBelow : (ℕ → Bool) → ℕ → Bool
+someBelow b zero = false
+someBelow b (suc w) = b w || someBelow b w
+
+-- A record and a ray: s and d as in `Tests`.
+pub record Slots (s d : Type 0) : Type 0 where
+  pub shape : Shape
+  -- bit j is 1 where slot j of the node holds a child
+  pub imask : ℕ → ℕ
+  -- from where on a node's positions are counted
+  pub positionBase : ℕ → ℕ
+  pub rule : ℕ → ℕ → Bool
+  pub octant : s → ℕ
+  -- `passes ray v j`: the ray passes slot j of node v
+  pub passes : s → ℕ → ℕ → Bool
+  -- a position's own test; all pass where there is none
+  pub admits : s → ℕ → Bool
+  pub told : d → s → s
+  pub forged : s → Bool
+
+module _ {s d : Type 0} (W : Slots s d) where
+  -- the number of the child in slot j of node v
+  abbrev pub childAt : ℕ → ℕ → ℕ
+  childAt v j = childIndex (W .shape .base v) (W .imask v) j
+
+  -- slot j of node v holds a child that the ray passes
+  abbrev pub passedChild : s → ℕ → ℕ → Bool
+  passedChild ray v j = eqb (innerBit (W .imask v) j) 1 && W .passes ray v j
+
+  -- position x stands in the leaf range of a slot of node v that the ray passes
+  abbrev pub passedPosition : s → ℕ → ℕ → Bool
+  passedPosition ray v x = someBelow (λ j. eqb (inRange x (W .shape .start v j) (W .shape .count v j)) 1 && W .passes ray v j) 8 && W .admits ray x
+
+  -- the passed positions of a node are 24 at most, the highest first; the octant plays no part
+  abbrev pub positionsOf : s → ℕ → List ℕ
+  positionsOf ray v = falling (λ b. W .positionBase v + b) (λ b. passedPosition ray v (W .positionBase v + b)) 24
+
+  -- the passed children by falling slot XOR octant
+  abbrev pub childrenOf : s → ℕ → List ℕ
+  childrenOf ray v = falling (λ k. childAt v (bitXor k (W .octant ray))) (λ k. passedChild ray v (bitXor k (W .octant ray))) 8
+
+  abbrev pub testsOf : Tests s d
+  testsOf = record { rule = W .rule; positions = positionsOf; children = childrenOf; told = W .told; forged = W .forged }
+
+  -- ---- in the words of the demand
+
+  -- the first node is reached; another is reached if its parent is and the ray passes its slot there
+  pub data ReachedBySlots (ray : s) : ℕ → Type 0 where
+    first : {v : ℕ} → v ≡ 0 → 0 < W .shape .nodes → ReachedBySlots ray v
+    child : {v c : ℕ} (j : ℕ) → ReachedBySlots ray v → j < 8 → innerBit (W .imask v) j ≡ 1 → W .passes ray v j ≡ true → c ≡ childAt v j → ReachedBySlots ray c
+
+  -- a position is passed if its node is reached and the ray passes its slot there, and the position itself
+  pub record PassedBySlots (ray : s) (p : ℕ) : Type 0 where
+    pub node : ℕ
+    pub reached : ReachedBySlots ray node
+    pub slot : ℕ
+    pub holds : Holds (W .shape) node slot p
+    pub passes : W .passes ray node slot ≡ true
+    pub admitted : W .admits ray p ≡ true
+
+  -- ---- what makes the tests those of a record of this shape
+
+  pub record SlotLaws (Rule : ℕ → Type 0) : Type 0 where
+    pub passes-rule : (v : ℕ) → v < W .shape .nodes → Rule v → W .rule (W .shape .positions) v ≡ true
+    pub placed : (v : ℕ) → v < W .shape .nodes → Rule v → Placed (W .shape) v
+    -- a child range has a node for each one of imask
+    pub ones : (v : ℕ) → v < W .shape .nodes → W .shape .children v ≡ onesBelow 8 (W .imask v)
+    -- leaf ranges lie among the 24 positions from the node's base on
+    pub window : (v j : ℕ) → v < W .shape .nodes → Rule v → j < 8 → 0 < W .shape .count v j
+        → (W .positionBase v ≤ W .shape .start v j) × (W .shape .start v j + W .shape .count v j ≤ W .positionBase v + 24)
+    pub octant-lt : (ray : s) → W .forged ray ≡ false → W .octant ray < 8
+    pub told-accepted : (x : d) (ray : s) → W .forged ray ≡ false → W .forged (W .told x ray) ≡ false

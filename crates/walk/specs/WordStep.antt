@@ -1,0 +1,177 @@
+-- A walker of words and its step, in the order in which code takes it (01, "Walking"; "Causes of refusal"). It is defined for all words.
+use mathlib.Core.Bool.{Bool, true, false, not, _&&_, _||_, cond}
+use mathlib.Core.List.{List, [], _∷_}
+use mathlib.Core.Path.{_≡_}
+use Prim.Native.Nat.{ℕ, suc, _+_, _-_, _*_, _/_, _%_, _^_, _≤_, _<_}
+use lib.Dec.{eqb, leb, ltb}
+use lib.ListN.{length, getD, replicate}
+use Rattle.faststack.specs.Stack.{capacity, hasRoom, pushed, topOf}
+use Rattle.walk.specs.Tests.{Tests}
+use Rattle.walk.specs.Step.{Walker, Answer, tested, position, done, refused, Stepped, sizesFit, badPosition, stay}
+use Rattle.walk.specs.Calls.{Op, step, tell}
+use Rattle.walk.specs.Words.{Group, packed, unpacked, positionsIn, childrenIn, groupsIn, restOf, firstPosition, firstChild, hasChild, waitingDepth}
+
+pub record WalkerWords (s : Type 0) : Type 0 where
+  pub ray : s
+  pub tests : ℕ
+  -- positions in hand, and the group in hand
+  pub positions : Group
+  pub current : Group
+  -- how many groups wait, and their words, the last pushed highest
+  pub depth : ℕ
+  pub stack : List ℕ
+
+pub record SteppedWords (s : Type 0) : Type 0 where
+  pub walker : WalkerWords s
+  pub answer : Answer
+
+-- What a step in words reads: `rule`, `told` and `forged` as in `Tests`, and of a node its hit mask for a ray and its fields.
+pub record NodeWords (s d : Type 0) : Type 0 where
+  pub rule : ℕ → ℕ → Bool
+  pub told : d → s → s
+  pub forged : s → Bool
+  pub octant : s → ℕ
+  pub mask : s → ℕ → ℕ
+  pub imask : ℕ → ℕ
+  pub childBase : ℕ → ℕ
+  pub positionBase : ℕ → ℕ
+
+abbrev pub noGroup : Group
+noGroup = record { base = 0; bits = 0 }
+
+-- a walker just begun: the first node is the only child of a group without imask
+abbrev pub freshWords : {s : Type 0} → s → WalkerWords s
+freshWords r = record { ray = r; tests = 0; positions = noGroup; current = record { base = 0; bits = 0x8000_0000 }; depth = 0; stack = replicate capacity 0 }
+
+-- all words are in range, as a walker's fields of 32 and 64 bits are
+pub record InRange {s : Type 0} (w : WalkerWords s) : Type 0 where
+  pub positions : w .positions .bits < 2 ^ 32
+  pub base : w .current .base < 2 ^ 32
+  pub bits : w .current .bits < 2 ^ 32
+  pub room : capacity ≤ length (w .stack)
+  pub words : (i : ℕ) → getD (w .stack) i 0 < 2 ^ 64
+
+abbrev pub stayWords : {s : Type 0} → WalkerWords s → Answer → SteppedWords s
+stayWords w a = record { walker = w; answer = a }
+
+-- the position of the highest bit was reported
+abbrev pub afterReportWords : {s : Type 0} → WalkerWords s → SteppedWords s
+afterReportWords w =
+    record {
+      walker =
+          record { ray = w .ray; tests = w .tests; positions = restOf (w .positions); current = w .current; depth = w .depth; stack = w .stack };
+      answer = position (firstPosition (w .positions));
+    }
+
+-- the walker last held, and the answers of the steps
+pub record RunWords (s : Type 0) : Type 0 where
+  pub walker : WalkerWords s
+  pub answers : List Answer
+
+-- ---- what the words of a node and of a walker say
+
+module _ {s d : Type 0} (N : NodeWords s d) where
+  -- the low 24 bits of a mask are positions; its top byte is laid over imask
+  abbrev pub passedPositions : s → ℕ → Group
+  passedPositions r v = record { base = N .positionBase v; bits = N .mask r v % 0x100_0000 }
+
+  abbrev pub passedChildren : s → ℕ → Group
+  passedChildren r v = record { base = N .childBase v; bits = N .mask r v / 0x100_0000 * 0x100_0000 + N .imask v }
+
+  abbrev pub tellWords : d → WalkerWords s → WalkerWords s
+  tellWords x w = record { ray = N .told x (w .ray); tests = w .tests; positions = w .positions; current = w .current; depth = w .depth; stack = w .stack }
+
+  -- the walker on lists that the words stand for
+  abbrev pub decoded : WalkerWords s → Walker s
+  decoded w =
+      record {
+        ray = w .ray;
+        tests = w .tests;
+        positions = positionsIn (w .positions);
+        group = childrenIn (N .octant (w .ray)) (w .current);
+        stack = groupsIn (N .octant (w .ray)) (w .stack) (w .depth);
+      }
+
+  abbrev pub decodedStep : SteppedWords s → Stepped s
+  decodedStep r = stay (decoded (r .walker)) (r .answer)
+
+  -- the tests of a step on lists: it differs in the lists that a node gives
+  abbrev pub testsWith : (s → ℕ → List ℕ) → (s → ℕ → List ℕ) → Tests s d
+  testsWith positions children = record { rule = N .rule; positions = positions; children = children; told = N .told; forged = N .forged }
+
+-- ---- a step on a record of m nodes
+
+module _ {s d : Type 0} (m : ℕ) (N : NodeWords s d) where
+  -- ---- what stands in the way
+
+  abbrev pub forgedWords : WalkerWords s → Bool
+  forgedWords w = N .forged (w .ray) || ltb capacity (w .depth) || ltb m (w .tests)
+
+  abbrev pub onlyFirstWords : WalkerWords s → Bool
+  onlyFirstWords w = eqb (w .positions .bits) 0 && hasChild (w .current) && eqb (firstChild (N .octant (w .ray)) (w .current)) 0 && not (hasChild (restOf (w .current))) && eqb (w .depth) 0
+
+  -- the first child of group g may not be tested, with d groups below
+  abbrev pub badChild : ℕ → WalkerWords s → Group → ℕ → Bool
+  badChild n w g d =
+      (hasChild (restOf g) && not (hasRoom d)) || leb m (firstChild (N .octant (w .ray)) g) || leb m (w .tests)
+      || not (N .rule n (firstChild (N .octant (w .ray)) g))
+
+  -- ---- a step
+
+  -- the first child of group g is tested; the rest waits above d groups, if it holds a child
+  abbrev pub afterTestWords : WalkerWords s → Group → ℕ → SteppedWords s
+  afterTestWords w g d =
+      record {
+        walker =
+            record {
+              ray = w .ray;
+              tests = suc (w .tests);
+              positions = passedPositions N (w .ray) (firstChild (N .octant (w .ray)) g);
+              current = passedChildren N (w .ray) (firstChild (N .octant (w .ray)) g);
+              depth = cond (hasChild (restOf g)) (suc d) d;
+              stack = cond (hasChild (restOf g)) (pushed (w .stack) d (packed (restOf g))) (w .stack);
+            };
+        answer = tested (firstChild (N .octant (w .ray)) g);
+      }
+
+  abbrev pub reportWords : ℕ → WalkerWords s → SteppedWords s
+  reportWords n w = cond (badPosition m n (firstPosition (w .positions))) (stayWords w (refused 10)) (afterReportWords w)
+
+  abbrev pub visitWords : ℕ → WalkerWords s → Group → ℕ → SteppedWords s
+  visitWords n w g d = cond (badChild n w g d) (stayWords w (refused 10)) (afterTestWords w g d)
+
+  -- the last group that waits, d being the depth with it on top
+  abbrev pub popWords : ℕ → WalkerWords s → ℕ → SteppedWords s
+  popWords n w d = cond (ltb 0 d) (visitWords n w (unpacked (topOf (w .stack) d)) (d - 1)) (stayWords w done)
+
+  -- positions come first, then the group in hand, then the stack
+  abbrev pub advanceWords : ℕ → WalkerWords s → SteppedWords s
+  advanceWords n w =
+      cond (ltb 0 (w .positions .bits)) (reportWords n w)
+      (cond (hasChild (w .current)) (visitWords n w (w .current) (w .depth)) (popWords n w (waitingDepth (w .stack) (w .depth))))
+
+  unfoldable pub stepWords : ℕ → WalkerWords s → SteppedWords s
+  stepWords n w =
+      cond (sizesFit m n)
+      (cond (forgedWords w) (stayWords w (refused 10)) (cond (leb m 0 && onlyFirstWords w) (stayWords w done) (advanceWords n w)))
+      (stayWords w (refused 2))
+
+  -- ---- lists of calls
+
+  unfoldable pub runWords : List (Op d) → WalkerWords s → RunWords s
+  unfolding stepWords
+  runWords [] w = record { walker = w; answers = [] }
+  runWords (step n ∷ l) w =
+      let r = runWords l (stepWords n w .walker) in
+      record { walker = r .walker; answers = stepWords n w .answer ∷ r .answers }
+  runWords (tell x ∷ l) w = runWords l (tellWords N x w)
+
+  -- a node's words stand for the lists of its passed positions and children, where the node meets the rule
+  pub record Decodes (positions children : s → ℕ → List ℕ) : Type 0 where
+    pub octant-lt : (r : s) → N .forged r ≡ false → N .octant r < 8
+    pub octant-told : (x : d) (r : s) → N .octant (N .told x r) ≡ N .octant r
+    pub mask-lt : (r : s) (v : ℕ) → N .mask r v < 2 ^ 32
+    pub imask-lt : (v : ℕ) → N .imask v < 256
+    pub child-base-lt : (v : ℕ) → N .childBase v < 2 ^ 32
+    pub positions-are : (r : s) (n v : ℕ) → N .forged r ≡ false → v < m → N .rule n v ≡ true → positionsIn (passedPositions N r v) ≡ positions r v
+    pub children-are : (r : s) (n v : ℕ) → N .forged r ≡ false → v < m → N .rule n v ≡ true → childrenIn (N .octant r) (passedChildren N r v) ≡ children r v

@@ -1,0 +1,151 @@
+-- A record's bytes give all that the walk's theory asks: of its slots where nodes meet the rule, and of its hit masks.
+use mathlib.Core.Bool.{Bool, true, false}
+use mathlib.Core.List.{List}
+use mathlib.Core.Path.{_≡_, refl, subst}
+use Prim.Native.Nat.{ℕ, zero, suc, _+_, _-_, _*_, _%_, _^_, _≤_, _<_}
+use native.Mathlib.Nat.{mod-lt}
+use native.Mathlib.Omega.{arith}
+use lib.Bits.{bitXor, xor-lt}
+use lib.ListN.{getD}
+use lib.Pow.{pow-pos}
+use Rattle.lists.proofs.Tells.{told, tells-true, tells-same, tells-as, eqb-tells}
+use Rattle.words.specs.Ones.{onesBelow}
+use Rattle.words.specs.Fields.{field}
+use Rattle.words.proofs.Le.{le-lt}
+use Rattle.words.proofs.Ors.{or-of-lt}
+use Rattle.soundness.specs.Range.{inRange}
+use Rattle.soundness.proofs.Range.{in-range, range-stands}
+use Rattle.ray.specs.declared.Ray.{Ray}
+use Rattle.node.specs.declared.Node.{Node}
+use Rattle.node.specs.Node.{nodeAt, nodeFrom, innerBit, codeCount}
+use Rattle.decode.specs.Meta.{childBits, bitIndex}
+use Rattle.decode.proofs.Decode.{slot-back}
+use Rattle.rule.specs.Rule.{Rule, SlotRule, empty, child, leaf, nodeRule}
+use Rattle.slot.specs.Mask.{onlyIf, hitBits, passesSlot, slotHit, hitMask}
+use Rattle.hits.proofs.HitBits.{child-bit-set, child-bit-of, position-bit-of, position-bit-set}
+use Rattle.record_shape.specs.Record.{nodeCount, metaAt, leafCount, shapeAt, RuleAt}
+use Rattle.record_shape.proofs.Placed.{placed}
+use Rattle.record_shape.proofs.Record.{node-tells}
+use Rattle.walk.specs.Slots.{passedChild, passedPosition, SlotLaws}
+use Rattle.walk.specs.Words.{isSet}
+use Rattle.walk.specs.Masks.{MaskLaws}
+use Rattle.walk.proofs.Slots.{child-tells, position-tells}
+use Rattle.walk_record.specs.Record.{Rays, RayLaws, AreBytes, slotsAt, maskAt}
+
+-- ---- what the rule says of a leaf range
+
+leaf-window : (meta bit s base n : ℕ) → SlotRule meta bit s base n → 0 < leafCount bit meta → meta % 32 + leafCount bit meta ≤ 24
+unfolding leafCount onesBelow
+leaf-window meta zero s base n (empty e f) h = let z : leafCount 0 meta ≡ 0 = rw e in absurd (omega arith)
+leaf-window meta (suc k) s base n (empty e f) h = absurd (omega arith)
+leaf-window meta zero s base n (child e f) h = absurd (omega arith)
+leaf-window meta (suc k) s base n (child e f) h = absurd (omega arith)
+leaf-window meta zero s base n (leaf r f a b) h = a
+leaf-window meta (suc k) s base n (leaf r f a b) h = absurd (omega arith)
+
+-- only a slot that holds no child has positions
+leaf-count : (bit meta : ℕ) → 0 < leafCount bit meta → (bit ≡ 0) × (leafCount bit meta ≡ codeCount meta)
+unfolding leafCount
+leaf-count zero meta h = (refl, refl)
+leaf-count (suc bit) meta h = absurd (omega arith)
+
+leaf-counts : (bit meta : ℕ) → bit ≡ 0 → leafCount bit meta ≡ codeCount meta
+unfolding leafCount
+leaf-counts bit meta e = rw e
+
+module _ {s d : Type 0} (bytes : List ℕ) (R : Rays s d) (laws : RayLaws R) (n : ℕ) where
+  -- ---- slots
+
+  pub slot-laws : SlotLaws (slotsAt bytes R n) (RuleAt bytes n)
+  unfolding shapeAt
+  slot-laws = record {
+    passes-rule = λ v h r. tells-true (node-tells bytes (nodeCount bytes) n v) r;
+    placed = λ v h r. placed bytes n v r;
+    ones = λ v h. refl;
+    window = λ v j h r l c. (
+      omega arith,
+      omega (arith, leaf-window (metaAt (nodeAt bytes v) j) (innerBit (nodeAt bytes v .imask) j) j (nodeAt bytes v .«primitive_base_idx») n (r .slots j l) c),
+    );
+    octant-lt = laws .octant-lt;
+    told-accepted = laws .told-accepted;
+  }
+
+  -- ---- masks
+
+  met : (k v : ℕ) → nodeRule (nodeAt bytes v) (nodeCount bytes) k v ≡ true → Rule (nodeAt bytes v) (nodeCount bytes) k v
+  met k v e = told (node-tells bytes (nodeCount bytes) k v) e
+
+  child-bit : (r : s) (k v i : ℕ) → R .forged r ≡ false → nodeRule (nodeAt bytes v) (nodeCount bytes) k v ≡ true → i < 8
+      → isSet (24 + i) (maskAt bytes R r v) ≡ passedChild (slotsAt bytes R n) r v (bitXor i (R .octant r))
+  child-bit r k v i f e l =
+      tells-same (tells-as (eqb-tells (field 1 (24 + i) (maskAt bytes R r v)) 1) to from) (child-tells (slotsAt bytes R n) r v (bitXor i (R .octant r)))
+    where
+      o : R .octant r < 8
+      o = laws .octant-lt r f
+
+      to : field 1 (24 + i) (maskAt bytes R r v) ≡ 1
+          → (innerBit (nodeAt bytes v .imask) (bitXor i (R .octant r)) ≡ 1) × (passesSlot (nodeAt bytes v) (R .ray r) (bitXor i (R .octant r)) ≡ true)
+      to z =
+          let h = child-bit-of (nodeAt bytes v) (R .ray r) (R .octant r) k (laws .octant-lt r f) (met k v e .slots) (24 + i) (omega arith) z in
+          let y : 24 + i - 24 ≡ i = omega arith in
+          let j : (innerBit (nodeAt bytes v .imask) (bitXor (24 + i - 24) (R .octant r)) ≡ 1) × (passesSlot (nodeAt bytes v) (R .ray r) (bitXor (24 + i - 24) (R .octant r)) ≡ true) = (h .inner, h .passed) in
+          subst (λ (x : ℕ). (innerBit (nodeAt bytes v .imask) (bitXor x (R .octant r)) ≡ 1) × (passesSlot (nodeAt bytes v) (R .ray r) (bitXor x (R .octant r)) ≡ true)) y j
+
+      from : (innerBit (nodeAt bytes v .imask) (bitXor i (R .octant r)) ≡ 1) × (passesSlot (nodeAt bytes v) (R .ray r) (bitXor i (R .octant r)) ≡ true)
+          → field 1 (24 + i) (maskAt bytes R r v) ≡ 1
+      from q =
+          subst (λ (x : ℕ). field 1 (24 + x) (maskAt bytes R r v) ≡ 1) (slot-back i (R .octant r) l (laws .octant-lt r f))
+          (child-bit-set (nodeAt bytes v) (R .ray r) (R .octant r) k (laws .octant-lt r f) (met k v e .slots) (bitXor i (R .octant r)) (xor-lt 3 i (R .octant r) l (laws .octant-lt r f)) (q .0) (q .1))
+
+  position-bit : (r : s) (k v b : ℕ) → R .forged r ≡ false → nodeRule (nodeAt bytes v) (nodeCount bytes) k v ≡ true → b < 24
+      → isSet b (maskAt bytes R r v) ≡ passedPosition (slotsAt bytes R n) r v (nodeAt bytes v .«primitive_base_idx» + b)
+  unfolding shapeAt
+  position-bit r k v b f e l =
+      tells-same (tells-as (eqb-tells (field 1 b (maskAt bytes R r v)) 1) to from) (position-tells (slotsAt bytes R n) r v (base + b))
+    where
+      base : ℕ
+      base = nodeAt bytes v .«primitive_base_idx»
+
+      bit : ℕ → ℕ
+      bit j = innerBit (nodeAt bytes v .imask) j
+
+      meta : ℕ → ℕ
+      meta j = metaAt (nodeAt bytes v) j
+
+      to : field 1 b (maskAt bytes R r v) ≡ 1
+          → ((j : ℕ) × (j < 8) × ((inRange (base + b) (base + meta j % 32) (leafCount (bit j) (meta j)) ≡ 1) × (passesSlot (nodeAt bytes v) (R .ray r) j ≡ true))) × (_≡_ {A = Bool} true true)
+      to z =
+          let q = position-bit-of (nodeAt bytes v) (R .ray r) (R .octant r) k (laws .octant-lt r f) (met k v e .slots) b l z in
+          let c = leaf-counts (bit (q .0)) (meta (q .0)) (q .1 .outer) in
+          ((q .0, q .1 .slot, (in-range (base + b) (base + meta (q .0) % 32) (leafCount (bit (q .0)) (meta (q .0))) (omega (arith, q .1 .from)) (omega (arith, q .1 .upto)), q .1 .passed)), refl)
+
+      from : ((j : ℕ) × (j < 8) × ((inRange (base + b) (base + meta j % 32) (leafCount (bit j) (meta j)) ≡ 1) × (passesSlot (nodeAt bytes v) (R .ray r) j ≡ true))) × (_≡_ {A = Bool} true true)
+          → field 1 b (maskAt bytes R r v) ≡ 1
+      from q =
+          let j = q .0 .0 in
+          let g = range-stands (base + b) (base + meta j % 32) (leafCount (bit j) (meta j)) (omega (arith, q .0 .2 .0)) in
+          let c = leaf-count (bit j) (meta j) (omega (arith, g .0, g .1)) in
+          position-bit-set (nodeAt bytes v) (R .ray r) (R .octant r) k (laws .octant-lt r f) (met k v e .slots) b j (q .0 .1) (c .0) (q .0 .2 .1) (omega (arith, g .0)) (omega (arith, g .1, c .1))
+
+-- ---- words in range
+
+mask-lt : (v : Node) (r : Ray) (octant : ℕ) → hitMask v r octant < 2 ^ 32
+unfolding hitMask slotHit hitBits
+mask-lt v r octant = or-of-lt 32 8 (slotHit v r octant) (λ k l. small (passesSlot v r k) (getD (v .«child_meta») k 0))
+  where
+    small : (b : Bool) (meta : ℕ) → onlyIf b ((childBits meta * 2 ^ bitIndex octant meta) % 2 ^ 32) < 2 ^ 32
+    small true meta = mod-lt (childBits meta * 2 ^ bitIndex octant meta) (pow-pos 32)
+    small false meta = pow-pos 32
+
+module _ {s d : Type 0} (bytes : List ℕ) (R : Rays s d) (laws : RayLaws R) (n : ℕ) (small : AreBytes bytes) where
+  pub mask-laws : MaskLaws (slotsAt bytes R n) (maskAt bytes R)
+  unfolding shapeAt nodeFrom
+  mask-laws = record {
+    octant-lt = laws .octant-lt;
+    octant-told = laws .octant-told;
+    mask-lt = λ r v. mask-lt (nodeAt bytes v) (R .ray r) (R .octant r);
+    imask-lt = λ v. small (80 * v + 15);
+    child-base-lt = λ v. le-lt 4 bytes (80 * v + 16) (λ i l. small (80 * v + 16 + i));
+    position-bit = λ r k v b f h e l. position-bit bytes R laws n r k v b f e l;
+    child-bit = λ r k v i f h e l. child-bit bytes R laws n r k v i f e l;
+  }

@@ -1,0 +1,32 @@
+-- The ray that a walker holds, with its octant beside it, what telling does to it, and when it is forged (01, "Walking"; "Causes of refusal").
+use mathlib.Core.Bool.{Bool, not, _&&_, cond}
+use Prim.Native.Nat.{ℕ}
+use lib.Dec.{eqb}
+use lib.Ieee.{Float, lt, eq}
+use Rattle.ray.specs.declared.Ray.{Ray}
+use Rattle.ray.specs.Ray.{safeInverse, octantOf, acceptedRay}
+use Rattle.walk_record.specs.Record.{Rays}
+
+pub record Beam : Type 0 where
+  pub ray : Ray
+  pub octant : ℕ
+
+-- the inverse is the direction's
+abbrev pub ownInverse : Ray → Bool
+ownInverse r =
+    eq (r .inverse .x) (safeInverse (r .direction .x)) && eq (r .inverse .y) (safeInverse (r .direction .y)) && eq (r .inverse .z) (safeInverse (r .direction .z))
+
+-- forged: cause 9 holds of the ray, or its inverse or its octant is not its direction's
+abbrev pub forgedBeam : Beam → Bool
+forgedBeam b = not (acceptedRay (b .ray) && ownInverse (b .ray) && eqb (b .octant) (octantOf (b .ray .direction)))
+
+-- a ray with another reach
+abbrev pub reaching : Float → Ray → Ray
+reaching t r = record { origin = r .origin; direction = r .direction; inverse = r .inverse; tmin = r .tmin; tmax = t }
+
+-- a distance below the reach becomes the reach; any other, a NaN too, does nothing
+abbrev pub toldBeam : Float → Beam → Beam
+toldBeam t b = record { ray = cond (lt t (b .ray .tmax)) (reaching t (b .ray)) (b .ray); octant = b .octant }
+
+abbrev pub beams : Rays Beam Float
+beams = record { ray = λ b. b .ray; octant = λ b. b .octant; told = toldBeam; forged = forgedBeam }

@@ -1,0 +1,62 @@
+-- What a walk reads of a record's bytes (01, "Walking"; "Words, bytes and bounds").
+use mathlib.Core.Bool.{Bool, true, false}
+use mathlib.Core.List.{List}
+use mathlib.Core.Path.{_≡_}
+use Prim.Native.Nat.{ℕ, _<_}
+use lib.ListN.{getD}
+use Rattle.ray.specs.declared.Ray.{Ray}
+use Rattle.node.specs.Node.{nodeAt}
+use Rattle.rule.specs.Rule.{nodeRule}
+use Rattle.slot.specs.Mask.{passesSlot, hitMask}
+use Rattle.record_shape.specs.Record.{nodeCount, shapeAt}
+use Rattle.walk.specs.Slots.{Slots}
+use Rattle.walk.specs.WordStep.{NodeWords}
+
+-- How a walker's ray is read: s is what it holds of one, d is what is told.
+pub record Rays (s d : Type 0) : Type 0 where
+  pub ray : s → Ray
+  pub octant : s → ℕ
+  pub told : d → s → s
+  pub forged : s → Bool
+
+-- an octant is one of eight, and telling changes it as little as it makes a ray forged
+pub record RayLaws {s d : Type 0} (R : Rays s d) : Type 0 where
+  pub octant-lt : (r : s) → R .forged r ≡ false → R .octant r < 8
+  pub octant-told : (x : d) (r : s) → R .octant (R .told x r) ≡ R .octant r
+  pub told-accepted : (x : d) (r : s) → R .forged r ≡ false → R .forged (R .told x r) ≡ false
+
+-- each number of a list is a byte
+abbrev pub AreBytes : List ℕ → Type 0
+AreBytes bytes = (i : ℕ) → getD bytes i 0 < 256
+
+module _ {s d : Type 0} (bytes : List ℕ) (R : Rays s d) where
+  -- the slots of a record of n positions; there is no test of single positions
+  abbrev pub slotsAt : ℕ → Slots s d
+  slotsAt n = record {
+    shape = shapeAt bytes n;
+    imask = λ v. nodeAt bytes v .imask;
+    positionBase = λ v. nodeAt bytes v .«primitive_base_idx»;
+    rule = λ k v. nodeRule (nodeAt bytes v) (nodeCount bytes) k v;
+    octant = R .octant;
+    passes = λ r v j. passesSlot (nodeAt bytes v) (R .ray r) j;
+    admits = λ r x. true;
+    told = R .told;
+    forged = R .forged;
+  }
+
+  -- the hit mask of node v
+  abbrev pub maskAt : s → ℕ → ℕ
+  maskAt r v = hitMask (nodeAt bytes v) (R .ray r) (R .octant r)
+
+  -- what a step in words reads
+  abbrev pub nodeWordsAt : NodeWords s d
+  nodeWordsAt = record {
+    rule = λ k v. nodeRule (nodeAt bytes v) (nodeCount bytes) k v;
+    told = R .told;
+    forged = R .forged;
+    octant = R .octant;
+    mask = maskAt;
+    imask = λ v. nodeAt bytes v .imask;
+    childBase = λ v. nodeAt bytes v .«child_base_idx»;
+    positionBase = λ v. nodeAt bytes v .«primitive_base_idx»;
+  }
