@@ -145,74 +145,105 @@ fn damage(rng: &mut Rng, t: &mut Tree, cause: u32) {
     }
 }
 
-fn refused(rng: &mut Rng, each: usize) -> Group {
-    let mut g = Group::new(CONVERSION_REFUSED, 0);
-    for k in 0..each {
-        for cause in 1..=8 {
-            let n = 2 + rng.below(9);
-            let mut t = tree(rng, n, SHAPES[k % SHAPES.len()], BOXES[k % BOXES.len()]);
-            let mut limit = rng.below(4) as u32;
-            let mut room = Room::needed(n);
-            match cause {
-                2 => continue,
-                3 => limit = rng.pick(&[4, 5, 255, u32::MAX]),
-                4 => match rng.below(4) {
-                    0 => room.decisions -= 1 + rng.below(3),
-                    1 => room.costs -= 1,
-                    2 => room.record -= 1 + rng.below(80),
-                    _ => room.list -= 1,
-                },
-                8 => t = chain(34 + k % 20, rng.pick(&[Boxes::Point])),
-                _ => damage(rng, &mut t, cause),
-            }
-            if cause > 4 {
-                room = Room::needed(t.indices.len());
-                room.decisions += rng.below(4);
-                room.record += rng.below(100);
-            }
-            // a second fault at times: the least number must be given
-            if rng.once_in(4) && cause < 7 {
-                let also = rng.pick(&[5, 6, 7]);
-                if also > cause && t.nodes.len() % 7 == 0 {
-                    damage(rng, &mut t, also);
+/// A call of the conversion: the tree, the leaf limit, and the lengths of the other slices.
+struct Call {
+    tree: Tree,
+    limit: u32,
+    room: Room,
+}
+
+/// A call that is not refused.
+fn call(rng: &mut Rng, k: usize) -> Call {
+    let n = 2 + rng.below(9);
+    let tree = tree(rng, n, SHAPES[k % SHAPES.len()], BOXES[k % BOXES.len()]);
+    let mut room = Room::needed(n);
+    room.decisions += rng.below(4);
+    room.record += rng.below(100);
+    Call { tree, limit: rng.below(4) as u32, room }
+}
+
+impl Call {
+    /// Makes the call meet a cause, but 2.
+    fn spoil(&mut self, rng: &mut Rng, cause: u32) {
+        let n = self.tree.indices.len();
+        match cause {
+            3 => self.limit = rng.pick(&[4, 5, 255, u32::MAX]),
+            4 => {
+                let need = Room::needed(n);
+                match rng.below(4) {
+                    0 => self.room.decisions = need.decisions - 1 - rng.below(3),
+                    1 => self.room.costs = need.costs - 1,
+                    2 => self.room.record = need.record - 1 - rng.below(80),
+                    _ => self.room.list = need.list - 1,
                 }
             }
-            let order = rng.once_in(2);
-            let mut number = conversion_refusal(&t, limit, room);
-            if number == 0 && convert(&t, limit, order).deepest > 31 {
-                number = 8;
+            8 => {
+                self.tree = chain(34 + rng.below(20), Boxes::Point);
+                self.room = Room::needed(self.tree.indices.len());
             }
-            if number != 0 {
-                g.add(refused_case(&t, limit, order, room, number));
+            _ => damage(rng, &mut self.tree, cause),
+        }
+    }
+
+    /// The first cause, or 0.
+    fn number(&self, order: bool) -> u32 {
+        match conversion_refusal(&self.tree, self.limit, self.room) {
+            0 if convert(&self.tree, self.limit, order).deepest > 31 => 8,
+            number => number,
+        }
+    }
+}
+
+/// Calls with one cause, so many of each, and calls with two, of which the lesser must be given.
+fn refused(rng: &mut Rng, each: usize, pairs: usize) -> Group {
+    let mut g = Group::new(CONVERSION_REFUSED, 0);
+    let causes = [1, 3, 4, 5, 6, 7, 8];
+    let mut add = |c: &Call, order: bool, number: u32| {
+        assert_eq!(c.number(order), number);
+        g.add(refused_case(&c.tree, c.limit, order, c.room, number));
+    };
+    for k in 0..each {
+        for cause in causes {
+            let mut c = call(rng, k);
+            c.spoil(rng, cause);
+            add(&c, rng.once_in(2), cause);
+        }
+    }
+    for k in 0..pairs {
+        for also in causes {
+            // no record has a level where cause 7 holds
+            for cause in causes.into_iter().filter(|&x| x < also && (x, also) != (7, 8)) {
+                let (mut c, order) = (call(rng, k), rng.once_in(2));
+                c.spoil(rng, also);
+                assert_eq!(c.number(order), also);
+                c.spoil(rng, cause);
+                add(&c, order, cause);
             }
         }
     }
-    let deep = chain(129, Boxes::Point);
-    let room = Room::needed(129);
-    g.add(refused_case(&deep, 3, false, room, conversion_refusal(&deep, 3, room)));
+    let tree = chain(129, Boxes::Point);
+    add(&Call { tree, limit: 3, room: Room::needed(129) }, false, 7);
     g
 }
 
-/// Refusals by lengths alone, where the words of the tree are all zero, at most so many.
-fn sizes(most: usize) -> Group {
+/// Refusals by lengths alone, where the words of the tree are all zero.
+fn sizes() -> Group {
     let mut g = Group::new(CONVERSION_SIZES, 9);
     let none = Room { decisions: 0, costs: 0, record: 0, list: 0 };
     for n in [0, 1, 2, 3, 100, MOST_LEAVES, MOST_LEAVES + 1] {
         let words = if n == 0 { 0 } else { 7 * (2 * n - 1) };
-        for (nodes, limit, room) in [(words, 4, none), (words, 3, none), (words + 7, 3, none), (words, 4, Room::needed(n))] {
+        let calls = [(words, 4, none), (words, 3, none), (words + 7, 3, none), (words, 4, Room::needed(n))];
+        for (nodes, limit, room) in calls {
             let t = Tree { nodes: vec![0; nodes], indices: vec![0; n] };
-            match conversion_refusal(&t, limit, room) {
-                _ if nodes > most => {}
-                number @ 1..=4 => g.add(sizes_case(nodes, n, limit, false, room, number)),
-                _ => {}
+            if let number @ 1..=4 = conversion_refusal(&t, limit, room) {
+                g.add(sizes_case(nodes, n, limit, false, room, number));
             }
         }
     }
     g
 }
 
-/// The groups, with at most so many zero words where a refusal is by lengths alone.
-pub fn groups(seed: u64, most: usize) -> Vec<Group> {
+pub fn groups(seed: u64) -> Vec<Group> {
     let mut rng = Rng::new(seed);
-    vec![accepted(&mut rng, 220), refused(&mut rng, 30), sizes(most)]
+    vec![accepted(&mut rng, 220), refused(&mut rng, 20, 4), sizes()]
 }

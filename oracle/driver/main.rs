@@ -7,6 +7,7 @@ mod convert;
 mod differences;
 mod generate;
 mod leaves;
+mod nodes;
 mod queries;
 mod query;
 mod record;
@@ -22,9 +23,6 @@ use std::path::Path;
 
 const SEED: u64 = 20261005;
 
-/// The most words of a tree that `replay_trees` has room for.
-const TREE_WORDS: usize = 2048;
-
 const USAGE: &str = "oracle samples          print T's record and check the samples
 oracle store FOLDER     write the files of stored answers
 oracle compare TREES    compare the published code with the rules on random trees and rays
@@ -36,11 +34,11 @@ fn store(folder: &str) -> bool {
     let at = |name: &str| Path::new(folder).join(name);
     std::fs::create_dir_all(folder).unwrap();
     store::write(&at("leaves"), &leaves::groups(SEED));
-    store::write(&at("conversion"), &conversions::groups(SEED + 1, usize::MAX));
-    store::write(&at("trees"), &conversions::groups(SEED + 1, TREE_WORDS));
+    store::write(&at("trees"), &conversions::groups(SEED + 1));
     store::write(&at("check"), &checks::groups(SEED + 2));
     store::write(&at("queries"), &queries::groups(SEED + 3));
     store::write(&at("showrecord"), &show::groups(SEED + 4));
+    store::write(&at("nodes"), &nodes::groups(SEED + 6));
     true
 }
 

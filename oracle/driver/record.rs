@@ -44,10 +44,13 @@ pub fn node(record: &[u8], i: usize) -> Node<'_> {
     Node(&record[80 * i..80 * i + 80])
 }
 
-/// The node rule for node i of m, with n positions.
+/// The node rule for node i of a record, with n positions.
 pub fn rule(record: &[u8], n: usize, i: usize) -> bool {
-    let m = record.len() / 80;
-    let d = node(record, i);
+    rule_of(&node(record, i), i, record.len() / 80, n)
+}
+
+/// The same for a node by itself, number i of m.
+pub fn rule_of(d: &Node, i: usize, m: usize, n: usize) -> bool {
     let head = (0..3).all(|a| in_bounds(d.p(a)) && (53..=161).contains(&d.e(a)));
     let slot = |s: usize| {
         let meta = d.meta(s);

@@ -12,6 +12,9 @@ use stored::word;
 // Room for the words of a stored tree, seven for each node.
 const MOST_WORDS: usize = 2048;
 
+// The words of a tree of 65,537 leaves, one more than it may have, and of a node more.
+const GREATEST: usize = 917518;
+
 // No number of a cause.
 const NO_ANSWER: u32 = 0xffff_ffff;
 
@@ -174,14 +177,23 @@ fn refused(case: &[u8]) -> bool {
     told(word(case, 8), first_cause(words, n))
 }
 
-// The first nine of these, for words that are zero.
-fn lengths(case: &[u8]) -> bool {
-    let size = word(case, 0) as usize;
-    if size > MOST_WORDS {
+// Whether a tree of the first `size` of these words and of n leaves is refused with that number, by lengths alone.
+fn told_sizes(words: &[u32], size: usize, n: usize, number: u32) -> bool {
+    if size > words.len() {
         return false;
     }
-    let space = [0u32; MOST_WORDS];
-    told(word(case, 8), sizes(&space[..size], word(case, 1) as usize))
+    told(number, sizes(&words[..size], n))
+}
+
+// The first nine of these, for words that are zero.
+fn lengths(case: &[u8]) -> bool {
+    let space = [0u32; GREATEST];
+    told_sizes(
+        &space,
+        word(case, 0) as usize,
+        word(case, 1) as usize,
+        word(case, 8),
+    )
 }
 
 // Whether the library agrees with a case.
