@@ -4,6 +4,7 @@ mod checks;
 mod compare;
 mod conversions;
 mod convert;
+mod corners;
 mod differences;
 mod generate;
 mod leaves;
@@ -36,6 +37,7 @@ fn store(folder: &str) -> bool {
     store::write(&at("leaves"), &leaves::groups(SEED));
     store::write(&at("trees"), &conversions::groups(SEED + 1));
     store::write(&at("check"), &checks::groups(SEED + 2));
+    store::write(&at("conversion"), &corners::groups(SEED + 1));
     store::write(&at("queries"), &queries::groups(SEED + 3));
     store::write(&at("showrecord"), &show::groups(SEED + 4));
     store::write(&at("nodes"), &nodes::groups(SEED + 6));

@@ -1,0 +1,96 @@
+//! Stored conversions at the corners: coordinates at the bound and just past it, chains of equal boxes, single leaves.
+use crate::accept::{Room, conversion_refusal};
+use crate::conversions::{case, groups as drawn, refused_case};
+use crate::convert::convert;
+use crate::generate::{BOXES, Boxes, Shape, chain, tree};
+use crate::rng::Rng;
+use crate::store::*;
+use crate::tree::{BOUND, Tree, sample_tree};
+
+/// The most record bytes that `replay_conversion` can lend beside a tree of zero words.
+const RECORD_BYTES: u32 = 12288;
+
+/// Every leaf limit with every order.
+const SETTINGS: [(u32, bool); 8] =
+    [(0, false), (0, true), (1, false), (1, true), (2, false), (2, true), (3, false), (3, true)];
+
+/// T with one end of one box, or both ends of one axis of it, moved out to this magnitude, on each side.
+fn stretched(to: f32) -> Vec<Tree> {
+    let mut trees = vec![];
+    for v in 0..3 {
+        for axis in 0..3 {
+            for (ends, x) in [(vec![0], -to), (vec![3], to), (vec![0, 3], -to), (vec![0, 3], to)] {
+                let mut t = sample_tree();
+                ends.iter().for_each(|end| t.nodes[7 * v + axis + end] = x.to_bits());
+                trees.push(t);
+            }
+        }
+    }
+    trees
+}
+
+/// A chain whose boxes are all the same, and not points.
+fn equal_boxes(n: usize) -> Tree {
+    let mut t = chain(n, Boxes::Point);
+    let ends = [-1.0f32, -0.0, 0.0, 1.0, 0.5, 0.25].map(f32::to_bits);
+    t.nodes.chunks_mut(7).for_each(|node| node[..6].copy_from_slice(&ends));
+    t
+}
+
+fn accepted(rng: &mut Rng) -> Group {
+    let mut g = Group::new(CONVERSION, 0);
+    let mut add = |t: &Tree, limit: u32, order: bool| {
+        assert_eq!(conversion_refusal(t, limit, Room::needed(t.indices.len())), 0);
+        let c = convert(t, limit, order);
+        assert!(c.deepest <= 31);
+        g.add(case(t, limit, order, &c));
+        c.deepest
+    };
+    for (k, t) in stretched(BOUND).iter().enumerate() {
+        let (limit, order) = SETTINGS[k % 8];
+        add(t, limit, order);
+    }
+    for (limit, order) in SETTINGS {
+        assert_eq!(add(&chain(33, Boxes::Point), limit, order), 31);
+        add(&equal_boxes(14), limit, order);
+        BOXES.iter().for_each(|kind| {
+            add(&tree(rng, 1, Shape::Balanced, *kind), limit, order);
+        });
+    }
+    g
+}
+
+fn refused() -> Group {
+    let mut g = Group::new(CONVERSION_REFUSED, 0);
+    let past = f32::from_bits(BOUND.to_bits() + 1);
+    for (k, t) in stretched(past).iter().enumerate() {
+        let (limit, order) = SETTINGS[k % 8];
+        let room = Room::needed(2);
+        assert_eq!(conversion_refusal(t, limit, room), 6);
+        g.add(refused_case(t, limit, order, room, 6));
+    }
+    for (limit, order) in SETTINGS {
+        let t = chain(34, Boxes::Point);
+        let room = Room::needed(34);
+        assert_eq!(conversion_refusal(&t, limit, room), 0);
+        assert!(convert(&t, limit, order).deepest > 31);
+        g.add(refused_case(&t, limit, order, room, 8));
+    }
+    // a way down with over 127 edges, of which the published code makes a record with levels over 31
+    let t = chain(130, Boxes::Point);
+    let room = Room::needed(130);
+    assert_eq!(conversion_refusal(&t, 3, room), 7);
+    assert!(convert(&t, 3, true).deepest > 31);
+    g.add(refused_case(&t, 3, true, room, 7));
+    g
+}
+
+/// The drawn groups and these. Without the trees of zero words whose slices the replay can't lend: those of 65,536 leaves and more with all that they need.
+pub fn groups(seed: u64) -> Vec<Group> {
+    let mut all = drawn(seed);
+    all.iter_mut()
+        .filter(|g| g.kind == CONVERSION_SIZES)
+        .for_each(|g| g.cases.retain(|c| c[4] <= RECORD_BYTES));
+    all.extend([accepted(&mut Rng::new(seed)), refused()]);
+    all
+}
