@@ -1,6 +1,7 @@
 //! The oracle: the published Rust, run on trees and rays, with its answers written for the gate's `replay`.
 mod accept;
 mod checks;
+mod children;
 mod compare;
 mod conversions;
 mod convert;
@@ -41,6 +42,7 @@ fn store(folder: &str) -> bool {
     store::write(&at("queries"), &queries::groups(SEED + 3));
     store::write(&at("showrecord"), &show::groups(SEED + 4));
     store::write(&at("nodes"), &nodes::groups(SEED + 6));
+    store::write(&at("children"), &children::groups(SEED + 7));
     true
 }
 

@@ -1,4 +1,4 @@
-//! Stored answers about one node: its metas decoded, the node rule, and hit masks.
+//! Stored answers about one node: its metas decoded, the node rule, hit masks, and what its slots hold.
 use crate::accept::accepted_ray;
 use crate::conversions::some_tree;
 use crate::convert::{bvh_of, convert, nodes_of};
@@ -255,8 +255,31 @@ fn masks(rng: &mut Rng, count: usize) -> Group {
     g
 }
 
+/// The node, its extent; for each slot whether it is a leaf's or nobody's and whether it is empty (1 and 2), its first
+/// position, how many, and the number of its child (all ones where the low five bits of its meta are below 24).
+fn slots(rng: &mut Rng, count: usize) -> Group {
+    let mut g = Group::new(SLOTS, 55);
+    for k in 0..count {
+        let mut bytes = if k % 2 == 0 { random_node(rng) } else { any_bytes(rng) };
+        // every e byte on every axis, and no base so high that a sum wraps
+        (0..3).for_each(|a| bytes[12 + a] = (k + 85 * a) as u8);
+        (bytes[19], bytes[23]) = (bytes[19] % 128, bytes[23] % 128);
+        let d = nodes_of(&bytes)[0];
+        let e = d.compute_extent();
+        let mut case = words_of(&bytes);
+        case.extend([word(e.x), word(e.y), word(e.z)]);
+        for slot in 0..8 {
+            let (first, positions) = d.child_primitives(slot);
+            let child = if d.child_meta[slot] % 32 < 24 { u32::MAX } else { d.child_node_index(slot) };
+            case.extend([d.is_leaf(slot) as u32 + 2 * d.is_child_empty(slot) as u32, first, positions, child]);
+        }
+        g.add(case);
+    }
+    g
+}
+
 pub fn groups(seed: u64) -> Vec<Group> {
     let mut rng = Rng::new(seed);
     let rng = &mut rng;
-    vec![decoded(rng, 952), rules(rng, 2000), masks(rng, 4000)]
+    vec![decoded(rng, 952), rules(rng, 2000), masks(rng, 4000), slots(rng, 512)]
 }

@@ -28,7 +28,7 @@ use Rattle.bvh2_to_cwbvh.specs.Conversion.{wideAt, recordOf, nodesOf, le
 use Rattle.bvh2_to_cwbvh.proofs.Ready.{holds, room, tabled, whole}
 
 -- ---- the first cause, from the causes up to 7
-cause-early : (ws : List ℕ) (n limit : ℕ) (ordered : Bool) (d c b l k : ℕ) → k ≡ prepareCause ws n limit d c b l → (k ≡ 0 → ⊥) → conversionCause ws n limit ordered d c b l ≡ k
+pub cause-early : (ws : List ℕ) (n limit : ℕ) (ordered : Bool) (d c b l k : ℕ) → k ≡ prepareCause ws n limit d c b l → (k ≡ 0 → ⊥) → conversionCause ws n limit ordered d c b l ≡ k
 unfolding conversionCause
 cause-early ws n limit ordered d c b l k e h = ap by (sym e) ∙ pick k h
   where

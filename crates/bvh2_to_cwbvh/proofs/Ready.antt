@@ -14,8 +14,8 @@ use Rattle.cost.specs.Rows.{Holds}
 use Rattle.children.specs.Tabled.{Tabled}
 use Rattle.wide_tree.proofs.Ordered.{index-count, node-count}
 use Rattle.emit_tree.specs.Emission.{Whole}
-use Rattle.tables.specs.Tables.{recordSize, prepareCause, workAfter}
-use Rattle.tables.proofs.Prepared.{Prepared, prepared, work-length, work-holds}
+use Rattle.tables.specs.Tables.{Prepared, recordSize, prepareCause, workAfter}
+use Rattle.tables.proofs.Prepared.{prepared, work-length, work-holds}
 
 pub record-size : (n : ℕ) → 0 < n → recordSize n ≡ 80 * max 1 (n - 1)
 unfolding recordSize

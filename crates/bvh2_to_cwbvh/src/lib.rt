@@ -43,5 +43,6 @@ pub fn bvh2_to_cwbvh(
         return Conversion::Refused(8);
     }
     let written = emit_tree::emit(words, indices, decisions, record, list, ordered);
-    Conversion::Converted(written.nodes as u32, deepest)
+    let m = written.nodes as u32;
+    Conversion::Converted(m, deepest)
 }

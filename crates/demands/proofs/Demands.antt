@@ -1,10 +1,11 @@
--- The third demand, conversion's half: no position is charged twice, and none is skipped. And the second: a converted record is sound by the
--- record check. All of the record as bytes and the index list as words.
+-- The third demand, conversion's half: no position is charged twice, and none is skipped. And the second: every convertible tree is answered with
+-- the defined bytes, and a converted record is sound by the record check. All of the public call, its record as bytes and its index list as words.
 use mathlib.Core.List.{List, [], Perm, Perm·refl, Perm·map, Perm·trans}
+use mathlib.Core.Logic.{_↔_}
 use mathlib.Core.Path.{_≡_, subst, sym}
 use Prim.Native.Nat.{ℕ, _+_, _<_, _≤_}
-use lib.ListN.{length, getD}
-use Rattle.lists.specs.Counts.{count, upto}
+use lib.ListN.{getD}
+use Rattle.lists.specs.Counts.{count}
 use Rattle.lists.proofs.Perms.{counts-perm}
 use Rattle.soundness.specs.Shape.{Child, Holds}
 use Rattle.soundness.specs.Sound.{OneParent, OneHolder}
@@ -14,65 +15,91 @@ use Rattle.wide.proofs.Demands.{indices-rearranged}
 use Rattle.record_shape.specs.Record.{nodeCount, shapeAt, RuleAt, SoundRecord, DeepestLevel}
 use Rattle.record_shape.specs.Check.{sound, checkOf}
 use Rattle.record_shape.proofs.Placed.{placed}
-use Rattle.demands.specs.Conversion.{Conversion, nothing, written}
+use Rattle.bvh2_to_cwbvh.specs.Conversion.{refused, nodesOf}
+use Rattle.bvh2_to_cwbvh.proofs.Answers as A
+use Rattle.demands.specs.Call.{Call, outcome, Answers, leafCount, recordAt, listAt, leafPositions, deepestLevel, Convertible}
 use Rattle.demands.specs.Children.{childCount, leafChildren}
 use Rattle.demands.proofs.Words.{all-words}
-use Rattle.demands.proofs.Sound.{good, good-check}
+use Rattle.demands.proofs.Writes.{Writes, nothing, written}
+use Rattle.demands.proofs.Answered.{writes, leaf-count, leaf-each}
+use Rattle.demands.proofs.Sound.{Good, good, good-check}
 use Rattle.demands.proofs.Children.{at-most-eight, children-are}
 
-module _ (leaves indices bytes list : List ℕ) (deepest : ℕ) (conversion : Conversion leaves indices bytes list deepest) where
+-- ---- the conversion answers
+-- An accepted tree with a limit to 3 and long enough slices is converted if no level is over 31,
+pub converts : (c : Call) → Convertible c → deepestLevel c ≤ 31 → Answers c (nodesOf (c .words) (leafCount c) (c .limit) (c .ordered)) (deepestLevel c)
+converts c = A.answers (c .words) (c .indices) (c .limit) (c .ordered) (c .decisions) (c .costs) (c .bytes) (c .list)
+
+-- and refused 8 exactly if one is.
+pub refuses-deep : (c : Call) → Convertible c → outcome c .answer ≡ refused 8 ↔ 31 < deepestLevel c
+refuses-deep c = A.refused-eight (c .words) (c .indices) (c .limit) (c .ordered) (c .decisions) (c .costs) (c .bytes) (c .list)
+
+module _ (c : Call) (m d : ℕ) (answers : Answers c m d) where
+  good-record : Good (recordAt c m) (leafCount c) d
+  good-record = subst (λ (n : ℕ). Good (recordAt c m) n d) (leaf-count c m d answers) (good _ (c .indices) (recordAt c m) (listAt c) d (writes c m d answers))
+
+  -- A call that is answered was convertible, and its record and its index list are the defined ones.
+  pub was-convertible : Convertible c
+  was-convertible = A.answered (c .words) (c .indices) (c .limit) (c .ordered) (c .decisions) (c .costs) (c .bytes) (c .list) m d answers .none
+
+  -- ---- positions
   -- Output positions are the numbers below the count of leaves. The leaf ranges take each of them exactly once,
-  pub leaf-ranges-take-each-once : (x : ℕ) → x < length leaves → OneHolder (shapeAt bytes (length leaves)) x
+  pub leaf-ranges-take-each-once : (x : ℕ) → x < leafCount c → OneHolder (shapeAt (recordAt c m) (leafCount c)) x
   unfolding shapeAt
-  leaf-ranges-take-each-once = holder-of _ (RuleAt bytes (length leaves)) (λ i l r. placed bytes (length leaves) i r) (good leaves indices bytes list deepest conversion .sound)
+  leaf-ranges-take-each-once = holder-of _ (RuleAt (recordAt c m) (leafCount c)) (λ i l r. placed (recordAt c m) (leafCount c) i r) (good-record .sound)
 
   -- and no other.
-  pub leaf-ranges-take-no-other : (i s x : ℕ) → Holds (shapeAt bytes (length leaves)) i s x → x < length leaves
+  pub leaf-ranges-take-no-other : (i s x : ℕ) → Holds (shapeAt (recordAt c m) (leafCount c)) i s x → x < leafCount c
   unfolding shapeAt
-  leaf-ranges-take-no-other = holds-position _ (RuleAt bytes (length leaves)) (λ i l r. placed bytes (length leaves) i r) (good leaves indices bytes list deepest conversion .sound)
+  leaf-ranges-take-no-other = holds-position _ (RuleAt (recordAt c m) (leafCount c)) (λ i l r. placed (recordAt c m) (leafCount c) i r) (good-record .sound)
 
+  -- ---- the index list
   -- The index list is the tree leaves' indices rearranged,
-  pub index-list-rearranges : Perm list (wordsAt indices leaves)
-  index-list-rearranges = go conversion
+  pub index-list-rearranges : Perm (listAt c) (wordsAt (c .indices) (leafPositions (c .words) (leafCount c)))
+  index-list-rearranges = go (leafPositions (c .words) (leafCount c)) (recordAt c m) (listAt c) (writes c m d answers)
     where
-      go : Conversion leaves indices bytes list deepest → Perm list (wordsAt indices leaves)
-      go (nothing l b x e) = subst (λ (y : List ℕ). Perm y (wordsAt indices leaves)) (sym x) (subst (λ (y : List ℕ). Perm [] (wordsAt indices y)) (sym l) (Perm·refl []))
-      go (written t h p b x e) =
-          subst (λ (y : List ℕ). Perm y (wordsAt indices leaves)) (sym x)
-          (Perm·trans (indices-rearranged t (λ q. getD indices q 0)) (Perm·map (λ q. getD indices q 0) p))
+      go : (leaves bytes list : List ℕ) → Writes leaves (c .indices) bytes list d → Perm list (wordsAt (c .indices) leaves)
+      go leaves bytes list (nothing l b x e) =
+          subst (λ (y : List ℕ). Perm y (wordsAt (c .indices) leaves)) (sym x) (subst (λ (y : List ℕ). Perm [] (wordsAt (c .indices) y)) (sym l) (Perm·refl []))
+      go leaves bytes list (written t h p b x e) =
+          subst (λ (y : List ℕ). Perm y (wordsAt (c .indices) leaves)) (sym x)
+          (Perm·trans (indices-rearranged t (λ q. getD (c .indices) q 0)) (Perm·map (λ q. getD (c .indices) q 0) p))
 
   -- each as often.
-  pub index-list-as-often : (x : ℕ) → count x list ≡ count x (wordsAt indices leaves)
-  index-list-as-often = counts-perm list (wordsAt indices leaves) .0 index-list-rearranges
+  pub index-list-as-often : (x : ℕ) → count x (listAt c) ≡ count x (wordsAt (c .indices) (leafPositions (c .words) (leafCount c)))
+  index-list-as-often = counts-perm (listAt c) (wordsAt (c .indices) (leafPositions (c .words) (leafCount c))) .0 index-list-rearranges
 
-  -- These are all index words where each of their positions is held by exactly one leaf.
-  pub index-list-rearranges-words : Perm leaves (upto 0 (length indices)) → Perm list indices
-  index-list-rearranges-words p =
-      subst (λ (y : List ℕ). Perm list y) (all-words indices) (Perm·trans index-list-rearranges (Perm·map (λ q. getD indices q 0) p))
+  -- Each index word's position is held by exactly one leaf, so these are all index words.
+  pub index-list-rearranges-words : Perm (listAt c) (c .indices)
+  index-list-rearranges-words =
+      subst (λ (y : List ℕ). Perm (listAt c) y) (all-words (c .indices)) (Perm·trans index-list-rearranges (Perm·map (λ q. getD (c .indices) q 0) (leaf-each c m d answers)))
 
+  -- ---- parents and children
   -- Every node but the first has exactly one parent,
-  pub one-parent : (v : ℕ) → 0 < v → v < nodeCount bytes → OneParent (shapeAt bytes (length leaves)) v
+  pub one-parent : (v : ℕ) → 0 < v → v < nodeCount (recordAt c m) → OneParent (shapeAt (recordAt c m) (leafCount c)) v
   unfolding shapeAt
-  one-parent = parent-of _ (RuleAt bytes (length leaves)) (λ i l r. placed bytes (length leaves) i r) (good leaves indices bytes list deepest conversion .sound)
+  one-parent = parent-of _ (RuleAt (recordAt c m) (leafCount c)) (λ i l r. placed (recordAt c m) (leafCount c) i r) (good-record .sound)
 
   -- and the first has none.
-  pub first-has-no-parent : (p : ℕ) → Child (shapeAt bytes (length leaves)) p 0 → ⊥
+  pub first-has-no-parent : (p : ℕ) → Child (shapeAt (recordAt c m) (leafCount c)) p 0 → ⊥
   unfolding shapeAt
-  first-has-no-parent = first-has-none _ (RuleAt bytes (length leaves)) (λ i l r. placed bytes (length leaves) i r) (good leaves indices bytes list deepest conversion .sound)
+  first-has-no-parent = first-has-none _ (RuleAt (recordAt c m) (leafCount c)) (λ i l r. placed (recordAt c m) (leafCount c) i r) (good-record .sound)
 
   -- No node has over eight children.
-  pub eight-children : (v : ℕ) → v < nodeCount bytes → childCount bytes v ≤ 8
-  eight-children v l = at-most-eight bytes v
+  pub eight-children : (v : ℕ) → v < nodeCount (recordAt c m) → childCount (recordAt c m) v ≤ 8
+  eight-children v l = at-most-eight (recordAt c m) v
 
   -- Its children are the nodes of its child range and the slots with a leaf range.
-  pub children-nodes-and-leaves : (v : ℕ) → v < nodeCount bytes → childCount bytes v ≡ shapeAt bytes (length leaves) .children v + leafChildren (shapeAt bytes (length leaves)) v
+  pub children-nodes-and-leaves : (v : ℕ) → v < nodeCount (recordAt c m)
+      → childCount (recordAt c m) v ≡ shapeAt (recordAt c m) (leafCount c) .children v + leafChildren (shapeAt (recordAt c m) (leafCount c)) v
   unfolding shapeAt
-  children-nodes-and-leaves v l = children-are bytes (length leaves) v (good leaves indices bytes list deepest conversion .sound .rule v l)
+  children-nodes-and-leaves v l = children-are (recordAt c m) (leafCount c) v (good-record .sound .rule v l)
 
+  -- ---- soundness
   -- The record is sound with conversion's deepest level,
-  pub converted-sound : SoundRecord bytes (length leaves) × DeepestLevel bytes (length leaves) deepest
-  converted-sound = let g = good leaves indices bytes list deepest conversion in (g .sound, g .deepest)
+  pub converted-sound : SoundRecord (recordAt c m) (leafCount c) × DeepestLevel (recordAt c m) (leafCount c) d
+  converted-sound = (good-record .sound, good-record .deepest)
 
   -- and so says the record check, given a working word for each node and each position.
-  pub converted-checks : (words : ℕ) → nodeCount bytes + length leaves ≤ words → checkOf bytes (length leaves) words ≡ sound deepest
-  converted-checks words = good-check bytes (length leaves) deepest words (good leaves indices bytes list deepest conversion)
+  pub converted-checks : (words : ℕ) → nodeCount (recordAt c m) + leafCount c ≤ words → checkOf (recordAt c m) (leafCount c) words ≡ sound d
+  converted-checks words = good-check (recordAt c m) (leafCount c) d words good-record

@@ -19,7 +19,7 @@ use Rattle.record_laws.specs.Converted.{Converted}
 use Rattle.record_laws.proofs.ReadBack.{record-length, record-count}
 use Rattle.record_laws.proofs.ShapeRead.{record-reads}
 use Rattle.record_laws.proofs.Rule.{record-rule}
-use Rattle.demands.specs.Conversion.{Conversion, nothing, written}
+use Rattle.demands.proofs.Writes.{Writes, nothing, written}
 
 -- a sound record of n positions with deepest level d, of sizes that the record check takes
 pub record Good (bytes : List ℕ) (n d : ℕ) : Type 0 where
@@ -47,7 +47,7 @@ good-wide t h =
       positions = h .positions;
     }
 
-pub good : (leaves indices bytes list : List ℕ) (d : ℕ) → Conversion leaves indices bytes list d → Good bytes (length leaves) d
+pub good : (leaves indices bytes list : List ℕ) (d : ℕ) → Writes leaves indices bytes list d → Good bytes (length leaves) d
 good leaves indices bytes list d (nothing l b x e) =
     subst (λ (y : ℕ). Good bytes (length leaves) y) (sym e) (subst (λ (y : List ℕ). Good y (length leaves) 0) (sym b) (subst (λ (y : ℕ). Good [] y 0) (ap length (sym l)) good-none))
 good leaves indices bytes list d (written t h p b x e) =

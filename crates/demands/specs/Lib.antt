@@ -1,2 +1,3 @@
-pub mod Conversion
+pub mod Call
 pub mod Children
+pub mod Refusals

@@ -1,8 +1,9 @@
-// The stored cases of a record node: its metas decoded, the node rule, and hit masks.
-ghost use Prim.Native.Nat.{_*_, _+_, _≤_};
+// The stored cases of a record node: its metas decoded, the node rule, hit masks, and what its slots hold.
+ghost use Prim.Native.Nat.{_*_, _+_, _<_, _≤_};
 ghost use lib.ListN.{length};
 use ray::Ray;
 use stored::real;
+use stored::same_vector;
 use stored::vector;
 use stored::word;
 
@@ -76,12 +77,66 @@ fn masks(case: &[u8]) -> bool {
     slot::intersect_ray(case, 0, r, octant) == word(case, 29)
 }
 
+// The number of the node in a slot; all ones where its meta's low five bits are below 24.
+fn child_number(case: &[u8], meta: u8) -> usize
+    requires { ⌜ 80 ≤ length (now case) ⌝ }
+{
+    if meta % 32 < 24 {
+        return 0xffff_ffff;
+    }
+    node::child_node_index(node::child_base_idx(case, 0), node::imask(case, 0), meta)
+}
+
+// A slot: 1 if it holds no node and 2 if nothing; its first position, how many, and the number of its child.
+fn same_slot(case: &[u8], slot: usize) -> bool
+    requires { ⌜ (80 ≤ length (now case)) × (slot < 8) ⌝ }
+{
+    let meta = node::child_meta(case, 0, slot);
+    let at = 23 + 4 * slot;
+    let leaf = node::is_leaf(node::imask(case, 0), slot as u32) as u32;
+    let empty = node::is_child_empty(meta) as u32;
+    if leaf != word(case, at) % 2 {
+        return false;
+    }
+    if empty != word(case, at) / 2 {
+        return false;
+    }
+    let positions = node::child_primitives(node::primitive_base_idx(case, 0), meta);
+    if positions.start != word(case, at + 1) as usize {
+        return false;
+    }
+    if positions.count != word(case, at + 2) {
+        return false;
+    }
+    child_number(case, meta) == word(case, at + 3) as usize
+}
+
+// A node, its extent; its slots.
+fn slots(case: &[u8]) -> bool {
+    if case.len() != 220 {
+        return false;
+    }
+    let e = slot::compute_extent(node::ex(case, 0), node::ey(case, 0), node::ez(case, 0));
+    if !same_vector(case, 20, e) {
+        return false;
+    }
+    let mut k: usize = 0;
+    while k < 8 {
+        if !same_slot(case, k) {
+            return false;
+        }
+        k += 1;
+    }
+    true
+}
+
 // Whether the library agrees with a case.
 pub fn agrees(kind: u32, case: &[u8]) -> bool {
     match kind {
         8 => decoded(case),
         9 => rules(case),
         10 => masks(case),
+        11 => slots(case),
         _ => false,
     }
 }

@@ -10,7 +10,7 @@ use stored::same;
 use stored::word;
 
 // Room for the words of a stored tree, seven for each node.
-const MOST_WORDS: usize = 2048;
+pub const MOST_WORDS: usize = 2048;
 
 // The words of a tree of 65,537 leaves, one more than it may have, and of a node more.
 const GREATEST: usize = 917518;
@@ -19,7 +19,7 @@ const GREATEST: usize = 917518;
 const NO_ANSWER: u32 = 0xffff_ffff;
 
 // The words of a case from word `from` on, as many as `into` has, up to MOST_WORDS.
-fn copy_words(case: &[u8], from: usize, into: &mut [u32])
+pub fn copy_words(case: &[u8], from: usize, into: &mut [u32])
     requires { ⌜ from ≤ 65536 ⌝ }
 {
     if into.len() > MOST_WORDS {
@@ -78,7 +78,7 @@ fn all_zero(words: &[u32]) -> bool {
 }
 
 // The nodes of n leaves.
-fn node_count(n: usize) -> usize
+pub fn node_count(n: usize) -> usize
     requires { ⌜ n ≤ 512 ⌝ }
     ensures { λ r. ⌜ r ≡ nodeCount n ⌝ }
 {
@@ -89,7 +89,7 @@ fn node_count(n: usize) -> usize
 }
 
 // The first of causes 1, 2 and 5 to 7, or 0; NO_ANSWER if marks are left.
-fn first_cause(words: &[u32], n: usize) -> u32
+pub fn first_cause(words: &[u32], n: usize) -> u32
     requires { ⌜ n ≤ 512 ⌝ }
     ensures { λ r. ⌜ (r ≡ 0 → Accepted (now (words .entry)) n) ⌝ }
 {
@@ -133,7 +133,7 @@ fn same_tables(case: &[u8], from: usize, words: &[u32], n: usize, limit: u32) ->
 }
 
 // Leaves, limit, order, record nodes, deepest level; node words, indices; decision words, costs, record, list.
-fn accepted(case: &[u8]) -> bool {
+pub fn accepted(case: &[u8]) -> bool {
     let n = word(case, 0) as usize;
     if n > 128 {
         return false;
@@ -159,7 +159,7 @@ fn accepted(case: &[u8]) -> bool {
 }
 
 // Lengths of nodes, indices, decisions, costs, record, list; limit, order, number; node words, indices.
-fn refused(case: &[u8]) -> bool {
+pub fn refused(case: &[u8]) -> bool {
     let size = word(case, 0) as usize;
     let n = word(case, 1) as usize;
     if size > MOST_WORDS {
@@ -186,7 +186,7 @@ fn told_sizes(words: &[u32], size: usize, n: usize, number: u32) -> bool {
 }
 
 // The first nine of these, for words that are zero.
-fn lengths(case: &[u8]) -> bool {
+pub fn lengths(case: &[u8]) -> bool {
     let space = [0u32; GREATEST];
     told_sizes(
         &space,
@@ -194,14 +194,4 @@ fn lengths(case: &[u8]) -> bool {
         word(case, 1) as usize,
         word(case, 8),
     )
-}
-
-// Whether the library agrees with a case.
-pub fn agrees(kind: u32, case: &[u8]) -> bool {
-    match kind {
-        16 => accepted(case),
-        17 => refused(case),
-        18 => lengths(case),
-        _ => false,
-    }
 }

@@ -13,9 +13,11 @@ pub fn print_name(kind: u32) {
         8 => io::write_all(STDOUT_FILENO, b"metas decoded"),
         9 => io::write_all(STDOUT_FILENO, b"node rule"),
         10 => io::write_all(STDOUT_FILENO, b"hit masks"),
+        11 => io::write_all(STDOUT_FILENO, b"slots of nodes"),
         16 => io::write_all(STDOUT_FILENO, b"trees accepted"),
         17 => io::write_all(STDOUT_FILENO, b"trees refused"),
         18 => io::write_all(STDOUT_FILENO, b"trees refused by lengths"),
+        19 => io::write_all(STDOUT_FILENO, b"children and slots"),
         _ => io::write_all(STDOUT_FILENO, b"unknown"),
     }
     ;

@@ -77,6 +77,16 @@ module _ {A : Type 0} (z : A) (g : Tree ℕ → ℕ → A) (ws : List ℕ) where
   work-kept (suc n) (suc (suc (suc (suc zero)))) s p q = refl
   work-kept (suc n) (suc (suc (suc (suc (suc k))))) s p q = absurd (omega arith)
 
+  pub work-cleared : (n k : ℕ) (s : List A) → 5 ≤ k → workAfter z g ws n k s ≡ cleared z (tableSize n) s
+  unfolding workAfter
+  work-cleared zero k s p = refl
+  work-cleared (suc n) zero s p = absurd (omega arith)
+  work-cleared (suc n) (suc zero) s p = absurd (omega arith)
+  work-cleared (suc n) (suc (suc zero)) s p = absurd (omega arith)
+  work-cleared (suc n) (suc (suc (suc zero))) s p = absurd (omega arith)
+  work-cleared (suc n) (suc (suc (suc (suc zero)))) s p = absurd (omega arith)
+  work-cleared (suc n) (suc (suc (suc (suc (suc k))))) s p = refl
+
   pub work-none : (n k : ℕ) (s : List A) → n ≡ 0 → s ≡ workAfter z g ws n k s
   unfolding workAfter
   work-none zero k s e = refl

@@ -9,27 +9,18 @@ use lib.ListN.{length}
 use borrow.Author.Tests.{le-leb}
 use Rattle.bvh2.specs.Tree.{Tree}
 use Rattle.bvh2.specs.Words.{nodeCount, treeOf}
-use Rattle.bvh2.specs.Causes.{Accepted}
 use Rattle.bvh2.specs.Decoded.{Decoded}
 use Rattle.bvh2.specs.FirstCause.{sizesCause, structureCause}
 use Rattle.bvh2.proofs.First.{sizes-none, structure-none, accepted-sized}
 use Rattle.bvh2.proofs.Subtree.{root}
 use Rattle.cost.specs.Rows.{fill, Holds}
 use Rattle.cost.proofs.Fill.{inside, length-fill}
-use Rattle.tables.specs.Tables.{tableSize, recordSize, hasRoom, prepareCause, cleared, tabled, workAfter}
+use Rattle.tables.specs.Tables.{Prepared, tableSize, hasRoom, prepareCause, cleared, tabled, workAfter}
 use Rattle.tables.proofs.Cleared.{cleared-length}
 use Rattle.tables.proofs.Room.{room-parts, room-list}
 use Rattle.tables.proofs.Causes.{cause-structure}
 
 -- ---- none of causes 1 to 7
-pub record Prepared (ws : List ℕ) (n limit d c b l : ℕ) : Type 0 where
-  pub accepted : Accepted ws n
-  pub small : limit ≤ 3
-  pub words : tableSize n ≤ d
-  pub costs : tableSize n ≤ c
-  pub bytes : recordSize n ≤ b
-  pub list : n ≤ l
-
 module _ (ws : List ℕ) (n limit d c b l : ℕ) where
   abbrev by : ℕ → Bool → Bool → ℕ
   by k p q = elim k [ suc j ↦ suc j | zero ↦ elim p [ false ↦ 3 | true ↦ elim q [ false ↦ 4 | true ↦ structureCause ws n ] ] ]

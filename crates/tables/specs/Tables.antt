@@ -1,11 +1,12 @@
 -- Conversion up to its tables (01, "Causes of refusal"; "Words, bytes and bounds"): the causes 1 to 7 in rising number, and the working slices after.
 use mathlib.Core.Bool.{Bool, true, false, _&&_}
 use mathlib.Core.List.{List, _++_}
-use Prim.Native.Nat.{ℕ, zero, suc, _*_, max}
+use Prim.Native.Nat.{ℕ, zero, suc, _*_, _≤_, max}
 use lib.Dec.{leb}
 use lib.ListN.{length, drop, replicate}
 use Rattle.bvh2.specs.Tree.{Tree}
 use Rattle.bvh2.specs.Words.{nodeCount, treeOf}
+use Rattle.bvh2.specs.Causes.{Accepted}
 use Rattle.bvh2.specs.FirstCause.{sizesCause, structureCause}
 use Rattle.cost.specs.Rows.{fill}
 
@@ -30,6 +31,15 @@ prepareCause ws n limit decisions costs bytes list =
       | suc k ↦ suc k
       | zero ↦ elim (leb limit 3) [ false ↦ 3 | true ↦ elim (hasRoom n decisions costs bytes list) [ false ↦ 4 | true ↦ structureCause ws n ] ]
     ]
+
+-- none of these causes: the tree is accepted, the limit is at most 3, and d decision words, c costs, b record bytes and l output indices are enough
+pub record Prepared (ws : List ℕ) (n limit d c b l : ℕ) : Type 0 where
+  pub accepted : Accepted ws n
+  pub small : limit ≤ 3
+  pub words : tableSize n ≤ d
+  pub costs : tableSize n ≤ c
+  pub bytes : recordSize n ≤ b
+  pub list : n ≤ l
 
 -- the list with its first k elements made z
 abbrev pub cleared : {A : Type 0} → A → ℕ → List A → List A

@@ -1,42 +1,53 @@
--- Every box of a wide tree is one of the binary tree's, so accepted where those are.
-use mathlib.Core.Path.{_≡_}
-use mathlib.Core.Bool.{true}
+-- Every box of a wide tree is one of the binary tree's, so what holds of all of those holds of it.
 use mathlib.Core.List.{List, map}
 use Prim.Native.Nat.{ℕ}
 use Rattle.aabb.specs.declared.Aabb.{Aabb}
-use Rattle.aabb.specs.Aabb.{acceptedBox}
-use Rattle.bvh2.specs.Tree.{Tree, inner, boxOf}
-use Rattle.bvh2.specs.Decoded.{BoxesAccepted}
+use Rattle.bvh2.specs.Tree.{Tree, leaf, inner, boxOf}
 use Rattle.wide.specs.Wide.{Slots, end, empty}
 use Rattle.wide.specs.Wide as W
 use Rattle.wide_tree.specs.WideTree.{Child, leafChild, innerChild, childBox, hold, Placing, slotsOf, childrenOf, rootSlots}
 use Rattle.wide_tree.proofs.Slots.{EachChild, slots-each}
-use Rattle.wide_tree.proofs.WideTree.{root-accepted, below-accepted, children-each}
+use Rattle.wide_tree.proofs.WideTree.{children-each}
 
--- the boxes of the children, here and further down, are accepted
-unfoldable pub SlotsAccepted : {w : ℕ} → Slots w → Type 0
-SlotsAccepted end = Unit {0}
-SlotsAccepted (empty s) = SlotsAccepted s
-SlotsAccepted (W.leaf b ps s) = (acceptedBox b ≡ true) × SlotsAccepted s
-SlotsAccepted (W.inner b t s) = (acceptedBox b ≡ true) × SlotsAccepted t × SlotsAccepted s
+-- every box of a binary tree
+unfoldable pub EachBox : {A : Type 0} → (Aabb → Type 0) → Tree A → Type 0
+EachBox P (leaf v b p) = P b
+EachBox P (inner v b l r) = P b × EachBox P l × EachBox P r
 
-AcceptedChild : Child → Type 0
-AcceptedChild (leafChild b ps) = acceptedBox b ≡ true
-AcceptedChild (innerChild b s) = (acceptedBox b ≡ true) × SlotsAccepted s
+-- the boxes of the children, here and further down
+unfoldable pub EachSlotBox : {w : ℕ} → (Aabb → Type 0) → Slots w → Type 0
+EachSlotBox P end = Unit {0}
+EachSlotBox P (empty s) = EachSlotBox P s
+EachSlotBox P (W.leaf b ps s) = P b × EachSlotBox P s
+EachSlotBox P (W.inner b t s) = P b × EachSlotBox P t × EachSlotBox P s
 
-slots-accepted : (place : Placing) (box : Aabb) (cs : List Child) → EachChild AcceptedChild cs → SlotsAccepted (slotsOf place box cs)
-unfolding SlotsAccepted AcceptedChild
-slots-accepted place box cs h = slots-each (λ w s. SlotsAccepted s) AcceptedChild tt (λ w s q. q) holds (place box (map childBox cs)) cs 0 8 h
-  where
-    holds : (w : ℕ) (c : Child) (s : Slots w) → AcceptedChild c → SlotsAccepted s → SlotsAccepted (hold c s)
-    holds w (leafChild b ps) s k q = (k, q)
-    holds w (innerChild b t) s k q = (k .0, k .1, q)
+module _ (P : Aabb → Type 0) where
+  ChildBoxes : Child → Type 0
+  ChildBoxes (leafChild b ps) = P b
+  ChildBoxes (innerChild b s) = P b × EachSlotBox P s
 
-children-accepted : {A : Type 0} (place : Placing) (limit : ℕ) (t : Tree A) (i : ℕ) → BoxesAccepted t → EachChild AcceptedChild (childrenOf place limit t i)
-unfolding AcceptedChild boxOf
-children-accepted place limit t i h =
-    children-each place limit AcceptedChild BoxesAccepted below-accepted (λ t o e. root-accepted t o)
-    (λ v box a b o k. (root-accepted (inner v box a b) o, slots-accepted place box (childrenOf place limit (inner v box a b) 0) k)) t i h
+  root-box : {A : Type 0} (t : Tree A) → EachBox P t → P (boxOf t)
+  unfolding EachBox boxOf
+  root-box (leaf v b p) h = h
+  root-box (inner v b l r) h = h .0
 
-pub wide-accepted : {A : Type 0} (place : Placing) (limit : ℕ) (t : Tree A) → BoxesAccepted t → (acceptedBox (boxOf t) ≡ true) × SlotsAccepted (rootSlots place limit t)
-wide-accepted place limit t h = (root-accepted t h, slots-accepted place (boxOf t) (childrenOf place limit t 0) (children-accepted place limit t 0 h))
+  below-boxes : {A : Type 0} (v : A) (box : Aabb) (a b : Tree A) → EachBox P (inner v box a b) → EachBox P a × EachBox P b
+  unfolding EachBox
+  below-boxes v box a b h = (h .1, h .2)
+
+  slots-boxes : (place : Placing) (box : Aabb) (cs : List Child) → EachChild ChildBoxes cs → EachSlotBox P (slotsOf place box cs)
+  unfolding EachSlotBox ChildBoxes
+  slots-boxes place box cs h = slots-each (λ w s. EachSlotBox P s) ChildBoxes tt (λ w s q. q) holds (place box (map childBox cs)) cs 0 8 h
+    where
+      holds : (w : ℕ) (c : Child) (s : Slots w) → ChildBoxes c → EachSlotBox P s → EachSlotBox P (hold c s)
+      holds w (leafChild b ps) s k q = (k, q)
+      holds w (innerChild b t) s k q = (k .0, k .1, q)
+
+  children-boxes : {A : Type 0} (place : Placing) (limit : ℕ) (t : Tree A) (i : ℕ) → EachBox P t → EachChild ChildBoxes (childrenOf place limit t i)
+  unfolding ChildBoxes boxOf
+  children-boxes place limit t i h =
+      children-each place limit ChildBoxes (EachBox P) below-boxes (λ t o e. root-box t o)
+      (λ v box a b o k. (root-box (inner v box a b) o, slots-boxes place box (childrenOf place limit (inner v box a b) 0) k)) t i h
+
+  pub wide-boxes : {A : Type 0} (place : Placing) (limit : ℕ) (t : Tree A) → EachBox P t → P (boxOf t) × EachSlotBox P (rootSlots place limit t)
+  wide-boxes place limit t h = (root-box t h, slots-boxes place (boxOf t) (childrenOf place limit t 0) (children-boxes place limit t 0 h))

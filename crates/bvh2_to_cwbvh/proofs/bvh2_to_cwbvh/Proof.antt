@@ -61,14 +61,14 @@ clear-words-requires c κs =
     let q = c .before .before .before .before .before .before .before .before .before .before in
     let a = q .before .before .before .before .before .before .before .before .before .args in
     let some : 0 < length (a .indices .now) = omega (arith, c .before .before .before .before .if2 .left) in
-    words-room (a .words .now) (a .indices .now) (a .limit) (a .ordered) (a .decisions .now) (a .costs .now) (a .«record» .now) (a .list .now) (q .prepare .result) (q .prepare .last .1 .1 .1 .1 .1 .0) (q .prepare .last .1 .1 .1 .1 .1 .1 .0) (q .prepare .ensures) (c .before .before .before .before .before .if1 .left) some
+    omega (arith, words-room (a .words .now) (a .indices .now) (a .limit) (a .ordered) (a .decisions .now) (a .costs .now) (a .«record» .now) (a .list .now) (q .prepare .result) (q .prepare .last .1 .1 .1 .1 .1 .0) (q .prepare .last .1 .1 .1 .1 .1 .1 .0) (q .prepare .ensures) (c .before .before .before .before .before .if1 .left) some)
 
 clear-costs-requires : tie.Need-clear-costs-requires
 clear-costs-requires c κs =
     let q = c .before .before .before .before .before .before .before .before .before .before .before .before .before .before in
     let a = q .before .before .before .before .before .before .before .before .before .args in
     let some : 0 < length (a .indices .now) = omega (arith, c .before .before .before .before .before .before .before .before .if2 .left) in
-    costs-room (a .words .now) (a .indices .now) (a .limit) (a .ordered) (a .decisions .now) (a .costs .now) (a .«record» .now) (a .list .now) (q .prepare .result) (q .prepare .last .1 .1 .1 .1 .1 .0) (q .prepare .last .1 .1 .1 .1 .1 .1 .0) (q .prepare .ensures) (c .before .before .before .before .before .before .before .before .before .if1 .left) some
+    omega (arith, costs-room (a .words .now) (a .indices .now) (a .limit) (a .ordered) (a .decisions .now) (a .costs .now) (a .«record» .now) (a .list .now) (q .prepare .result) (q .prepare .last .1 .1 .1 .1 .1 .0) (q .prepare .last .1 .1 .1 .1 .1 .1 .0) (q .prepare .ensures) (c .before .before .before .before .before .before .before .before .before .if1 .left) some)
 
 same-length-5 : tie.Need-same-length-5
 same-length-5 c = search needs
@@ -91,8 +91,8 @@ emit-requires c κs =
     let some : 0 < length (a .indices .now) = omega (arith, c .before .before .before .before .before .before .if2 .left) in
     emit-ready (a .words .now) (a .indices .now) (a .limit) (a .ordered) (a .decisions .now) (a .costs .now) (a .«record» .now) (a .list .now) (q .prepare .result) (q .prepare .last .1 .1 .1 .1 .1 .0) (q .prepare .last .1 .1 .1 .1 .1 .1 .0) (q .prepare .ensures) (c .before .before .before .before .before .before .before .if1 .left) some
 
-cast-t36 : tie.Need-cast-t36
-cast-t36 c =
+cast-m : tie.Need-cast-m
+cast-m c =
     let q = c .before .before .before .before .before .before .before .before .before .before .before .before .before .before .before .before .before .before in
     let a = q .before .before .before .before .before .before .before .before .before .args in
     let some : 0 < length (a .indices .now) = omega (arith, c .before .before .before .before .before .before .before .before .before .before .before .before .if2 .left) in
@@ -139,7 +139,7 @@ bvh2-to-cwbvh-spec =
     same-length-6
     returns-3
     emit-requires
-    cast-t36
+    cast-m
     same-length-7
     same-length-8
     same-length-9

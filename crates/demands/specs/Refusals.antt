@@ -1,0 +1,23 @@
+-- Why a call of the conversion is refused (01, "Causes of refusal"): each constructor is one way for the cause of that number to hold.
+use Prim.Native.Nat.{ℕ, _<_}
+use lib.ListN.{length}
+use Rattle.bvh2.specs.Causes.{Cause, Accepted}
+use Rattle.tables.specs.Tables.{tableSize, recordSize}
+use Rattle.demands.specs.Call.{Call, leafCount, deepestLevel}
+
+pub data Refusal (c : Call) : ℕ → Type 0 where
+  -- 1, 2, 5, 6, 7: of the tree
+  tree-refused : {k : ℕ} → Cause (c .words) (leafCount c) k → Refusal c k
+  -- 3
+  limit-over : 3 < c .limit → Refusal c 3
+  -- 4
+  decisions-short : length (c .decisions) < tableSize (leafCount c) → Refusal c 4
+  costs-short : length (c .costs) < tableSize (leafCount c) → Refusal c 4
+  bytes-short : length (c .bytes) < recordSize (leafCount c) → Refusal c 4
+  list-short : length (c .list) < leafCount c → Refusal c 4
+  -- 8: of the record that an accepted tree would become
+  level-over : Accepted (c .words) (leafCount c) → 31 < deepestLevel c → Refusal c 8
+
+-- cause k holds, and none with a lower number
+abbrev pub FirstRefusal : Call → ℕ → Type 0
+FirstRefusal c k = Refusal c k × ((j : ℕ) → j < k → Refusal c j → ⊥)
