@@ -7,6 +7,7 @@ use crate::lent::COST;
 use crate::lent::WORD;
 use bvh2_to_cwbvh::Conversion;
 use bvh2_to_cwbvh::bvh2_to_cwbvh;
+use stored::copy_words;
 use stored::word;
 
 // Room for the words of a tree, its index words, and the bytes of its record.
@@ -28,20 +29,6 @@ const ZERO_LEAVES: usize = 65537;
 
 // What is lent beyond what an accepted tree needs, after a first turn with nothing to spare.
 const SPARE: usize = 5;
-
-// The words of a case from word `from` on, as many as `into` has, up to MOST_WORDS.
-fn copy_words(case: &[u8], from: usize, into: &mut [u32])
-    requires { ⌜ from ≤ 65536 ⌝ }
-{
-    if into.len() > MOST_WORDS {
-        return;
-    }
-    let mut i = 0;
-    while i < into.len() {
-        into[i] = word(case, from + i);
-        i += 1;
-    }
-}
 
 // The words of n leaves.
 fn tree_size(n: usize) -> usize

@@ -3,8 +3,8 @@ use mathlib.Core.Path.{_≡_}
 use Prim.Native.Nat.{_-_}
 use lib.ListN.{length}
 use borrow.Author.Needs.{needs}
-use Rattle.replay_trees.proofs.trees.copy_words.Statement.{statement}
-use Rattle.replay_trees.proofs.trees.copy_words.Tie as tie
+use Rattle.stored.proofs.cases.copy_words.Statement.{statement}
+use Rattle.stored.proofs.cases.copy_words.Tie as tie
 
 abbrev Inv-loop : tie.InvT-loop
 Inv-loop case from into₀ i₀ into i = length into ≡ length into₀
