@@ -1,28 +1,65 @@
 -- The table of samples, each by computation.
 use mathlib.Core.Path.{_≡_, refl}
+use mathlib.Core.Bool.{true, false}
 use mathlib.Core.List.{[], _∷_}
-use lib.Ieee.{ofInt, ofBits, toBits, round, sub, mul, div, lt, le}
-use Rattle.float.specs.Compare.{maxOf}
+use lib.ListN.{take, drop}
+use lib.Ieee.{ofInt, ofBits, toBits, round, add, sub, mul, div, lt, le}
+use Rattle.lists.specs.Below.{allBelow}
+use Rattle.lists.specs.Counts.{same, count}
+use Rattle.float.specs.Compare.{maxOf, inBounds}
 use Rattle.float.specs.PowerOfTwo.{scaleOf, nextPower}
+use Rattle.ray.specs.Ray.{boundedVec}
+use Rattle.aabb.specs.Aabb.{halfArea, centerOf, acceptedBox}
+use Rattle.aabb.specs.Aabb as aabb
 use Rattle.quantization.specs.Exponent.{extentScale, exponentOf}
 use Rattle.quantization.specs.Ends.{clampedByte, reciprocalOf, onGrid, childMin, childMax}
+use Rattle.bvh2.specs.Tree.{boxOf, positions, leaves, labels}
+use Rattle.bvh2.specs.Words.{linkOf, boxAt, readLink}
+use Rattle.bvh2.specs.FirstCause.{sizesCause, isInside, isPosition, isWhole, eachOnce, isTree, structureCause}
+use Rattle.cost.specs.Table.{bestOf, decision, table}
+use Rattle.order.specs.Lists.{keep, some}
+use Rattle.order.specs.Assign.{rowPairs, pairs, partner, openPairs, leastPair, assigned}
+use Rattle.order.specs.Order.{signOf, directionOf, dotOf, directionCost, costTable, inOrder, slotsOf}
+use Rattle.wide_tree.specs.WideTree.{slotsFrom, childrenOf, wideOf}
 use Rattle.node.specs.Node.{slotOffset, headBytes, putSlot, putSlots, nodeBytes}
-use Rattle.wide.specs.Layout.{indexList}
 use Rattle.wide.specs.Shape.{nodeAt}
 use Rattle.record.specs.Record.{metas, innerMask, gridBox, gridBoxes, nodeOf, joined, recordBytes}
-use Rattle.samples.specs.TreeT.{wideT, bytesT}
-use Rattle.samples.specs.Samples.{number, nextAbove, extentByte, Samples}
+use Rattle.tables.specs.Tables.{recordSize, hasRoom, prepareCause}
+use Rattle.bvh2_to_cwbvh.specs.Conversion.{converted, refused, recordOf, nodesOf, levelOf, positionsOf, listOf, levelCause, conversionCause, answerFor, conversionOf}
+use Rattle.samples.specs.TreeT.{wordsT, indicesT, bytesT}
+use Rattle.samples.specs.Samples.{number, nextAbove, extentByte, convert, Samples}
 
 exponents-of-T : (extentByte (number 3) ≡ 121) × (extentByte (number 1) ≡ 120)
 unfolding exponentOf extentScale nextPower maxOf ofInt round sub mul div lt le
 exponents-of-T = (refl, refl)
 
-record-of-T : recordBytes wideT ≡ bytesT
-unfolding recordBytes joined nodeAt nodeOf gridBox gridBoxes metas innerMask nodeBytes headBytes putSlots putSlot slotOffset childMin childMax clampedByte onGrid reciprocalOf scaleOf exponentOf extentScale nextPower maxOf ofInt ofBits toBits round sub mul div lt le
+record-of-T : recordOf wordsT 2 3 false ≡ bytesT
+unfolding recordOf linkOf boxAt readLink boxOf positions table decision bestOf leaves halfArea wideOf slotsFrom childrenOf slotsOf inOrder partner ofBits ofInt add sub mul lt recordBytes joined nodeAt nodeOf gridBox gridBoxes metas innerMask nodeBytes headBytes putSlots putSlot slotOffset childMin childMax clampedByte onGrid reciprocalOf scaleOf exponentOf extentScale nextPower maxOf toBits round div le
 record-of-T = refl
 
-list-of-T : indexList wideT ≡ 0 ∷ 1 ∷ []
+list-of-T : listOf wordsT indicesT 3 false ≡ 0 ∷ 1 ∷ []
+unfolding listOf positionsOf linkOf boxAt readLink boxOf positions table decision bestOf leaves halfArea wideOf slotsFrom childrenOf slotsOf inOrder partner ofBits ofInt add sub mul lt
 list-of-T = refl
+
+ordered-T : take 8 (drop 24 (recordOf wordsT 2 3 true)) ≡ 0x20 ∷ 0 ∷ 0 ∷ 0 ∷ 0x21 ∷ 0 ∷ 0 ∷ 0 ∷ []
+unfolding recordOf linkOf boxAt readLink boxOf positions table decision bestOf leaves halfArea wideOf slotsFrom childrenOf slotsOf inOrder partner ofBits ofInt add sub mul lt costTable directionCost dotOf directionOf signOf centerOf assigned leastPair openPairs pairs rowPairs keep some recordBytes joined nodeAt nodeOf gridBox gridBoxes metas innerMask nodeBytes headBytes putSlots putSlot slotOffset childMin childMax clampedByte onGrid reciprocalOf scaleOf exponentOf extentScale nextPower maxOf toBits round div le
+ordered-T = refl
+
+nothing : convert [] [] 3 ≡ converted 0 0
+unfolding convert conversionOf conversionCause levelCause answerFor levelOf nodesOf prepareCause hasRoom recordSize sizesCause structureCause isInside isPosition isWhole eachOnce isTree same count labels allBelow inBounds boundedVec acceptedBox aabb.inOrder le
+nothing = refl
+
+limit-3 : convert wordsT indicesT 3 ≡ converted 1 0
+unfolding convert conversionOf conversionCause levelCause answerFor levelOf nodesOf prepareCause hasRoom recordSize sizesCause structureCause isInside isPosition isWhole eachOnce isTree same count labels allBelow inBounds boundedVec acceptedBox aabb.inOrder le linkOf boxAt readLink boxOf positions table decision bestOf leaves halfArea wideOf slotsFrom childrenOf slotsOf inOrder partner ofBits ofInt add sub mul lt
+limit-3 = refl
+
+limit-4 : convert wordsT indicesT 4 ≡ refused 3
+unfolding convert conversionOf conversionCause levelCause answerFor levelOf nodesOf prepareCause hasRoom recordSize sizesCause structureCause isInside isPosition isWhole eachOnce isTree same count labels allBelow inBounds boundedVec acceptedBox aabb.inOrder le
+limit-4 = refl
+
+limit-4-nothing : convert [] [] 4 ≡ refused 3
+unfolding convert conversionOf conversionCause levelCause answerFor levelOf nodesOf prepareCause hasRoom recordSize sizesCause structureCause isInside isPosition isWhole eachOnce isTree same count labels allBelow inBounds boundedVec acceptedBox aabb.inOrder le
+limit-4-nothing = refl
 
 extent-255 : extentByte (number 255) ≡ 127
 unfolding exponentOf extentScale nextPower maxOf ofInt round sub mul div lt le
@@ -49,6 +86,11 @@ samples = record {
   exponents-of-T = exponents-of-T;
   record-of-T = record-of-T;
   list-of-T = list-of-T;
+  ordered-T = ordered-T;
+  nothing = nothing;
+  limit-3 = limit-3;
+  limit-4 = limit-4;
+  limit-4-nothing = limit-4-nothing;
   extent-255 = extent-255;
   extent-above-255 = extent-above-255;
   extent-261120 = extent-261120;

@@ -1,13 +1,14 @@
 -- The samples that are checked over the definitions (01, "Samples", those marked P): what each says. `proofs/Samples.antt` computes them.
 use mathlib.Core.Path.{_≡_}
-use mathlib.Core.List.{[], _∷_}
+use mathlib.Core.Bool.{true, false}
+use mathlib.Core.List.{List, [], _∷_}
 use Prim.Native.Nat.{ℕ, suc}
 use lib.IntN.{pos}
+use lib.ListN.{take, drop, replicate}
 use lib.Ieee.{Float, binary32, ofInt, ofBits, toBits}
 use Rattle.quantization.specs.Exponent.{exponentOf}
-use Rattle.wide.specs.Layout.{indexList}
-use Rattle.record.specs.Record.{recordBytes}
-use Rattle.samples.specs.TreeT.{wideT, bytesT}
+use Rattle.bvh2_to_cwbvh.specs.Conversion.{Answer, converted, refused, recordOf, listOf, conversionOf}
+use Rattle.samples.specs.TreeT.{wordsT, indicesT, bytesT}
 
 -- a whole number as an f32, and the next f32 above a positive one
 abbrev pub number : ℕ → Float
@@ -20,12 +21,25 @@ nextAbove x = ofBits binary32 (suc (toBits binary32 x))
 abbrev pub extentByte : Float → ℕ
 extentByte x = exponentOf (number 0) x
 
+-- a conversion's answer for a leaf limit, with room for two leaves
+unfoldable pub convert : List ℕ → List ℕ → ℕ → Answer
+unfolding conversionOf
+convert ws indices limit = conversionOf ws indices limit false (replicate 21 0) (replicate 21 (number 0)) (replicate 80 0) (replicate 2 0) .answer
+
 pub record Samples : Type 0 where
   -- T's root has extents 3, 1 and 1
   pub exponents-of-T : (extentByte (number 3) ≡ 121) × (extentByte (number 1) ≡ 120)
   -- T's record and index list
-  pub record-of-T : recordBytes wideT ≡ bytesT
-  pub list-of-T : indexList wideT ≡ 0 ∷ 1 ∷ []
+  pub record-of-T : recordOf wordsT 2 3 false ≡ bytesT
+  pub list-of-T : listOf wordsT indicesT 3 false ≡ 0 ∷ 1 ∷ []
+  -- with ordering on, A (position 0) is in slot 0 and B (position 1) in slot 4
+  pub ordered-T : take 8 (drop 24 (recordOf wordsT 2 3 true)) ≡ 0x20 ∷ 0 ∷ 0 ∷ 0 ∷ 0x21 ∷ 0 ∷ 0 ∷ 0 ∷ []
+  -- without leaves there are no nodes
+  pub nothing : convert [] [] 3 ≡ converted 0 0
+  -- a leaf limit of 3 is accepted, 4 is refused 3, without leaves too
+  pub limit-3 : convert wordsT indicesT 3 ≡ converted 1 0
+  pub limit-4 : convert wordsT indicesT 4 ≡ refused 3
+  pub limit-4-nothing : convert [] [] 4 ≡ refused 3
   -- an extent of 255 has the byte 127: its 255th part is a power of two and stays one
   pub extent-255 : extentByte (number 255) ≡ 127
   -- the next f32 above has 128

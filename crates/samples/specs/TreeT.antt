@@ -1,24 +1,26 @@
--- Tree T's record (01, "Samples"): its wide tree, T's root with A in slot 0 and B in slot 1, and the bytes that `showrecord` prints.
+-- Tree T (01, "Samples"): its words and indices, and the bytes that `showrecord` prints of its record.
 use mathlib.Core.List.{List, [], _∷_}
 use Prim.Native.Nat.{ℕ}
-use lib.IntN.{pos}
-use lib.Ieee.{binary32, ofInt}
-use Rattle.ray.specs.declared.Vec3.{Vec3}
-use Rattle.aabb.specs.declared.Aabb.{Aabb}
-use Rattle.wide.specs.Wide.{end, empty, leaf, Wide}
 
--- the box from (a, 0, 0) to (b, 1, 1)
-abbrev pub boxFrom : ℕ → ℕ → Aabb
-boxFrom a b = record {
-  min = record { x = ofInt binary32 (pos a); y = ofInt binary32 (pos 0); z = ofInt binary32 (pos 0) };
-  max = record { x = ofInt binary32 (pos b); y = ofInt binary32 (pos 1); z = ofInt binary32 (pos 1) };
-}
+-- 1, 2 and 3 as f32 patterns
+abbrev one : ℕ
+one = 0x3f80_0000
 
-abbrev pub wideT : Wide
-wideT = record {
-  box = boxFrom 0 3;
-  slots = leaf (boxFrom 0 1) (0 ∷ []) (leaf (boxFrom 2 3) (1 ∷ []) (empty (empty (empty (empty (empty (empty end)))))));
-}
+abbrev two : ℕ
+two = 0x4000_0000
+
+abbrev three : ℕ
+three = 0x4040_0000
+
+-- the root, an inner node whose children are nodes 1 and 2; leaf A with position 0, leaf B with position 1
+abbrev pub wordsT : List ℕ
+wordsT =
+    0 ∷ 0 ∷ 0 ∷ three ∷ one ∷ one ∷ 1
+    ∷ 0 ∷ 0 ∷ 0 ∷ one ∷ one ∷ one ∷ 0x4000_0000
+    ∷ two ∷ 0 ∷ 0 ∷ three ∷ one ∷ one ∷ 0x4000_0001 ∷ []
+
+abbrev pub indicesT : List ℕ
+indicesT = 0 ∷ 1 ∷ []
 
 abbrev pub bytesT : List ℕ
 bytesT =

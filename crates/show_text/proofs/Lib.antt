@@ -1,0 +1,4 @@
+pub mod Trees
+pub mod Texts
+pub mod Inputs
+pub mod Samples

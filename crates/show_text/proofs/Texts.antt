@@ -1,0 +1,79 @@
+-- What is printed from the lent slices is the tree's text, whatever stands behind the record and the list.
+use mathlib.Core.Path.{_≡_, refl, sym, ap, ap₂, _∙_}
+use mathlib.Core.Bool.{Bool}
+use mathlib.Core.List.{List, _++_}
+use Prim.Native.Nat.{ℕ, zero, suc, _+_, _*_, _≤_, _<_}
+use native.Mathlib.Omega.{arith}
+use lib.Ieee.{Float}
+use lib.ListN.{length, take, drop, length-take, length-drop}
+use lib.Seq.{take-append-le, drop-append-le}
+use Rattle.lists.specs.Splice.{splice}
+use Rattle.text.proofs.Put.{take-first}
+use Rattle.show.specs.Show.{nodeLine, nodeLines, indicesLine, recordText, refusalText}
+use Rattle.bvh2_to_cwbvh.specs.Conversion.{recordOf, nodesOf, listOf, conversionOf}
+use Rattle.bvh2_to_cwbvh.specs.declared.Conversion.{Conversion}
+use Rattle.bvh2_to_cwbvh.specs.declared.Conversion.the-variants.{Refused}
+use Rattle.bvh2_to_cwbvh.specs.Answer.{answerOf}
+use Rattle.show_text.specs.ShowText.{mostLeaves, causeText, treeText}
+use Rattle.show_text.specs.Room.{Room}
+use Rattle.show_text.proofs.Trees.{Converts, refuses}
+
+-- ---- what follows the nodes is not printed
+node-front : (a rest : List ℕ) (i : ℕ) → 80 * i + 80 ≤ length a → take 80 (drop (80 * i) (a ++ rest)) ≡ take 80 (drop (80 * i) a)
+node-front a rest i h =
+    ap (take 80) (drop-append-le (80 * i) a rest (omega arith))
+    ∙ take-append-le 80 (drop (80 * i) a) rest (omega (arith, length-drop (80 * i) a))
+
+lines-front : (a rest : List ℕ) (k i : ℕ) → 80 * (i + k) ≤ length a → nodeLines (a ++ rest) i k ≡ nodeLines a i k
+unfolding nodeLines
+lines-front a rest zero i h = refl
+lines-front a rest (suc k) i h =
+    ap₂ (λ (x y : List ℕ). nodeLine i x ++ y) (node-front a rest i (omega arith)) (lines-front a rest k (suc i) (omega arith))
+
+lines-written : (s a : List ℕ) (m : ℕ) → length a ≡ 80 * m → nodeLines (splice s 0 a) 0 m ≡ nodeLines a 0 m
+unfolding splice
+lines-written s a m e = lines-front a (drop (0 + length a) s) m 0 (omega arith)
+
+pub list-written : (s l : List ℕ) (n : ℕ) → length l ≡ n → take n (splice s 0 l) ≡ l
+list-written s l n e = rw (← e) (take-first s l)
+
+record-written : (s a t l : List ℕ) (m n : ℕ) → length a ≡ 80 * m → length l ≡ n → recordText (splice s 0 a) m (take n (splice t 0 l)) ≡ recordText a m l
+unfolding recordText
+record-written s a t l m n e f = ap₂ (λ (x y : List ℕ). x ++ indicesLine y) (lines-written s a m e) (list-written t l n f)
+
+-- what was written is the text, and r is its length
+abbrev pub Wrote : List ℕ → List ℕ → ℕ → List ℕ → Type 0
+Wrote s text r t = (r ≡ length text) × (t ≡ splice s 0 text)
+
+pub wrote-as : (s a b : List ℕ) (r : ℕ) (t : List ℕ) → a ≡ b → Wrote s a r t → Wrote s b r t
+wrote-as s a b r t e h = rw (← e) h
+
+pub wrote-fits : (s text : List ℕ) (r : ℕ) (t : List ℕ) → Wrote s text r t → r ≤ length t
+wrote-fits s text r t h =
+    let e : take (length text) t ≡ text = ap (take (length text)) (h .1) ∙ take-first s text in
+    omega (arith, h .0, ap length e, length-take (length text) t)
+
+module _ (ws indices : List ℕ) (limit : ℕ) (ordered : Bool) (ds : List ℕ) (cs : List Float) (bytes list : List ℕ) (out : ℕ)
+    (few : length indices ≤ mostLeaves) (room : Room (length ds) (length cs) (length bytes) (length list) out) where
+  -- the record and the list, as they are printed
+  pub record-shown : (m : ℕ) (bytes₁ list₁ : List ℕ) → Converts ws indices limit ordered ds cs bytes list out few room m bytes₁ list₁
+      → recordText bytes₁ m (take (length indices) list₁) ≡ treeText ws indices limit ordered
+  unfolding treeText causeText
+  record-shown m bytes₁ list₁ h =
+      let b = recordOf ws (length indices) limit ordered in
+      let l = listOf ws indices limit ordered in
+      let w = record-written bytes b list l (nodesOf ws (length indices) limit ordered) (length indices) (h .sizes-are .bytes-length) (h .sizes-are .list-length) in
+      ap₂ (λ (x y : List ℕ). recordText x m (take (length indices) y)) (h .bytes-are) (h .list-is)
+      ∙ ap (λ (k : ℕ). recordText (splice bytes 0 b) k (take (length indices) (splice list 0 l))) (h .nodes-are)
+      ∙ w ∙ ap (causeText ws indices limit ordered) (sym (h .none))
+
+  -- the number of the cause
+  pub refusal-shown : (v : Conversion) (k : ℕ) → v ≡ Refused k → answerOf v ≡ conversionOf ws indices limit ordered ds cs bytes list .answer → refusalText k ≡ treeText ws indices limit ordered
+  unfolding treeText causeText
+  refusal-shown v k e a =
+      let h = refuses ws indices limit ordered ds cs bytes list out few room v k e a in
+      number k (h .1) ∙ ap (causeText ws indices limit ordered) (sym (h .0))
+    where
+      number : (k : ℕ) → 0 < k → refusalText k ≡ causeText ws indices limit ordered k
+      number zero h = absurd (omega arith)
+      number (suc k) h = refl

@@ -1,0 +1,181 @@
+use mathlib.Core.Path.{sym}
+use native.Mathlib.Omega.{arith}
+use lib.Seq.{length-take-le}
+use Rattle.show_text.proofs.Texts.{wrote-as}
+use Rattle.show_text.proofs.Inputs.{take-most, text-short, text-many, text-unfit, text-disorder, text-tree}
+use borrow.Author.Needs.{needs}
+use Rattle.show_text.proofs.show_text.Statement.{statement}
+use Rattle.show_text.proofs.show_text.Tie as tie
+
+print-refusal-requires : tie.Need-print-refusal-requires
+print-refusal-requires c κs = search needs
+
+same-length : tie.Need-same-length
+same-length c = search needs
+
+returns : tie.Need-returns
+returns c = wrote-as _ _ _ _ _ (text-short (c .before .before .before .before .before .before .before .before .before .before .before .before .before .args .input .now) (c .before .before .before .before .if1 .taken)) (c .before .before .print-refusal .ensures)
+
+load-u32-requires : tie.Need-load-u32-requires
+load-u32-requires c κs = search needs
+
+cast-n : tie.Need-cast-n
+cast-n c = search needs
+
+print-refusal-requires-2 : tie.Need-print-refusal-requires-2
+print-refusal-requires-2 c κs = search needs
+
+same-length-2 : tie.Need-same-length-2
+same-length-2 c = search needs
+
+returns-2 : tie.Need-returns-2
+returns-2 c =
+    let q = c .before .before .before .before in
+    wrote-as _ _ _ _ _
+    (text-many (q .before .before .before .before .before .before .before .before .before .before .before .args .input .now) _ (q .before .before .if1 .left) (q .before .load-u32 .ensures .value) (q .if2 .taken))
+    (c .before .before .print-refusal2 .ensures)
+
+tree-size-requires : tie.Need-tree-size-requires
+tree-size-requires c κs = search needs
+
+add-if3 : tie.Need-add-if3
+add-if3 c = search needs
+
+mul-if3 : tie.Need-mul-if3
+mul-if3 c = search needs
+
+add-if3-2 : tie.Need-add-if3-2
+add-if3-2 c = search needs
+
+print-refusal-requires-3 : tie.Need-print-refusal-requires-3
+print-refusal-requires-3 c κs = search needs
+
+same-length-3 : tie.Need-same-length-3
+same-length-3 c = search needs
+
+returns-3 : tie.Need-returns-3
+returns-3 c =
+    let q = c .before .before .before .before in
+    wrote-as _ _ _ _ _
+    (text-unfit (q .before .before .before .before .before .before .before .before .before .before .before .before .before .args .input .now) _ (q .before .before .before .before .if1 .left) (q .before .before .before .load-u32 .ensures .value) (q .before .before .if2 .left) _ (q .before .tree-size .ensures) (q .if3 .taken))
+    (c .before .before .print-refusal3 .ensures)
+
+load-u32-requires-2 : tie.Need-load-u32-requires-2
+load-u32-requires-2 c κs = search needs
+
+load-u32-requires-3 : tie.Need-load-u32-requires-3
+load-u32-requires-3 c κs = search needs
+
+print-refusal-requires-4 : tie.Need-print-refusal-requires-4
+print-refusal-requires-4 c κs = search needs
+
+same-length-4 : tie.Need-same-length-4
+same-length-4 c = search needs
+
+returns-4 : tie.Need-returns-4
+returns-4 c =
+    let q = c .before .before .before .before in
+    let s = q .before .before .before in
+    wrote-as _ _ _ _ _
+    (text-disorder (s .before .before .before .before .before .before .before .before .before .before .before .before .before .args .input .now) _ (s .before .before .before .before .if1 .left) (s .before .before .before .load-u32 .ensures .value) (s .before .before .if2 .left) _ (s .before .tree-size .ensures) (s .if3 .left) _ _ (q .before .before .load-u322 .ensures .value) (q .before .load-u323 .ensures .value) (omega (arith, q .if4 .taken)))
+    (c .before .before .print-refusal4 .ensures)
+
+read-words-requires : tie.Need-read-words-requires
+read-words-requires c κs = search needs
+
+mul-read-words : tie.Need-mul-read-words
+mul-read-words c = search needs
+
+add-read-words : tie.Need-add-read-words
+add-read-words c = search needs
+
+read-words-requires-2 : tie.Need-read-words-requires-2
+read-words-requires-2 c κs = search needs
+
+slice-reshare-prefix-ws : tie.Need-slice-reshare-prefix-ws
+slice-reshare-prefix-ws c = search needs
+
+slice-aggregate-ws : tie.Need-slice-aggregate-ws
+slice-aggregate-ws c = sym (length-take-le _ _ (omega arith))
+
+slice-reshare-prefix-is : tie.Need-slice-reshare-prefix-is
+slice-reshare-prefix-is c = search needs
+
+slice-aggregate-is : tie.Need-slice-aggregate-is
+slice-aggregate-is c = sym (length-take-le _ _ (omega arith))
+
+tree-text-requires : tie.Need-tree-text-requires
+tree-text-requires c κs =
+    let q = c .before .before .before .before .before .before .before .before .before .before .before .before .before .before .before .before .before .before .before .before in
+    (take-most _ _ _ (q .if2 .left), q .before .before .before .before .before .before .before .before .before .before .before .pre .1)
+
+same-length-5 : tie.Need-same-length-5
+same-length-5 c = search needs
+
+same-length-6 : tie.Need-same-length-6
+same-length-6 c = search needs
+
+same-length-7 : tie.Need-same-length-7
+same-length-7 c = search needs
+
+same-length-8 : tie.Need-same-length-8
+same-length-8 c = search needs
+
+same-length-9 : tie.Need-same-length-9
+same-length-9 c = search needs
+
+same-length-10 : tie.Need-same-length-10
+same-length-10 c = search needs
+
+same-length-11 : tie.Need-same-length-11
+same-length-11 c = search needs
+
+returns-5 : tie.Need-returns-5
+returns-5 c =
+    let q = c .before .before .before .before .before .before .before .before .before .before .before .before .before .before .before .before .before .before .before .before .before .before .before .before .before .before in
+    let s = q .before .before .before in
+    wrote-as _ _ _ _ _
+    (text-tree (s .before .before .before .before .before .before .before .before .before .before .before .before .before .args .input .now) _ (s .before .before .before .before .if1 .left) (s .before .before .before .load-u32 .ensures .value) (s .before .before .if2 .left) _ (s .before .tree-size .ensures) (s .if3 .left) _ _ (q .before .before .load-u322 .ensures .value) (q .before .load-u323 .ensures .value) (omega (arith, q .if4 .left)) _ _ _ _ (c .before .before .before .before .before .before .before .before .before .before .before .before .before .before .before .before .before .before .before .before .before .before .before .before .read-words .ensures) (c .before .before .before .before .before .before .before .before .before .before .before .before .before .before .before .before .before .before .before .before .read-words2 .ensures))
+    (c .before .before .before .before .before .before .before .before .before .before .tree-text .ensures)
+
+pub show-text-spec : {M : Type 1} → statement M
+show-text-spec =
+    tie.close
+    (tie.spec
+    print-refusal-requires
+    same-length
+    returns
+    load-u32-requires
+    cast-n
+    print-refusal-requires-2
+    same-length-2
+    returns-2
+    tree-size-requires
+    add-if3
+    mul-if3
+    add-if3-2
+    print-refusal-requires-3
+    same-length-3
+    returns-3
+    load-u32-requires-2
+    load-u32-requires-3
+    print-refusal-requires-4
+    same-length-4
+    returns-4
+    read-words-requires
+    mul-read-words
+    add-read-words
+    read-words-requires-2
+    slice-reshare-prefix-ws
+    slice-aggregate-ws
+    slice-reshare-prefix-is
+    slice-aggregate-is
+    tree-text-requires
+    same-length-5
+    same-length-6
+    same-length-7
+    same-length-8
+    same-length-9
+    same-length-10
+    same-length-11
+    returns-5)

@@ -1,0 +1,2 @@
+pub mod ShowText
+pub mod Room
