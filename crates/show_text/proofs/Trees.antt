@@ -21,10 +21,10 @@ use Rattle.node.specs.Node.{nodeBytes}
 use Rattle.node.proofs.RoundTrip.{length-node}
 use Rattle.record.specs.Record.{nodeOf, recordBytes}
 use Rattle.record.proofs.Joined.{joined-length}
-use Rattle.tables.specs.Tables.{tableSize, recordSize, hasRoom, prepareCause}
+use Rattle.tables.specs.Tables.{Prepared, tableSize, recordSize, hasRoom, prepareCause}
 use Rattle.tables.proofs.Room.{room-list}
 use Rattle.tables.proofs.Causes.{sizes-most, structure-range}
-use Rattle.tables.proofs.Prepared.{Prepared, prepared}
+use Rattle.tables.proofs.Prepared.{prepared}
 use Rattle.bvh2_to_cwbvh.specs.Conversion.{wideAt, recordOf, nodesOf, levelOf, positionsOf, listOf, converted, refused, levelCause, conversionCause, answerFor, outputAfter, conversionOf}
 use Rattle.bvh2_to_cwbvh.specs.declared.Conversion.{Conversion}
 use Rattle.bvh2_to_cwbvh.specs.declared.Conversion.the-variants.{Converted, Refused}
