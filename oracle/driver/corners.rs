@@ -14,8 +14,13 @@ const RECORD_BYTES: u32 = 12288;
 const SETTINGS: [(u32, bool); 8] =
     [(0, false), (0, true), (1, false), (1, true), (2, false), (2, true), (3, false), (3, true)];
 
+/// The next float above the bound.
+pub fn past_bound() -> f32 {
+    f32::from_bits(BOUND.to_bits() + 1)
+}
+
 /// T with one end of one box, or both ends of one axis of it, moved out to this magnitude, on each side.
-fn stretched(to: f32) -> Vec<Tree> {
+pub fn stretched(to: f32) -> Vec<Tree> {
     let mut trees = vec![];
     for v in 0..3 {
         for axis in 0..3 {
@@ -70,7 +75,7 @@ fn accepted(rng: &mut Rng) -> Group {
 }
 
 /// T with another link in one of its nodes.
-fn relinked() -> Vec<Tree> {
+pub fn relinked() -> Vec<Tree> {
     let most = 0x3fff_ffff;
     let links = [inner(0), inner(1), inner(2), inner(most), leaf(0), leaf(1), leaf(2), leaf(most), 2 << 30, 3 << 30 | 1];
     let with = |v: usize, link: u32| {
@@ -105,8 +110,7 @@ fn refused() -> Group {
             g.add(refused_case(t, limit, order, room, number));
         }
     };
-    let past = f32::from_bits(BOUND.to_bits() + 1);
-    for (k, t) in stretched(past).iter().enumerate() {
+    for (k, t) in stretched(past_bound()).iter().enumerate() {
         let (limit, order) = SETTINGS[k % 8];
         add(t, limit, order, 6);
     }

@@ -171,7 +171,7 @@ fn converts(case: &[u8], words: &[u32], indices: &[u32], spare: usize) -> bool
 }
 
 // Leaves, limit, order, record nodes, deepest level; node words, indices; decision words, costs, record, list.
-fn accepted(case: &[u8]) -> bool {
+pub fn accepted(case: &[u8]) -> bool {
     let n = word(case, 0) as usize;
     let nodes = word(case, 3) as usize;
     if n > ACCEPTED_LEAVES {
@@ -274,7 +274,7 @@ fn refuses(case: &[u8], words: &[u32], indices: &[u32]) -> bool {
 }
 
 // Lengths of nodes, indices, decisions, costs, record, list; limit, order, number; node words, indices.
-fn refused(case: &[u8]) -> bool {
+pub fn refused(case: &[u8]) -> bool {
     let size = word(case, 0) as usize;
     let n = word(case, 1) as usize;
     if size > MOST_WORDS {
@@ -296,7 +296,7 @@ fn refused(case: &[u8]) -> bool {
 }
 
 // The first nine of these, for words that are zero.
-fn lengths(case: &[u8]) -> bool {
+pub fn lengths(case: &[u8]) -> bool {
     let size = word(case, 0) as usize;
     let n = word(case, 1) as usize;
     if size > ZERO_WORDS {
@@ -308,14 +308,4 @@ fn lengths(case: &[u8]) -> bool {
     let words = [0u32; ZERO_WORDS];
     let indices = [0u32; ZERO_LEAVES];
     refuses(case, &words[..size], &indices[..n])
-}
-
-// Whether the library agrees with a case.
-pub fn agrees(kind: u32, case: &[u8]) -> bool {
-    match kind {
-        16 => accepted(case),
-        17 => refused(case),
-        18 => lengths(case),
-        _ => false,
-    }
 }

@@ -18,6 +18,7 @@ pub fn print_name(kind: u32) {
         17 => io::write_all(STDOUT_FILENO, b"trees refused"),
         18 => io::write_all(STDOUT_FILENO, b"trees refused by lengths"),
         19 => io::write_all(STDOUT_FILENO, b"children and slots"),
+        40 => io::write_all(STDOUT_FILENO, b"records shown"),
         _ => io::write_all(STDOUT_FILENO, b"unknown"),
     }
     ;
