@@ -6,7 +6,8 @@ cd "$(dirname "$0")/.."
 src=$1
 out=$PWD/target/bench
 "${RT:-rt}" staticlib funnelcress
+"${RT:-rt}" staticlib measured
 ORACLE_FLAGS="--cfg uncounted" oracle/build.sh "$src" "$out"
 rustc --edition 2024 -C opt-level=3 --crate-name bench -o "$out/bench" -L "$out" --extern obvhs="$out/libobvhs.rlib" \
-    --extern glam="$out/libglam.rlib" -L target/staticlib -l static=funnelcress bench/main.rs
+    --extern glam="$out/libglam.rlib" -L target/staticlib -l static=funnelcress -l static=measured bench/main.rs
 "$out/bench"

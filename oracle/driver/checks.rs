@@ -1,12 +1,18 @@
-//! Stored record checks: sound records as converted, and the same damaged, with the verdict by the definition.
-//! The published `validate` is run beside it: it must pass each sound record with the same depth.
+//! Stored record checks: sound records as converted, and the same damaged, with the verdict by the definition; small
+//! records with what the published `validate` says of them; refusals by lengths alone; and lines of `checkrecord`.
+use crate::accept::{MOST_LEAVES, MOST_NODES};
 use crate::conversions::some_tree;
 use crate::convert::{bvh_of, convert};
 use crate::record::{Verdict, check, node};
 use crate::rng::Rng;
+use crate::small;
 use crate::store::*;
+use crate::tree::sample_tree;
 use obvhs::Boundable;
 use obvhs::aabb::Aabb;
+
+/// The working words that are enough for any record.
+const CHECK_WORDS: usize = MOST_NODES + MOST_LEAVES;
 
 struct Anything;
 impl Boundable for Anything {
@@ -15,28 +21,44 @@ impl Boundable for Anything {
     }
 }
 
-/// What the published `validate` says: its depth, or nothing where an assertion fails. Only for records whose child
-/// ranges start past the node's own number: others may recurse without end.
-pub fn validated(record: &[u8], n: usize) -> Option<u32> {
+/// What the published `validate` says with so many panes lent: its depth, or nothing where an assertion fails. Only for
+/// records whose child ranges start past the node's own number: others may recurse without end.
+fn validate(record: &[u8], n: usize, panes: usize) -> Option<u32> {
     let bvh = bvh_of(record, &(0..n as u32).collect::<Vec<_>>());
-    let panes: Vec<Anything> = (0..n).map(|_| Anything).collect();
-    std::panic::catch_unwind(|| bvh.validate(&panes, true).max_depth).ok()
+    let panes: Vec<Anything> = (0..panes).map(|_| Anything).collect();
+    let hook = std::panic::take_hook();
+    std::panic::set_hook(Box::new(|_| {}));
+    let depth = std::panic::catch_unwind(|| bvh.validate(&panes, true).max_depth).ok();
+    std::panic::set_hook(hook);
+    depth
+}
+
+pub fn validated(record: &[u8], n: usize) -> Option<u32> {
+    validate(record, n, n)
+}
+
+/// Whether it passes with a pane more than there are positions: then a position n is looked up, and no index fails.
+pub fn passes(record: &[u8], n: usize) -> bool {
+    validate(record, n, n + 1).is_some()
 }
 
 pub fn forward(record: &[u8]) -> bool {
     (0..record.len() / 80).all(|i| node(record, i).imask() == 0 || node(record, i).child_base() as usize > i)
 }
 
-/// Bytes, n, working words, verdict (0 sound, 1 unsound, 2 refused), level or number; then the record.
-fn case(record: &[u8], n: usize, work: usize) -> Vec<u32> {
+/// Bytes, n, working words, verdict (0 sound, 1 unsound, 2 refused), level or number.
+fn head(record: &[u8], n: usize, work: usize) -> Vec<u32> {
     let (code, value) = match check(record, n, work) {
         Verdict::Sound(level) => (0, level),
         Verdict::Unsound => (1, 0),
         Verdict::Refused(number) => (2, number),
     };
-    let mut w = vec![record.len() as u32, n as u32, work as u32, code, value];
-    w.extend(words_of(record));
-    w
+    vec![record.len() as u32, n as u32, work as u32, code, value]
+}
+
+/// These, then the record.
+fn case(record: &[u8], n: usize, work: usize) -> Vec<u32> {
+    [head(record, n, work), words_of(record)].concat()
 }
 
 /// Changes one field of one node, or n.
@@ -84,9 +106,7 @@ fn line(m: usize, twice: bool) -> Vec<u8> {
     record
 }
 
-pub fn groups(seed: u64) -> Vec<Group> {
-    let mut rng = Rng::new(seed);
-    let rng = &mut rng;
+fn checked(rng: &mut Rng) -> Group {
     let mut g = Group::new(CHECK, 0);
     for n in [0, 1] {
         g.add(case(&[], n, n));
@@ -97,6 +117,11 @@ pub fn groups(seed: u64) -> Vec<Group> {
     for (m, twice) in [(1, false), (2, false), (31, false), (32, false), (33, false), (3, true), (20, true)] {
         g.add(case(&line(m, twice), 0, m));
         g.add(case(&line(m, twice), 0, m - 1));
+    }
+    for s in small::agreed() {
+        let sound = matches!(check(&s.record, s.n, s.words()), Verdict::Sound(_));
+        assert_eq!(sound, passes(&s.record, s.n), "{}", s.what);
+        g.add(case(&s.record, s.n, s.words()));
     }
     for k in 0..150 {
         let t = some_tree(rng, k);
@@ -116,5 +141,70 @@ pub fn groups(seed: u64) -> Vec<Group> {
             g.add(case(&record, n, m + n + rng.below(3)));
         }
     }
-    vec![g]
+    g
+}
+
+/// Unsound records that pass `validate` (1), or on which it never ends (2): the five words, this word, then the record.
+fn laxer() -> Group {
+    let mut g = Group::new(CHECK_LAXER, 0);
+    for s in small::laxer() {
+        assert!(!s.ends || passes(&s.record, s.n), "{}", s.what);
+        let says = if s.ends { 1 } else { 2 };
+        g.add([head(&s.record, s.n, s.words()), vec![says], words_of(&s.record)].concat());
+    }
+    g
+}
+
+/// The five words for records of zero bytes.
+fn sizes() -> Group {
+    let mut g = Group::new(CHECK_SIZES, 5);
+    for bytes in [0, 79, 80, 80 * MOST_NODES - 1, 80 * MOST_NODES, 80 * MOST_NODES + 1, 80 * MOST_NODES + 80] {
+        let record = vec![0u8; bytes];
+        for n in [0, 1, MOST_LEAVES, MOST_LEAVES + 1, u32::MAX as usize] {
+            let need = (bytes / 80 + n).min(CHECK_WORDS);
+            let mut rooms = vec![0, need.saturating_sub(1), need];
+            rooms.dedup();
+            rooms.into_iter().for_each(|work| g.add(head(&record, n, work)));
+        }
+    }
+    g
+}
+
+/// What the program `checkrecord` prints for its input: a word n, then a record.
+fn checkrecord(input: &[u8]) -> String {
+    let verdict = match input.split_first_chunk() {
+        Some((n, record)) => check(record, u32::from_le_bytes(*n) as usize, CHECK_WORDS),
+        None => Verdict::Refused(1),
+    };
+    match verdict {
+        Verdict::Sound(level) => format!("sound {level}\n"),
+        Verdict::Unsound => "unsound\n".into(),
+        Verdict::Refused(number) => format!("refused {number}\n"),
+    }
+}
+
+/// Bytes of input, bytes of output; then both, each filled up to whole words.
+fn lines() -> Group {
+    let mut g = Group::new(CHECKRECORD, 0);
+    let mut add = |input: &[u8]| {
+        let output = checkrecord(input);
+        let head = vec![input.len() as u32, output.len() as u32];
+        g.add([head, words_of(input), words_of(output.as_bytes())].concat());
+    };
+    let input = |n: usize, record: &[u8]| [&(n as u32).to_le_bytes(), record].concat();
+    (0..4).for_each(|k| add(&[0, 0, 0, 0][..k]));
+    for n in [0, 1, MOST_LEAVES, MOST_LEAVES + 1, u32::MAX as usize] {
+        [0, 1, 79, 80, 81].into_iter().for_each(|k| add(&input(n, &vec![0; k])));
+    }
+    for m in [1, 2, 10, 11, 32, 33] {
+        add(&input(0, &line(m, false)));
+    }
+    let t = convert(&sample_tree(), 3, false).record;
+    (0..4).for_each(|n| add(&input(n, &t)));
+    small::records().iter().for_each(|s| add(&input(s.n, &s.record)));
+    g
+}
+
+pub fn groups(seed: u64) -> Vec<Group> {
+    vec![checked(&mut Rng::new(seed)), laxer(), sizes(), lines()]
 }

@@ -16,7 +16,6 @@ fn large_tree(rng: &mut Rng, k: usize) -> Tree {
 }
 
 pub fn run(seed: u64, trees: usize) -> bool {
-    std::panic::set_hook(Box::new(|_| {}));
     let mut rng = Rng::new(seed);
     let rng = &mut rng;
     let (mut converted, mut deep, mut rays, mut hits, mut tests) = (0, 0, 0, 0, 0u64);

@@ -1,10 +1,11 @@
 //! Prints where the published code and the rules differ, each with a smallest input.
-use crate::checks::validated;
+use crate::checks::{passes, validated};
 use crate::convert::{bvh_of, convert};
 use crate::generate::{BOXES, Boxes, Shape, chain, tree};
 use crate::query;
 use crate::record::{Verdict, check};
 use crate::rng::Rng;
+use crate::small::{Small, records};
 use glam::{Vec3A, power_of_two_not_below, vec3a};
 use obvhs::aabb::Aabb;
 use obvhs::ray::Ray;
@@ -75,60 +76,17 @@ fn zeros() {
     println!("entry of the ray from (1, 0.5, 0.5) along -x into (0,0,0)-(1,1,1): published {d:?}, given as +0");
 }
 
-/// A record of nodes at the origin with scale 1, each with imask, child base, primitive base and metas.
-fn record(nodes: &[(u8, u32, u32, [u8; 8])]) -> Vec<u8> {
-    let mut out = vec![];
-    for (imask, child, primitive, meta) in nodes {
-        let mut d = vec![0u8; 80];
-        d[12..15].fill(127);
-        d[15] = *imask;
-        d[16..20].copy_from_slice(&child.to_le_bytes());
-        d[20..24].copy_from_slice(&primitive.to_le_bytes());
-        d[24..32].copy_from_slice(meta);
-        out.extend(d);
-    }
-    out
-}
-
-/// A record of one node with the metas of its first slots.
-fn one(meta: &[u8]) -> Vec<u8> {
-    let mut all = [0; 8];
-    all[..meta.len()].copy_from_slice(meta);
-    record(&[(0, 1, 0, all)])
-}
-
-fn with(mut record: Vec<u8>, at: usize, bytes: &[u8]) -> Vec<u8> {
-    record[at..at + bytes.len()].copy_from_slice(bytes);
-    record
-}
-
 fn soundness() {
     println!("the record check beside `validate` without its box comparisons:");
-    let say = |what: &str, record: Vec<u8>, n: usize| {
+    for Small { what, n, record, ends } in records() {
         let sound = matches!(check(&record, n, usize::MAX), Verdict::Sound(_));
-        let passes = validated(&record, n).is_some();
-        let verdicts = (if passes { "passes" } else { "fails" }, if sound { "sound" } else { "unsound" });
-        println!("  {what}: validate {}, check {}", verdicts.0, verdicts.1);
-    };
-    let leaf0 = [0x20, 0, 0, 0, 0, 0, 0, 0];
-    say("one leaf", one(&[0x20]), 1);
-    say("codes 010 at 0 and 001 at 0, n = 2", one(&[0x40, 0x20]), 2);
-    say("codes 100 at 0 and 011 at 0, n = 3", one(&[0x80, 0x60]), 3);
-    say("codes 101 at 0 and 001 at 1, n = 3", one(&[0xa0, 0x21]), 3);
-    say("codes 110 at 0 and 001 at 0, n = 3", one(&[0xc0, 0x20]), 3);
-    say("a position in two leaf ranges, n = 1", one(&[0x20, 0x20]), 1);
-    let threes = [0xe0, 0xe3, 0xe6, 0xe9, 0xec, 0xef, 0xf2, 0x75];
-    say("offset 23 and 2 positions, n = 25", record(&[(1, 1, 0, [56, 0x77, 0, 0, 0, 0, 0, 0]), (0, 2, 0, threes)]), 25);
-    say("e byte 52", with(one(&[0x20]), 12, &[52]), 1);
-    say("e byte 162", with(one(&[0x20]), 12, &[162]), 1);
-    say("p x the next above 2^40", with(one(&[0x20]), 0, &[1, 0, 0x80, 0x53]), 1);
-    say("imask bit on an empty slot", with(one(&[0x20]), 15, &[0x80]), 1);
-    say("meta 56 in slot 1, imask 2", record(&[(2, 1, 0, [0, 56, 0, 0, 0, 0, 0, 0]), (0, 2, 0, leaf0)]), 1);
-    say("two slots with meta 56, imask 3", record(&[(3, 1, 0, [56, 56, 0, 0, 0, 0, 0, 0]), (0, 2, 0, leaf0)]), 1);
-    let shared = [(3, 1, 0, [56, 57, 0, 0, 0, 0, 0, 0]), (1, 3, 0, [56, 0, 0, 0, 0, 0, 0, 0]), (1, 3, 0, [56, 0, 0, 0, 0, 0, 0, 0]), (0, 4, 0, leaf0)];
-    say("a node in two child ranges", record(&shared), 1);
-    let back = [(1, 2, 0, [56, 0, 0, 0, 0, 0, 0, 0]), (0, 3, 0, leaf0), (1, 1, 0, [56, 0, 0, 0, 0, 0, 0, 0])];
-    say("a child with a smaller number than its parent", record(&back), 1);
+        let validate = match ends.then(|| passes(&record, n)) {
+            Some(true) => "passes",
+            Some(false) => "fails",
+            None => "never ends",
+        };
+        println!("  {what}, n = {n}: validate {validate}, check {}", if sound { "sound" } else { "unsound" });
+    }
 }
 
 /// The smallest of many random trees on which the published conversion panics at leaf limit 4.

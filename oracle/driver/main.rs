@@ -16,6 +16,7 @@ mod record;
 mod rng;
 mod samples;
 mod show;
+mod small;
 mod store;
 mod tree;
 mod walk;

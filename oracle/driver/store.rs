@@ -21,8 +21,11 @@ pub const CONVERSION_REFUSED: u32 = 17;
 pub const CONVERSION_SIZES: u32 = 18;
 pub const CHILDREN: u32 = 19;
 pub const CHECK: u32 = 24;
+pub const CHECK_LAXER: u32 = 25;
+pub const CHECK_SIZES: u32 = 26;
 pub const QUERIES: u32 = 32;
 pub const SHOWRECORD: u32 = 40;
+pub const CHECKRECORD: u32 = 41;
 
 pub struct Group {
     pub kind: u32,

@@ -1,14 +1,13 @@
 -- What holds of accepted boxes: half areas are finite, not negative and at most 2 ^ 84; centres lie within the bound on coordinates.
 use mathlib.Core.Path.{refl}
-use mathlib.Core.Bool.{Bool, true, false, _&&_}
-use Prim.Native.Nat.{ℕ, _+_, _*_, _^_}
+use mathlib.Core.Bool.{false, _&&_}
+use Prim.Native.Nat.{_+_, _*_, _^_}
 use lib.Dec.{T, lit<, lit≤}
-use lib.IntN.{pos, negsuc}
+use lib.IntN.{negsuc}
 use lib.Ieee.{Float, fin, binary32, add, sub, mul, le}
 use lib.Ieee.Fits.{and-l, and-r}
-use Rattle.float.specs.Magnitude.{AtMost, Upto, Held, Within}
+use Rattle.float.specs.Magnitude.{Upto, Held, Within}
 use Rattle.float.proofs.Magnitude.{sub-upto, add-upto, mul-upto, upto-le, held-pow, held-up, add-within, mul-atmost, atmost-le}
-use Rattle.ray.specs.declared.Vec3.{Vec3}
 use Rattle.ray.specs.Ray.{boundedVec}
 use Rattle.ray.proofs.Bounds.{Bounded, bounded}
 use Rattle.aabb.specs.declared.Aabb.{Aabb}

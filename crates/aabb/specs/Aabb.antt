@@ -1,6 +1,6 @@
 -- Boxes (01, "Corners of each file", aabb.rs; "Causes of refusal", 6). Each operation is rounded once, in the order in which the Rust writes it.
-use mathlib.Core.Bool.{Bool, true, false, _&&_, cond}
-use lib.IntN.{pos, negsuc}
+use mathlib.Core.Bool.{Bool, false, _&&_, cond}
+use lib.IntN.{negsuc}
 use lib.Ieee.{Float, inf, fin, binary32, add, sub, mul, le}
 use Rattle.float.specs.Compare.{minOf, maxOf, plusZero, unsignedZero}
 use Rattle.ray.specs.declared.Vec3.{Vec3}

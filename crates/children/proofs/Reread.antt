@@ -1,16 +1,15 @@
 -- A gathered node read anew, with one edge less below it than its parent had, gives the gathered subtree: so conversion can go on from its number.
 use mathlib.Core.Path.{_≡_, refl, sym, ap, subst, _∙_}
 use mathlib.Core.List.{List}
-use Prim.Native.Nat.{ℕ, zero, suc, _+_, _-_, _/_, _%_, _≤_, _<_}
+use Prim.Native.Nat.{ℕ, zero, suc, _+_, _-_, _/_, _%_, _<_}
 use native.Mathlib.Decide.{ℕ-discrete}
-use native.Mathlib.Numerals.{sub-one}
 use native.Mathlib.Omega.{arith}
 use Rattle.aabb.specs.declared.Aabb.{Aabb}
 use Rattle.bvh2.specs.Tree.{Tree, leaf, inner, labelOf}
-use Rattle.bvh2.specs.Words.{Link, children, position, malformed, wordAt, linkAt, boxAt, readLink, treeAt}
+use Rattle.bvh2.specs.Words.{Link, children, position, malformed, wordAt, linkAt, readLink, treeAt}
 use Rattle.bvh2.specs.Decoded.{Whole, Subtree}
 use Rattle.bvh2.proofs.Reading.{children-position, label-is}
-use Rattle.bvh2.proofs.Subtree.{at-leaf, Inner, at-inner}
+use Rattle.bvh2.proofs.Subtree.{at-leaf, at-inner}
 use Rattle.cost.specs.Table.{wordOf}
 use Rattle.cost.specs.Rows.{Holds}
 use Rattle.children.specs.Gather.{gather, Each}

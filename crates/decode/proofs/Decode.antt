@@ -1,6 +1,6 @@
 -- The decoding of eight bytes at once does to each byte what `specs/Meta.antt` says: a word operation works on each byte apart, and what is
 -- left is a fact of one byte, computed at every byte.
-use mathlib.Core.Path.{_≡_, sym, ap, ap₂, _∙_, subst}
+use mathlib.Core.Path.{_≡_, sym, ap, ap₂, _∙_}
 use Prim.Native.Nat.{ℕ, zero, suc, _+_, _-_, _*_, _/_, _%_, _^_, _≤_, _<_}
 use native.Mathlib.Nat.{lt-of-le-of-lt}
 use native.Mathlib.Omega.{arith}

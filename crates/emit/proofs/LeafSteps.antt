@@ -1,16 +1,14 @@
 -- One step of writing a subtree's leaves: what each call asks, and what the two calls give together.
 use mathlib.Core.Path.{_≡_, refl, sym, ap, _∙_}
-use mathlib.Core.List.{List, [], _∷_, _++_, map, map-append}
-use Prim.Native.Nat.{ℕ, zero, suc, _+_, _*_, _-_, _/_, _%_, _<_, _≤_}
-use native.Mathlib.Nat.{add-assoc}
+use mathlib.Core.List.{List, [], _∷_, map-append}
+use Prim.Native.Nat.{ℕ, suc, _+_, _-_, _/_, _%_, _<_, _≤_}
 use native.Mathlib.Omega.{arith}
 use lib.ListN.{length, getD, set, length-append}
 use Rattle.lists.specs.Splice.{splice}
 use Rattle.lists.proofs.Splice.{splice-next, set-splice}
 use Rattle.bvh2.specs.Tree.{Tree, leaf, inner, leaves, positions}
 use Rattle.bvh2.specs.Words.{nodeCount, wordAt, treeAt}
-use Rattle.bvh2.specs.Decoded.{Subtree}
-use Rattle.bvh2.proofs.Subtree.{Leaf, at-leaf, Inner, at-inner}
+use Rattle.bvh2.proofs.Subtree.{at-leaf, at-inner}
 use Rattle.wide.specs.Layout.{wordsAt}
 use Rattle.emit.specs.Leaves.{LeavesReady, LeavesWritten}
 

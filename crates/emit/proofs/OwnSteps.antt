@@ -2,7 +2,7 @@
 use mathlib.Core.Path.{_≡_, refl, sym, ap, ap₂, subst, _∙_}
 use mathlib.Core.Bool.{Bool, true, false, not}
 use mathlib.Core.List.{List}
-use Prim.Native.Nat.{ℕ, zero, suc, _+_, _-_, _*_, _/_, _^_, _≤_, _<_}
+use Prim.Native.Nat.{ℕ, zero, suc, _+_, _*_, _/_, _^_, _≤_, _<_}
 use native.Mathlib.Nat.{pow-succ'}
 use lib.Pow.{pow-mono}
 use lib.Dec.{T}
@@ -15,7 +15,6 @@ use Rattle.emit.specs.declared.Own.{Own}
 use native.Mathlib.Omega.{arith}
 use lib.ListN.{getD}
 use borrow.Author.Tests.{eq-eqb, ne-eqb}
-use Rattle.bvh2.specs.Tree.{leaves}
 use Rattle.bvh2.specs.Words.{boxAt, treeAt}
 use Rattle.node.specs.declared.Node.{Node}
 use Rattle.emit.specs.declared.Grid.{Grid}

@@ -1,9 +1,9 @@
 -- Slots worked through one after another give the node of a layout's entry, where each of them says what stands in the wide node's slot.
 use mathlib.Core.Path.{_≡_, refl, sym, ap, ap₂, _∙_}
 use mathlib.Core.Logic.{_⊎_, inl, inr}
-use mathlib.Core.List.{List, [], _++_, map-append, append-nil}
-use Prim.Native.Nat.{ℕ, zero, suc, _+_, _-_, _*_, _^_, _≤_, _<_}
-use native.Mathlib.Nat.{eq-or-lt-of-le, le-of-suc-le-suc, zero-add, add-zero}
+use mathlib.Core.List.{List, _++_, map-append, append-nil}
+use Prim.Native.Nat.{ℕ, zero, suc, _+_, _-_, _^_, _≤_, _<_}
+use native.Mathlib.Nat.{eq-or-lt-of-le, le-of-suc-le-suc, zero-add}
 use native.Mathlib.Decide.{decLt}
 use native.Mathlib.Omega.{arith}
 use lib.ListN.{length, getD, set, replicate, length-set, getD-replicate, List·getD-eq-default}
@@ -12,14 +12,12 @@ use Rattle.lists.specs.Splice.{splice}
 use Rattle.lists.proofs.Splice.{written-next, splice-none}
 use Rattle.aabb.specs.declared.Aabb.{Aabb}
 use Rattle.bvh2.specs.Tree.{leaves, positions}
-use Rattle.node.specs.declared.Slot.{Slot}
 use Rattle.node.specs.Node.{noSlot}
 use Rattle.wide.specs.Wide.{Slots}
 use Rattle.wide.specs.Sizes.{innerChildren, innerBefore, ownCount, ownBefore, ownPositions}
 use Rattle.wide.proofs.Sizes.{own-inside}
 use Rattle.record.specs.Record.{metas, innerMask, gridBoxes, leafMeta, innerMeta, gridBox}
-use Rattle.record.specs.Children.{Child, leafChild, innerChild, childAt, childMeta, childBytes, childBit, childPositions, childInner, bitsBefore, positionsBefore}
-use Rattle.record.specs.Children as R
+use Rattle.record.specs.Children.{Child, childAt, childMeta, childBytes, childBit, childPositions, childInner, bitsBefore, positionsBefore}
 use Rattle.record.proofs.Children.{metas-length, boxes-length, meta-at, bytes-at, mask-all, bits-next, positions-all, positions-next, own-next, inner-next, own-all, inner-all, own-first, before-length}
 use Rattle.wide.specs.Layout.{wordsAt}
 use Rattle.emit.specs.Own.{Cell, none, asLeaf, asNode, State, begin, withChild, firstSlots, Matches}

@@ -13,7 +13,6 @@ use Rattle.quantization.specs.Exponent.{exponentOf}
 use Rattle.bvh2.specs.Tree.{Tree, leaves, positions}
 use Rattle.bvh2.specs.Words.{boxAt, treeAt}
 use Rattle.bvh2.specs.Decoded.{Subtree}
-use Rattle.node.specs.declared.Slot.{Slot}
 use Rattle.node.specs.Node.{noSlot}
 use Rattle.record.specs.Record.{leafMeta, innerMeta, gridBox}
 use Rattle.node.specs.declared.Node.{Node}

@@ -2,13 +2,13 @@
 use mathlib.Core.Path.{_≡_, refl, sym, ap, ap₂, subst, _∙_}
 use mathlib.Core.Bool.{Bool, true, false}
 use mathlib.Core.List.{List}
-use Prim.Native.Nat.{ℕ, zero, suc, _+_, _-_, _*_, _^_, _≤_, _<_}
+use Prim.Native.Nat.{ℕ, suc, _+_, _-_, _*_, _<_}
 use native.Mathlib.Numerals.{add-one}
 use native.Mathlib.Omega.{arith}
 use lib.ListN.{length, getD}
 use Rattle.aabb.specs.declared.Aabb.{Aabb}
 use Rattle.bvh2.specs.Tree.{Tree, labelOf, boxOf}
-use Rattle.bvh2.specs.Words.{nodeCount, boxAt, treeAt}
+use Rattle.bvh2.specs.Words.{boxAt, treeAt}
 use Rattle.bvh2.specs.Decoded.{Subtree}
 use Rattle.bvh2.proofs.Reading.{box-is}
 use Rattle.bvh2.proofs.Subtree.{node}
@@ -21,8 +21,8 @@ use Rattle.wide_tree.specs.WideTree.{rootSlots, slotsFrom}
 use Rattle.record.specs.Children.{Child, innerChild}
 use Rattle.emit_tree.specs.declared.Next.{Next}
 use Rattle.wide_tree.specs.Ordered.{placing}
-use Rattle.emit_tree.specs.Emission.{slotWords, slotsAt, Reached, isInner, Room, NodeRoom, Emits, Written, writeEntry, stateOf}
-use Rattle.emit_tree.proofs.Turns.{Below, rest, rest-all, rest-next, standing, slot-below, slot-other, slot-subtree}
+use Rattle.emit_tree.specs.Emission.{slotWords, slotsAt, Reached, isInner, Room, Emits, Written, writeEntry, stateOf}
+use Rattle.emit_tree.proofs.Turns.{rest, rest-all, rest-next, standing, slot-below, slot-other, slot-subtree}
 use Rattle.emit_tree.proofs.Rolling.{put, Rolling, child-room, child-done, other-done}
 
 module _ (ws ds indices : List ℕ) (d v : ℕ) (ordered : Bool) (h : Reached ws ds (length indices) d v) (i x : ℕ) (l : i < 8) (q : x ≡ getD (slotWords ordered (h .limit) (treeAt ws d v)) i 0) where

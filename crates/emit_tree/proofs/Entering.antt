@@ -1,37 +1,34 @@
 -- A node's own part: what building it asks, and what writing it leaves.
-use mathlib.Core.Path.{_≡_, refl, sym, ap, ap₂, subst, _∙_}
+use mathlib.Core.Path.{_≡_, refl, ap, _∙_}
 use mathlib.Core.Bool.{Bool, true}
 use mathlib.Core.List.{List}
-use Prim.Native.Nat.{ℕ, zero, suc, _+_, _-_, _*_, _^_, _≤_, _<_}
+use Prim.Native.Nat.{ℕ, zero, suc, _+_, _*_, _^_, _≤_, _<_}
 use native.Mathlib.Omega.{arith}
 use lib.ListN.{length, getD}
 use Rattle.lists.specs.Splice.{splice}
-use Rattle.aabb.specs.declared.Aabb.{Aabb}
 use Rattle.aabb.specs.Aabb.{acceptedBox}
-use Rattle.bvh2.specs.Tree.{Tree, leaves, positions}
-use Rattle.bvh2.specs.Words.{nodeCount, boxAt, treeAt}
+use Rattle.bvh2.specs.Tree.{positions}
+use Rattle.bvh2.specs.Words.{boxAt, treeAt}
 use Rattle.bvh2.proofs.Subtree.{node}
 use Rattle.cost.proofs.Bound.{leaves-pos}
 use Rattle.wide.specs.Wide.{Slots, end, empty, leaf, inner}
-use Rattle.wide.specs.Sizes.{innerChildren, ownCount, ownBefore, countBelow, nodesBelow, SmallLeaves}
-use Rattle.wide.specs.Layout.{Entry, entry}
-use Rattle.wide.specs.Conversion.{State, enter}
+use Rattle.wide.specs.Sizes.{innerChildren, ownCount, ownBefore, SmallLeaves}
+use Rattle.wide.specs.Layout.{entry}
+use Rattle.wide.specs.Conversion.{enter}
 use Rattle.wide.proofs.Sizes.{own-inside}
 use Rattle.wide_tree.proofs.WideTree.{small-leaves}
 use Rattle.node.specs.declared.Node.{Node}
 use Rattle.node.specs.Node.{nodeBytes}
 use Rattle.record.specs.Record.{nodeOf}
-use Rattle.record.specs.Children.{Child, childAt, childPositions, leafChild}
+use Rattle.record.specs.Children.{Child, childAt, childPositions}
 use Rattle.record.proofs.Children.{own-next, own-first}
 use Rattle.emit.specs.declared.Built.{Built}
-use Rattle.emit.specs.declared.Own.{Own}
-use Rattle.emit.specs.Own as O
-use Rattle.emit.specs.Own.{Cell, none, asLeaf, asNode, cellOf, Matches, CellReady, SlotReady, OwnReady, firstSlots, allSlots, nodeBuilt, BuiltAs}
+use Rattle.emit.specs.Own.{Cell, none, asLeaf, asNode, cellOf, Matches, CellReady, OwnReady, allSlots, BuiltAs}
 use Rattle.emit.proofs.LeafSteps.{positions-length}
 use Rattle.emit.proofs.Whole.{first-upto, Entered, all-slots}
 use Rattle.emit_tree.specs.declared.Next.{Next}
 use Rattle.wide_tree.specs.Ordered.{placing}
-use Rattle.emit_tree.specs.Emission.{slotWords, slotsAt, Reached, NodeRoom, Room, Emits, Written, writeEntry, stateOf}
+use Rattle.emit_tree.specs.Emission.{slotWords, slotsAt, Room, Emits, writeEntry, stateOf}
 use Rattle.emit_tree.proofs.Matching.{slots-match}
 use Rattle.emit_tree.proofs.Turns.{slot-subtree}
 

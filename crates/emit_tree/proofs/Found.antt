@@ -1,15 +1,15 @@
 -- From the children that were gathered to a node's slots.
 use mathlib.Core.Path.{_≡_, refl, sym, ap, ap₂, _∙_}
 use mathlib.Core.Bool.{Bool}
-use mathlib.Core.List.{List, [], _∷_, _++_, map}
-use Prim.Native.Nat.{ℕ, zero, suc, _+_, _-_, _*_, _^_, _≤_, _<_}
+use mathlib.Core.List.{List, [], _∷_, map}
+use Prim.Native.Nat.{ℕ, zero, suc, _+_, _-_, _*_, _≤_, _<_}
 use native.Mathlib.Nat.{zero-add, le-of-suc-le-suc, not-suc-le-zero}
 use native.Mathlib.Omega.{arith}
 use lib.ListN.{length, getD, take, drop, replicate, length-map}
 use lib.Seq.{take-at, getD-take}
 use Rattle.lists.specs.Splice.{splice}
 use Rattle.aabb.specs.declared.Aabb.{Aabb}
-use Rattle.bvh2.specs.Tree.{Tree, labelOf, boxOf, leaves}
+use Rattle.bvh2.specs.Tree.{Tree, labelOf, boxOf}
 use Rattle.bvh2.specs.Words.{boxAt, treeAt}
 use Rattle.bvh2.proofs.Reading.{box-is}
 use Rattle.bvh2.proofs.Subtree.{node}

@@ -9,7 +9,6 @@ use lib.ListN.{length, getD}
 use Rattle.aabb.specs.declared.Aabb.{Aabb}
 use Rattle.bvh2.specs.Tree.{Tree, labelOf, boxOf, positions}
 use Rattle.bvh2.specs.Words.{nodeCount, boxAt, treeAt}
-use Rattle.bvh2.specs.Decoded.{Subtree}
 use Rattle.bvh2.proofs.Reading.{box-is}
 use Rattle.bvh2.proofs.Subtree.{node}
 use Rattle.cost.specs.Table.{Kind, LEAF, INTERNAL, DISTRIBUTE, code, table, wordOf}
@@ -21,11 +20,11 @@ use Rattle.order.specs.Order.{slotsOf, placed}
 use Rattle.order.specs.Assign as A
 use Rattle.order.proofs.Arrays.{eight-at}
 use Rattle.wide.specs.Wide.{Slots}
-use Rattle.wide_tree.specs.WideTree.{Child, leafChild, innerChild, childBox, slotOf, slotsFrom, Placing, childAs, childrenOf, rootSlots}
+use Rattle.wide_tree.specs.WideTree.{Child, leafChild, innerChild, slotOf, slotsFrom, Placing, childAs, childrenOf, rootSlots}
 use Rattle.wide_tree.proofs.Gathered.{childOf, children-gathered, children-boxes}
 use Rattle.record.specs.Children.{childAt}
 use Rattle.record.specs.Children as R
-use Rattle.emit.specs.Own.{Cell, asLeaf, asNode, cellOf, Matches}
+use Rattle.emit.specs.Own.{Cell, cellOf, Matches}
 use Rattle.emit.proofs.OwnSteps.{cell-none, cell-leaf, cell-node}
 use Rattle.wide_tree.specs.Ordered.{placing}
 use Rattle.emit_tree.specs.Emission.{slotWords, Reached, slotsAt}

@@ -1,21 +1,19 @@
 -- The slots that are left of a node, by their words.
-use mathlib.Core.Path.{_≡_, refl, sym, ap, ap₂, subst, _∙_}
+use mathlib.Core.Path.{_≡_, refl, ap, ap₂, subst, _∙_}
 use mathlib.Core.Bool.{Bool, true, false, not, _&&_}
 use mathlib.Core.List.{List, [], _∷_, map}
-use Prim.Native.Nat.{ℕ, zero, suc, _+_, _-_, _*_, _/_, _≤_, _<_}
-use native.Mathlib.Nat.{add-zero, zero-add, le-of-suc-le-suc, not-suc-le-zero}
+use Prim.Native.Nat.{ℕ, zero, suc, _-_, _*_, _/_, _≤_, _<_}
+use native.Mathlib.Nat.{zero-add}
 use native.Mathlib.Decide.{ℕ-discrete}
 use native.Mathlib.Omega.{arith}
 use lib.Dec.{eqb}
 use lib.ListN.{length, getD}
 use borrow.Author.Tests.{eq-eqb, ne-eqb}
 use Rattle.aabb.specs.declared.Aabb.{Aabb}
-use Rattle.bvh2.specs.Tree.{Tree, leaf, inner, labelOf, boxOf, positions, leaves}
+use Rattle.bvh2.specs.Tree.{Tree, leaf, inner, labelOf, boxOf}
 use Rattle.bvh2.specs.Words.{nodeCount, boxAt, treeAt}
 use Rattle.bvh2.specs.Decoded.{Subtree}
-use Rattle.bvh2.proofs.Subtree.{node}
-use Rattle.cost.specs.Table.{Kind, LEAF, INTERNAL, DISTRIBUTE, code, table, wordOf}
-use Rattle.cost.specs.Rows.{Holds}
+use Rattle.cost.specs.Table.{Kind, LEAF, INTERNAL, DISTRIBUTE, code, table}
 use Rattle.cost.proofs.Splits.{leaf-kind}
 use Rattle.children.specs.Gather.{gather, Each}
 use Rattle.children.proofs.Gather.{one-child}
@@ -31,7 +29,7 @@ use Rattle.record.specs.Children as R
 use Rattle.emit.specs.Own.{Cell, none, asLeaf, asNode, cellBy, cellOf, Matches}
 use Rattle.wide_tree.specs.Ordered.{placing}
 use Rattle.emit_tree.specs.Emission.{slotWords, Reached, slotsAt, isInner}
-use Rattle.emit_tree.proofs.Matching.{heldAs, heldAt, from-at, kind-says, box-says, a-node, root-slots, slots-match}
+use Rattle.emit_tree.proofs.Matching.{heldAs, heldAt, from-at, kind-says, root-slots, slots-match}
 use Rattle.emit_tree.proofs.Rolling.{put}
 
 -- ---- the test of a slot's word

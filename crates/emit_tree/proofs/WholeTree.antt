@@ -2,27 +2,25 @@
 use mathlib.Core.Path.{_≡_, refl, sym, ap, _∙_}
 use mathlib.Core.Bool.{Bool}
 use mathlib.Core.List.{List, [], _∷_, _++_, map}
-use Prim.Native.Nat.{ℕ, _+_, _*_, _≤_, _<_}
+use Prim.Native.Nat.{ℕ}
 use native.Mathlib.Nat.{zero-add}
 use native.Mathlib.Omega.{arith}
-use lib.ListN.{length, getD, drop, take, length-map}
+use lib.ListN.{length, getD, drop, length-map}
 use Rattle.lists.specs.Splice.{splice}
-use Rattle.bvh2.specs.Words.{boxAt, treeOf}
+use Rattle.bvh2.specs.Words.{boxAt}
 use Rattle.bvh2.proofs.Reading.{box-is}
-use Rattle.wide.specs.Wide.{Wide}
-use Rattle.wide.specs.Layout.{Entry, layout, nodes, indexList, indexCount}
-use Rattle.wide.specs.Conversion.{State, convertNode, convertTree, writeAll, writePositions}
+use Rattle.wide.specs.Layout.{Entry, layout, nodes, indexList}
+use Rattle.wide.specs.Conversion.{State, convertNode, writeAll, writePositions}
 use Rattle.wide.proofs.Conversion.{converted}
 use Rattle.wide.proofs.Sizes.{index-length}
 use Rattle.wide.proofs.Written.{positions-all}
-use Rattle.wide_tree.specs.WideTree.{wideOf, rootSlots}
+use Rattle.wide_tree.specs.WideTree.{wideOf}
 use Rattle.node.specs.Node.{nodeBytes}
 use Rattle.node.proofs.RoundTrip.{length-node}
 use Rattle.record.specs.Record.{nodeOf, recordBytes}
 use Rattle.record.proofs.Written.{put, written}
 use Rattle.emit_tree.specs.declared.Next.{Next}
-use Rattle.wide_tree.specs.Ordered.{placing}
-use Rattle.emit_tree.specs.Emission.{slotsAt, wideAt, Reached, NodeRoom, Emits, Whole, Emitted, Written, writeEntry, stateOf}
+use Rattle.emit_tree.specs.Emission.{slotsAt, wideAt, Emits, Whole, Emitted, Written, writeEntry, stateOf}
 
 block : Entry → List ℕ
 block e = nodeBytes (nodeOf e)

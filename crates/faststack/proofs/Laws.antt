@@ -1,10 +1,10 @@
 -- Last in, first out: a pushed group is on top of the groups that were there, and they stay.
-use mathlib.Core.Path.{_≡_, refl, _∙_}
+use mathlib.Core.Path.{_≡_}
 use mathlib.Core.List.{List, [], _∷_, _++_}
 use Prim.Native.Nat.{ℕ, suc, _+_, _-_, _≤_, _<_}
 use native.Mathlib.Omega.{arith}
 use borrow.Author.Tests.{lt-ltb, le-ltb, le-leb}
-use lib.ListN.{length, getD, set, take}
+use lib.ListN.{length}
 use lib.Seq.{take-suc-set, getD-set-same}
 use Rattle.faststack.specs.Stack.{capacity, groups, pushed, topOf}
 

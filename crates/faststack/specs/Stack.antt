@@ -1,7 +1,7 @@
 -- A stack of at most 32 groups (01, "Corners of each file", faststack.rs): the words below its depth, the last pushed highest.
-use mathlib.Core.Bool.{Bool, true, false, _&&_, cond}
+use mathlib.Core.Bool.{Bool, _&&_, cond}
 use mathlib.Core.List.{List}
-use Prim.Native.Nat.{ℕ, zero, suc, _-_}
+use Prim.Native.Nat.{ℕ, _-_}
 use lib.Dec.{ltb, leb}
 use lib.ListN.{getD, set, take}
 

@@ -2,13 +2,13 @@
 use mathlib.Core.Path.{_≡_, refl, sym, ap, _∙_, subst}
 use mathlib.Core.Logic.{_⊎_, inl, inr}
 use Prim.Native.Nat.{ℕ, zero, suc, _+_, _-_, _*_, _^_, _≤_, _<_, zero-le}
-use native.Mathlib.Nat.{le-trans, le-refl, le-of-eq, le-of-lt, lt-of-lt-of-le, lt-of-le-of-lt, not-le-of-lt, eq-zero-or-pos, eq-or-lt-of-le, zero-add, zero-lt-suc, two-mul, pow-succ', zero-mul, mul-zero, mul-one, one-mul, mul-comm, mul-assoc, mul-left-comm, mul-right-comm, mul-le-mul-right, mul-le-mul, le-of-mul-le-mul-right, mul-pos, add-mul, add-le-add, mul-mul-mul-comm}
+use native.Mathlib.Nat.{le-trans, le-of-eq, le-of-lt, lt-of-lt-of-le, eq-zero-or-pos, eq-or-lt-of-le, zero-add, zero-lt-suc, two-mul, pow-succ', zero-mul, mul-zero, mul-one, one-mul, mul-comm, mul-assoc, mul-left-comm, mul-right-comm, mul-le-mul-right, mul-le-mul, le-of-mul-le-mul-right, mul-pos, add-mul, add-le-add, mul-mul-mul-comm}
 use native.Mathlib.Omega.{arith}
 use mathlib.Core.Bool.{Bool, true, false, not, _&&_, _||_, Bool·beq, cond, true≢false}
-use lib.IntN.{ℤ, pos, negsuc}
-use lib.Dec.{T, ltb, leb, eqb, ltb→lt, lt→ltb, nltb→le, eqb→eq, eqb·suc-zero, lit<, lit≤}
+use lib.IntN.{ℤ, pos}
+use lib.Dec.{T, ltb, eqb, ltb→lt, lt→ltb, eqb→eq, eqb·suc-zero, lit<}
 use lib.Pow.{pow-pos, pow-add, pow-mono, pow-lt, shl-lt}
-use lib.Ieee.{Float, nan, inf, fin, Format, binary32, binary64, prec, emax, low, up, down, odd, units, round, unlike, neg, sum, add, sub, mul, div, lt, le, isNan}
+use lib.Ieee.{Float, nan, inf, fin, Format, binary32, binary64, prec, emax, low, up, down, odd, units, round, unlike, neg, sum, add, sub, mul, div, le, isNan}
 use lib.Ieee.Fits.{up-pos, down-pos, round-is, and-l, and-r, and-i, eq→eqb, reach}
 use lib.Ieee.Digits.{back}
 use lib.Ieee.Exact.{HasValue, units-val, round-exact}

@@ -1,18 +1,17 @@
--- Sums and differences of finite floats of either sign keep the order. Assumes nothing.
+-- Sums and differences of finite floats of either sign keep the order.
 use mathlib.Core.Path.{_≡_, refl, sym, ap, _∙_, subst}
-use mathlib.Core.Logic.{_⊎_, inl, inr}
-use Prim.Native.Nat.{ℕ, zero, suc, _+_, _-_, _*_, _^_, _≤_, _<_, zero-le}
-use native.Mathlib.Nat.{le-trans, le-refl, le-of-eq, zero-mul, add-mul, mul-assoc, mul-comm, mul-left-comm, mul-mul-mul-comm, mul-pos, mul-le-mul-right, eq-zero-or-pos}
+use mathlib.Core.Logic.{inl, inr}
+use Prim.Native.Nat.{ℕ, zero, suc, _+_, _-_, _*_, _^_, _≤_, _<_}
+use native.Mathlib.Nat.{le-trans, le-of-eq, zero-mul, add-mul, mul-assoc, mul-comm, mul-left-comm, mul-mul-mul-comm, mul-pos, mul-le-mul-right, eq-zero-or-pos}
 use native.Mathlib.Omega.{arith}
-use mathlib.Core.Bool.{Bool, true, false, not, _&&_, _||_, Bool·beq, cond, true≢false}
-use lib.IntN.{ℤ, pos}
+use mathlib.Core.Bool.{Bool, true, false, not, cond, true≢false}
+use lib.IntN.{ℤ}
 use lib.Dec.{T, ltb, ltb→lt, nltb→le}
 use lib.Pow.{pow-pos}
-use lib.Ieee.{Float, nan, inf, fin, Format, prec, emax, low, up, down, odd, units, round, neg, sum, add, sub, mul, lt, le, eq}
-use lib.Ieee.Fits.{up-pos, down-pos, round-is}
-use lib.Ieee.Exact.{HasValue}
+use lib.Ieee.{Float, nan, inf, fin, Format, prec, emax, low, up, down, odd, units, round, neg, sum, add, sub, mul, le}
+use lib.Ieee.Fits.{down-pos, round-is}
 use lib.Ieee.Order.{kept, drop, round-mono}
-use lib.Ieee.Scale.{finite, grid, overflow}
+use lib.Ieee.Scale.{finite}
 use Rattle.float.specs.Magnitude.{Upto}
 use Rattle.float.proofs.Magnitude.{round-upto, held-zero}
 use Rattle.float.proofs.Order.{LeN, Le, Le→le, le→Le}

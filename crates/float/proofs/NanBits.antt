@@ -1,11 +1,11 @@
 -- Which patterns of binary32 are NaNs: those whose low 31 bits exceed an infinity's.
-use mathlib.Core.Path.{_≡_, refl, sym, ap, _∙_, subst}
-use mathlib.Core.Bool.{Bool, true, false, not, _&&_, cond}
-use Prim.Native.Nat.{ℕ, suc, _*_, _/_, _%_, _≤_, _<_}
+use mathlib.Core.Path.{_≡_, sym, subst}
+use mathlib.Core.Bool.{Bool, true, false, not, _&&_}
+use Prim.Native.Nat.{ℕ, _/_, _%_, _≤_, _<_}
 use native.Mathlib.Omega.{arith}
-use lib.Dec.{T, leb, eqb}
+use lib.Dec.{T, eqb}
 use borrow.Author.Tests.{eq-eqb, ne-eqb}
-use lib.Ieee.{Float, nan, binary32, div, ofBits, ofFields, nanBits}
+use lib.Ieee.{binary32, div, ofBits, ofFields, nanBits}
 
 exponent-full : (b : ℕ) → 2139095040 < b % 2147483648 → b % 2147483648 / 8388608 ≡ 255
 exponent-full b h = omega arith

@@ -1,5 +1,4 @@
 -- The order of finite floats of either sign, as one of numbers: reflexive, transitive, total; and the lesser and the greater of two.
--- Assumes nothing.
 use mathlib.Core.Path.{_≡_, refl, sym, ap, _∙_, subst}
 use mathlib.Core.Logic.{_⊎_, inl, inr}
 use Prim.Native.Nat.{ℕ, _+_, _*_, _≤_, _<_, zero-le}

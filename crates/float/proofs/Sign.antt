@@ -1,7 +1,7 @@
 -- The sign bit of a float, and that a test which passed rules a NaN out.
 use mathlib.Core.Path.{_≡_, refl, sym, ap, _∙_, subst}
 use Prim.Native.Nat.{ℕ, zero, suc, _+_, _*_, _%_, _/_}
-use mathlib.Core.Bool.{Bool, true, false, not, _&&_, _||_, cond}
+use mathlib.Core.Bool.{Bool, true, false, not, _&&_, cond}
 use lib.Dec.{T, leb, eqb}
 use lib.Ieee.{Float, nan, inf, fin, Format, prec, low, ones, hid, top, odd, ofFields, ofBits, toBits, fits, isNan, lt, le, eq, level, up, down}
 use borrow.Author.Tests.{eq-eqb}

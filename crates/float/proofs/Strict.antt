@@ -1,12 +1,11 @@
 -- The strict order of all floats, infinities and NaN included: transitive, and never of a value with itself.
 use mathlib.Core.Path.{_≡_, refl, sym, ap, _∙_, subst}
 use mathlib.Core.Bool.{Bool, true, false, not, _&&_, true≢false}
-use Prim.Native.Nat.{ℕ, zero, suc, _+_, _*_, _≤_, _<_, zero-le}
-use native.Mathlib.Nat.{lt-of-le-of-lt, lt-of-lt-of-le, le-refl, le-of-eq, lt-irrefl, mul-pos, mul-right-comm, mul-lt-mul-of-pos-right, mul-le-mul-right, lt-of-mul-lt-mul-right, eq-zero-or-pos, zero-mul, lt-trans}
+use Prim.Native.Nat.{ℕ, _+_, _*_, _≤_, _<_}
+use native.Mathlib.Nat.{lt-of-le-of-lt, lt-of-lt-of-le, le-refl, mul-pos, mul-right-comm, mul-lt-mul-of-pos-right, mul-le-mul-right, lt-of-mul-lt-mul-right, eq-zero-or-pos, zero-mul, lt-trans}
 use native.Mathlib.Omega.{arith}
 use mathlib.Core.Logic.{inl, inr}
-use lib.IntN.{ℤ}
-use lib.Dec.{T, ltb}
+use lib.Dec.{T}
 use borrow.Author.Tests.{ltb-true, ltb-false, lt-ltb, le-ltb}
 use lib.Ieee.{Float, nan, inf, fin, up, down, below, lt, isNan}
 use lib.Ieee.Fits.{down-pos}

@@ -1,13 +1,17 @@
 // The library for C and Rust: each function is exported under its name. Numbers that are returned are those of
-// refusals, 0 for none; a refused call writes nothing.
+// refusals, 0 for none, but the record check's, which also says what a record is; a refused call writes nothing.
 ghost use mathlib.Core.Path.{_≡_};
 ghost use Prim.Native.Nat.{_+_, _*_, _/_, _≤_, _<_};
 ghost use lib.ListN.{length};
 ghost use Rattle.aabb.specs.Aabb.{halfArea, entryDistance};
+ghost use Rattle.record_shape.specs.Check.{checkOf, wordsAfter};
+ghost use Rattle.validate.specs.Validity.{answerOf};
+ghost use Rattle.funnelcress.specs.Answers.{answerNumber};
 ghost use Rattle.funnelcress.specs.Lists.{vecAt, boxAt, rayAt, filled, areaAt, entryAt, refusal, rayRefusal, answered};
 use aabb::Aabb;
 use ray::Ray;
 use ray::Vec3;
+use validate::Validity;
 
 // Three floats, from a place on.
 fn vec_at(s: &[f32], at: usize) -> Vec3
@@ -103,4 +107,30 @@ pub extern "C" fn funnelcress_entry_distances(boxes: &[f32], ray: &[f32], out: &
         fill_entries(boxes, ray_at(ray), out);
     }
     number
+}
+
+// The record check's answer as a number.
+fn answer_number(v: Validity) -> u64
+    ensures { λ r. ⌜ r ≡ answerNumber (answerOf v) ⌝ }
+{
+    match v {
+        Validity::Sound(level) => {
+            return level as u64;
+        }
+        Validity::Unsound => {
+            return 0x1_0000_0000;
+        }
+        Validity::Refused(number) => {
+            return 0x2_0000_0000 + number as u64;
+        }
+    }
+}
+
+// The record check: its answer, and below 2^32 the deepest level of a sound record or the number of a refusal.
+#[no_mangle]
+pub extern "C" fn funnelcress_validate(record: &[u8], n: usize, work: &mut [u32]) -> u64
+    ensures { λ r. ⌜ r ≡ answerNumber (checkOf (now («record» .entry)) n (length (now (work .entry)))) ⌝ }
+    ensures { λ _. ⌜ now (work .exit) ≡ wordsAfter (now («record» .entry)) n (now (work .entry)) ⌝ }
+{
+    answer_number(validate::validate(record, n, work))
 }

@@ -1,5 +1,5 @@
 -- What holds of rays within the bounds: an octant is below 8, a safe inverse at most 2 ^ 23 in size, an accepted ray's components finite.
-use mathlib.Core.Path.{_≡_, refl, sym, subst}
+use mathlib.Core.Path.{_≡_, refl}
 use mathlib.Core.Bool.{Bool, true, false, not, _&&_, cond}
 use Prim.Native.Nat.{ℕ, _^_, _≤_, _<_}
 use native.Mathlib.Omega.{arith}
@@ -14,7 +14,7 @@ use Rattle.float.proofs.Magnitude.{div-atmost, held-pow, atmost-of-tests, atmos
 use Rattle.float.proofs.Order.{atleast-of-test}
 use Rattle.ray.specs.declared.Vec3.{Vec3}
 use Rattle.ray.specs.declared.Ray.{Ray}
-use Rattle.ray.specs.Ray.{tiny, safeInverse, belowZero, octantOf, boundedVec, acceptedRay}
+use Rattle.ray.specs.Ray.{tiny, safeInverse, octantOf, boundedVec, acceptedRay}
 
 pub weight-le : (b : Bool) (w : ℕ) → cond b w 0 ≤ w
 weight-le true w = omega arith

@@ -1,5 +1,6 @@
 // Slices that are lent filled with patterns, and what they hold afterwards.
 ghost use Prim.Native.Nat.{_≤_};
+use stored::all_are;
 use stored::word;
 
 // What lent words, bytes and costs hold before.
@@ -22,18 +23,7 @@ fn has_bits(x: f32, bits: u32) -> bool {
     false
 }
 
-// Whether each of these is x.
-fn all_words(words: &[u32], x: u32) -> bool {
-    let mut i = 0;
-    while i < words.len() {
-        if words[i] != x {
-            return false;
-        }
-        i += 1;
-    }
-    true
-}
-
+// Whether each of these has this pattern.
 fn all_costs(costs: &[f32], bits: u32) -> bool {
     let mut i = 0;
     while i < costs.len() {
@@ -45,6 +35,7 @@ fn all_costs(costs: &[f32], bits: u32) -> bool {
     true
 }
 
+// Whether each of these is x.
 fn all_bytes(bytes: &[u8], x: u8) -> bool {
     let mut i = 0;
     while i < bytes.len() {
@@ -119,7 +110,7 @@ pub fn written_words(case: &[u8], from: usize, words: &[u32], count: usize) -> b
         return false;
     }
     if same_words(case, from, &words[..count]) {
-        return all_words(&words[count..], WORD);
+        return all_are(&words[count..], WORD);
     }
     false
 }
@@ -155,8 +146,8 @@ pub fn cleared_words(words: &[u32], count: usize) -> bool {
     if count > words.len() {
         return false;
     }
-    if all_words(&words[..count], 0) {
-        return all_words(&words[count..], WORD);
+    if all_are(&words[..count], 0) {
+        return all_are(&words[count..], WORD);
     }
     false
 }
@@ -175,7 +166,7 @@ pub fn cleared_costs(costs: &[f32], count: usize) -> bool {
 // Whether both outputs are as they were lent.
 pub fn untouched(record: &[u8], list: &[u32]) -> bool {
     if all_bytes(record, BYTE) {
-        return all_words(list, WORD);
+        return all_are(list, WORD);
     }
     false
 }

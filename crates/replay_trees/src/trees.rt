@@ -5,23 +5,13 @@ ghost use Rattle.bvh2.specs.Causes.{Accepted};
 ghost use Rattle.bvh2.specs.Words.{nodeCount};
 use bvh2_check::sizes;
 use bvh2_check::structure;
+use stored::all_are;
 
 // Room for the words of a stored tree, seven for each node.
 pub const MOST_WORDS: usize = 2048;
 
 // No number of a cause.
 const NO_ANSWER: u32 = 0xffff_ffff;
-
-fn all_zero(words: &[u32]) -> bool {
-    let mut i = 0;
-    while i < words.len() {
-        if words[i] != 0 {
-            return false;
-        }
-        i += 1;
-    }
-    true
-}
 
 // The nodes of n leaves.
 pub fn node_count(n: usize) -> usize
@@ -45,7 +35,7 @@ pub fn first_cause(words: &[u32], n: usize) -> u32
     }
     let mut marks = [0u32; MOST_WORDS];
     let number = structure(words, n, &mut marks);
-    if all_zero(&marks) {
+    if all_are(&marks, 0) {
         return number;
     }
     NO_ANSWER

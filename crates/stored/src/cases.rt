@@ -67,3 +67,15 @@ pub fn same_vector(case: &[u8], i: usize, v: ray::Vec3) -> bool {
     }
     false
 }
+
+// Whether every one of these words is x.
+pub fn all_are(words: &[u32], x: u32) -> bool {
+    let mut i = 0;
+    while i < words.len() {
+        if words[i] != x {
+            return false;
+        }
+        i += 1;
+    }
+    true
+}

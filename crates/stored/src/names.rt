@@ -18,7 +18,14 @@ pub fn print_name(kind: u32) {
         17 => io::write_all(STDOUT_FILENO, b"trees refused"),
         18 => io::write_all(STDOUT_FILENO, b"trees refused by lengths"),
         19 => io::write_all(STDOUT_FILENO, b"children and slots"),
+        24 => io::write_all(STDOUT_FILENO, b"records checked"),
+        25 => io::write_all(
+            STDOUT_FILENO,
+            b"unsound records that `validate` lets through",
+        ),
+        26 => io::write_all(STDOUT_FILENO, b"records checked by lengths"),
         40 => io::write_all(STDOUT_FILENO, b"records shown"),
+        41 => io::write_all(STDOUT_FILENO, b"lines of checkrecord"),
         _ => io::write_all(STDOUT_FILENO, b"unknown"),
     }
     ;

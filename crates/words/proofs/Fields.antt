@@ -1,11 +1,9 @@
 -- The laws of a word's fields: the bit operations work on each field apart, at any width of the fields.
-use mathlib.Core.Path.{_≡_, refl, sym, ap, ap₂, _∙_, subst}
+use mathlib.Core.Path.{_≡_, sym, ap, ap₂, _∙_, subst}
 use Prim.Native.Nat.{ℕ, zero, suc, _+_, _-_, _*_, _/_, _%_, _^_, _≤_, _<_, zero-le, suc-le-suc}
-use native.Mathlib.Nat.{mod-lt, mod-eq-of-lt, div-one, zero-mul, suc-mul, add-comm, add-mul, mul-comm, mul-assoc, zero-add, add-zero, div-add-mod', mul-one}
-use native.Mathlib.Numerals.{add-one, one-add}
+use native.Mathlib.Nat.{mod-lt, div-one, zero-mul, suc-mul, add-comm, add-mul, mul-comm, mul-assoc, mul-one}
 use native.Mathlib.Omega.{arith}
-use lib.Arith.{digits-mod, digits-div, lt-one}
-use lib.Pow.{pow-pos, pow-mono, pow-add, split, high, low, shr-shr, shr-lt, mod-mod-pow, mod-pow-add, shl-shr}
+use lib.Pow.{pow-pos, split, high, low, shr-shr, shr-lt, mod-mod-pow, shl-shr}
 use lib.Pow as P
 use lib.Bits.{bitAnd, bitOr, bitXor, and-shr, and-mod, or-shr, or-mod, xor-shr, xor-mod}
 use Rattle.words.specs.Fields.{field}

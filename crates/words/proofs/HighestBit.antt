@@ -1,10 +1,10 @@
 -- The highest set digit of a number of w digits, and a digit cleared, at any width w.
-use mathlib.Core.Path.{_≡_, refl, sym, ap, ap₂, _∙_, subst}
+use mathlib.Core.Path.{_≡_, sym, ap, ap₂, _∙_, subst}
 use Prim.Native.Nat.{ℕ, zero, suc, _+_, _-_, _*_, _/_, _%_, _^_, _≤_, _<_}
-use native.Mathlib.Nat.{mod-lt, mod-eq-of-lt, pow-suc, one-mul, mul-comm}
-use native.Mathlib.Numerals.{add-one, one-add}
+use native.Mathlib.Nat.{mod-lt, mod-eq-of-lt}
+use native.Mathlib.Numerals.{add-one}
 use native.Mathlib.Omega.{arith}
-use lib.Pow.{pow-pos, pow-mono, pow-lt, pow-add, split, mod-pow-add, shr-lt, ones-lt, ones-split, high}
+use lib.Pow.{pow-pos, pow-add, split, mod-pow-add, shr-lt, ones-lt, ones-split, high}
 use lib.Bits.{bitAnd, and-mask, and-block, and-zero-r}
 use lib.Count.{leadingZeros, leading-top}
 use Rattle.words.specs.Top.{Top}

@@ -2,16 +2,16 @@
 use mathlib.Core.Path.{_≡_, refl, sym, ap, ap₂, _∙_, subst}
 use mathlib.Core.Logic.{_⊎_, inl, inr, ⊎-elim}
 use mathlib.Core.List.{List}
-use Prim.Native.Nat.{ℕ, zero, suc, _+_, _-_, _*_, _/_, _%_, _^_, _≤_, _<_, zero-le, suc-le-suc}
-use native.Mathlib.Nat.{mod-lt, mod-eq-of-lt, mod-one, zero-mul, suc-mul, add-comm, mul-assoc, mul-add-mod-self-right, add-mul-div-right, div-one, add-zero, zero-add, eq-or-lt-of-le, le-of-suc-le-suc, not-suc-le-zero}
+use Prim.Native.Nat.{ℕ, zero, suc, _+_, _*_, _/_, _%_, _^_, _≤_, _<_}
+use native.Mathlib.Nat.{mod-eq-of-lt, mod-one, zero-mul, suc-mul, add-comm, mul-assoc, mul-add-mod-self-right, add-mul-div-right, add-zero, zero-add, eq-or-lt-of-le, le-of-suc-le-suc, not-suc-le-zero}
 use native.Mathlib.Omega.{arith}
 use lib.Arith.{digits-lt}
 use lib.Pow.{pow-pos, pow-add, high, mod-pow-add}
 use lib.ListN.{length, getD, set, length-set}
-use lib.Seq.{getD-set-same, getD-set-other, set-getD}
+use lib.Seq.{getD-set-same, getD-set-other}
 use Rattle.words.specs.Fields.{field}
 use Rattle.words.specs.Le.{sumOf, leAt, storeLe}
-use Rattle.words.proofs.Fields.{field-lt, field-is}
+use Rattle.words.proofs.Fields.{field-is}
 
 -- ---- sums
 pub sum-congr : (k n : ℕ) (f g : ℕ → ℕ) → ((i : ℕ) → i < n → f i ≡ g i) → sumOf k n f ≡ sumOf k n g

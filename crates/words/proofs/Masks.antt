@@ -1,11 +1,11 @@
 -- Masks of the s low digits at any width w, and the count of the digits that they keep.
-use mathlib.Core.Path.{_≡_, refl, sym, ap, ap₂, _∙_, subst}
-use Prim.Native.Nat.{ℕ, zero, suc, _+_, _-_, _*_, _/_, _%_, _^_, _≤_, _<_}
-use native.Mathlib.Nat.{mod-lt, mod-eq-of-lt, mod-one, suc-mul, mul-comm, one-mul, le-of-lt, mul-add-mod-self-right, le-of-suc-le-suc}
-use native.Mathlib.Numerals.{add-one, one-add}
+use mathlib.Core.Path.{_≡_, refl, sym, ap, ap₂, _∙_}
+use Prim.Native.Nat.{ℕ, zero, suc, _+_, _-_, _*_, _/_, _%_, _^_, _<_}
+use native.Mathlib.Nat.{mod-lt, mod-eq-of-lt, mod-one, suc-mul, mul-comm, one-mul}
+use native.Mathlib.Numerals.{one-add}
 use native.Mathlib.Omega.{arith}
 use lib.Arith.{digits-mod}
-use lib.Pow.{pow-pos, pow-mono, pow-lt, mod-pow-add, shl-exact, suc-ones}
+use lib.Pow.{pow-pos, pow-lt, mod-pow-add, suc-ones}
 use lib.Bits.{bitAnd, bitOr, and-mask, or-shifted}
 use lib.Count.{ones, ones-cat}
 use Rattle.words.specs.Ones.{onesBelow}

@@ -1,12 +1,12 @@
 -- The `|` of n words, bit by bit, and as a sum.
-use mathlib.Core.Path.{_≡_, refl, sym, ap, ap₂, _∙_, subst}
+use mathlib.Core.Path.{_≡_, refl, sym, ap, ap₂, _∙_}
 use mathlib.Core.Logic.{_⊎_, inl, inr}
 use Prim.Native.Nat.{ℕ, zero, suc, _+_, _-_, _*_, _/_, _%_, _^_, _≤_, _<_}
-use native.Mathlib.Nat.{not-suc-le-zero, eq-or-lt-of-le, le-of-suc-le-suc, mod-lt, mod-eq-of-lt, mul-one, sub-add-cancel, add-zero, div-eq-of-lt, lt-of-lt-of-le}
+use native.Mathlib.Nat.{not-suc-le-zero, eq-or-lt-of-le, le-of-suc-le-suc, mul-one, sub-add-cancel, add-zero, div-eq-of-lt, lt-of-lt-of-le}
 use native.Mathlib.Numerals.{add-one}
 use native.Mathlib.Omega.{arith}
 use lib.Pow.{pow-pos, pow-mono, ones-split, split, high, low}
-use lib.Bits.{bitAnd, bitOr, or-lt, or-disjoint, or-comm, and-mask}
+use lib.Bits.{bitAnd, bitOr, or-lt, or-disjoint, or-comm}
 use Rattle.words.specs.Fields.{field}
 use Rattle.words.specs.Ors.{orOf, sum}
 use Rattle.words.proofs.Fields.{field-lt, field-is, field-or, bit-shl}

@@ -1,8 +1,8 @@
 -- What a rank is good for: ranks of set digits rise, so no two set digits have one rank; and the digits of a word are popped from the top.
-use mathlib.Core.Path.{_≡_, refl, sym, ap, ap₂, _∙_, subst}
+use mathlib.Core.Path.{_≡_, refl, sym, ap, _∙_}
 use mathlib.Core.Logic.{_⊎_, inl, inr, ⊎-elim}
-use Prim.Native.Nat.{ℕ, zero, suc, _+_, _-_, _*_, _/_, _%_, _^_, _≤_, _<_}
-use native.Mathlib.Nat.{mod-lt, mod-eq-of-lt, mul-one, not-suc-le-zero, le-of-suc-le-suc, eq-or-lt-of-le, le-refl, not-le-of-lt, lt-of-lt-of-le, lt-of-le-of-lt}
+use Prim.Native.Nat.{ℕ, zero, suc, _+_, _*_, _/_, _%_, _^_, _≤_, _<_}
+use native.Mathlib.Nat.{mod-lt, mod-eq-of-lt, mul-one, le-of-suc-le-suc, eq-or-lt-of-le, le-refl, not-le-of-lt, lt-of-le-of-lt}
 use native.Mathlib.Omega.{arith}
 use lib.Pow.{pow-pos, pow-mono, split}
 use lib.Count.{ones, ones-cat}

@@ -1,6 +1,6 @@
 -- The measure is the depth; the steps down and up are in proofs/LeafSteps.
 use mathlib.Core.Path.{refl, _∙_}
-use Prim.Native.Nat.{ℕ, _+_, _*_, _-_, _%_, _<_}
+use Prim.Native.Nat.{ℕ, _%_, _<_}
 use native.Mathlib.Omega.{arith}
 use lib.ListN.{length, length-set}
 use Rattle.bvh2.proofs.Subtree.{node}

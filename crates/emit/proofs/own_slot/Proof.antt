@@ -1,6 +1,5 @@
-use mathlib.Core.Path.{_≡_, refl, ap, _∙_}
-use mathlib.Core.List.{List}
-use Prim.Native.Nat.{ℕ, _+_, _-_, _*_, _/_, _^_, _≤_, _<_}
+use mathlib.Core.Path.{_≡_}
+use Prim.Native.Nat.{_-_}
 use native.Mathlib.Omega.{arith}
 use lib.ListN.{length}
 use Rattle.words.proofs.Masks.{one-shl}

@@ -1,16 +1,15 @@
 -- The measure is the depth; the loop's invariant: the slots that are left, converted from here, give what all eight give.
-use mathlib.Core.Path.{_≡_, refl, sym, ap, subst, _∙_}
+use mathlib.Core.Path.{_≡_, refl, sym, ap, _∙_}
 use mathlib.Core.Logic.{⊎-elim}
-use mathlib.Core.List.{List}
-use Prim.Native.Nat.{ℕ, suc, _+_, _-_, _*_, _^_, _<_, _≤_}
+use Prim.Native.Nat.{ℕ, suc, _+_, _-_, _<_, _≤_}
 use native.Mathlib.Omega.{arith}
-use lib.ListN.{length, getD}
+use lib.ListN.{length}
 use borrow.Fn.Kinds.{In}
 use borrow.Fn.PlainCycle.{Measures, is, falls, and}
 use Rattle.bvh2.specs.Words.{treeAt}
 use Rattle.bvh2.proofs.Subtree.{node}
-use Rattle.wide.specs.Conversion.{State, convert}
-use Rattle.emit_tree.specs.Emission.{Reached, Emits, Room, slotsAt, slotWords, Written, writeEntry}
+use Rattle.wide.specs.Conversion.{convert}
+use Rattle.emit_tree.specs.Emission.{Reached, Emits, Room, slotsAt, slotWords, writeEntry}
 use Rattle.emit_tree.proofs.Entering.{own-ready, build-asks, node-room, free-nodes, node-entered, room-begun}
 use Rattle.emit_tree.proofs.Emitting.{Loop, loop-begun, loop-reads, loop-child, loop-inner, loop-other, loop-end, loop-as, tabled}
 use Rattle.emit_tree.proofs.emit_node.Reads as emit-node

@@ -1,7 +1,7 @@
 -- The invariant: the boxes below i are the nodes', the others their parent's.
 use mathlib.Core.Path.{_≡_, refl}
 use mathlib.Core.List.{map}
-use Prim.Native.Nat.{ℕ, _-_, _*_, _+_, _≤_, _<_}
+use Prim.Native.Nat.{_-_, _≤_}
 use native.Mathlib.Omega.{arith}
 use lib.ListN.{length, take, getD}
 use borrow.Author.Needs.{needs}

@@ -1,16 +1,15 @@
 -- `safe_inverse`: the sign bit of the pattern is the sign of the value, which the tests passed have shown to be no NaN.
 use mathlib.Core.Path.{_≡_, refl, sym, ap, _∙_, subst}
-use mathlib.Core.Logic.{_⊎_, inl, inr}
+use mathlib.Core.Logic.{inl, inr}
 use mathlib.Core.Bool.{Bool, true, false, _&&_, cond}
-use Prim.Native.Nat.{ℕ, _≤_, _<_}
 use native.Mathlib.Nat.{not-le-of-lt}
 use lib.IntN.{pos, negsuc}
 use lib.Dec.{T, leb, leb→le, le→leb, not-T}
-use lib.Ieee.{Float, fin, binary32, div, le, neg, ofBits, toBits, fits, isNan}
+use lib.Ieee.{Float, fin, binary32, div, le, neg, ofBits, toBits, fits}
 use lib.Ieee.Bits.{is-true, is-false}
 use Rattle.float.specs.Sign.{negative}
 use Rattle.float.proofs.Sign.{sign-of-bits, no-nan-le-r}
-use Rattle.ray.specs.Ray.{safeInverse, tiny}
+use Rattle.ray.specs.Ray.{safeInverse}
 use Rattle.ray.proofs.safe_inverse.Statement.{statement}
 use Rattle.ray.proofs.safe_inverse.Tie as tie
 

@@ -6,8 +6,6 @@ use Rattle.words.proofs.Fields.{field-is}
 use borrow.Author.Needs.{needs}
 use Rattle.words.proofs.byte.Statement.{statement}
 use Rattle.words.proofs.byte.Tie as tie
-use Rattle.words.proofs.byte.Reads as reads
-use Rattle.words.proofs.byte.Lts as lts
 
 mul-result : tie.Need-mul-result
 mul-result c = search needs

@@ -2,8 +2,6 @@ use Rattle.words.proofs.HighestBit.{clear-top}
 use borrow.Author.Needs.{needs}
 use Rattle.words.proofs.clear_highest.Statement.{statement}
 use Rattle.words.proofs.clear_highest.Tie as tie
-use Rattle.words.proofs.clear_highest.Reads as reads
-use Rattle.words.proofs.clear_highest.Lts as lts
 
 shl-result : tie.Need-shl-result
 shl-result c = search needs

@@ -1,8 +1,6 @@
 use Rattle.words.proofs.HighestBit.{leading-lt, top-is}
 use Rattle.words.proofs.highest.Statement.{statement}
 use Rattle.words.proofs.highest.Tie as tie
-use Rattle.words.proofs.highest.Reads as reads
-use Rattle.words.proofs.highest.Lts as lts
 
 sub-result : tie.Need-sub-result
 sub-result c = leading-lt 31 (c .args .bits) (c .pre) (c .fits .bits .fits)

@@ -1,8 +1,6 @@
 use Rattle.words.proofs.HighestBit.{leading-lt, top-is}
 use Rattle.words.proofs.highest64.Statement.{statement}
 use Rattle.words.proofs.highest64.Tie as tie
-use Rattle.words.proofs.highest64.Reads as reads
-use Rattle.words.proofs.highest64.Lts as lts
 
 sub-result : tie.Need-sub-result
 sub-result c = leading-lt 63 (c .args .bits) (c .pre) (c .fits .bits .fits)

@@ -7,9 +7,6 @@ use Rattle.words.proofs.Le.{le4}
 use borrow.Author.Needs.{needs}
 use Rattle.words.proofs.load_u32.Statement.{statement}
 use Rattle.words.proofs.load_u32.Tie as tie
-use Rattle.words.proofs.load_u32.Reads as reads
-use Rattle.words.proofs.load_u32.Lts as lts
-use Rattle.words.proofs.join4.Reads as join4-reads
 
 shared-slice-read-join4 : tie.Need-shared-slice-read-join4
 shared-slice-read-join4 c = search needs

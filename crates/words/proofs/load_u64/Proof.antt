@@ -7,9 +7,6 @@ use Rattle.words.proofs.Le.{le8}
 use borrow.Author.Needs.{needs}
 use Rattle.words.proofs.load_u64.Statement.{statement}
 use Rattle.words.proofs.load_u64.Tie as tie
-use Rattle.words.proofs.load_u64.Reads as reads
-use Rattle.words.proofs.load_u64.Lts as lts
-use Rattle.words.proofs.join4.Reads as join4-reads
 
 shared-slice-read-join4 : tie.Need-shared-slice-read-join4
 shared-slice-read-join4 c = search needs

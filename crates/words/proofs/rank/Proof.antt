@@ -4,8 +4,6 @@ use Rattle.words.proofs.Masks.{above-mask, ones-below}
 use borrow.Author.Needs.{needs}
 use Rattle.words.proofs.rank.Statement.{statement}
 use Rattle.words.proofs.rank.Tie as tie
-use Rattle.words.proofs.rank.Reads as reads
-use Rattle.words.proofs.rank.Lts as lts
 
 shl-result : tie.Need-shl-result
 shl-result c = search needs

@@ -1,4 +1,4 @@
-use mathlib.Core.Path.{ap, _∙_, sym}
+use mathlib.Core.Path.{ap, _∙_}
 use native.Mathlib.Omega.{arith}
 use lib.Pow.{pow-pos}
 use lib.Count.{ones}
@@ -6,8 +6,6 @@ use Rattle.words.proofs.Masks.{one-shl, below-mask, ones-below}
 use borrow.Author.Needs.{needs}
 use Rattle.words.proofs.rank64.Statement.{statement}
 use Rattle.words.proofs.rank64.Tie as tie
-use Rattle.words.proofs.rank64.Reads as reads
-use Rattle.words.proofs.rank64.Lts as lts
 
 shl-result : tie.Need-shl-result
 shl-result c = search needs

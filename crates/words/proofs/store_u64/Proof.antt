@@ -1,4 +1,3 @@
-use mathlib.Core.Path.{refl}
 use native.Mathlib.Nat.{add-zero}
 use native.Mathlib.Omega.{arith}
 use lib.ListN.{length-set}
@@ -7,8 +6,6 @@ use Rattle.words.specs.Le.{storeLe}
 use borrow.Author.Needs.{needs}
 use Rattle.words.proofs.store_u64.Statement.{statement}
 use Rattle.words.proofs.store_u64.Tie as tie
-use Rattle.words.proofs.store_u64.Reads as reads
-use Rattle.words.proofs.store_u64.Lts as lts
 
 cast-s : tie.Need-cast-s
 cast-s c = search needs

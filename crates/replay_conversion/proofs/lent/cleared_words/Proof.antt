@@ -9,26 +9,26 @@ use Rattle.replay_conversion.proofs.lent.cleared_words.Tie as tie
 returns : tie.Need-returns
 returns c = search needs
 
-slice-aggregate-all-words : tie.Need-slice-aggregate-all-words
-slice-aggregate-all-words c = sym (length-take-le _ _ (omega arith))
+slice-aggregate-all-are : tie.Need-slice-aggregate-all-are
+slice-aggregate-all-are c = sym (length-take-le _ _ (omega arith))
 
-all-words-requires : tie.Need-all-words-requires
-all-words-requires c κs = search needs
+all-are-requires : tie.Need-all-are-requires
+all-are-requires c κs = search needs
 
-mul-all-words : tie.Need-mul-all-words
-mul-all-words c = search needs
+mul-all-are : tie.Need-mul-all-are
+mul-all-are c = search needs
 
-sub-all-words : tie.Need-sub-all-words
-sub-all-words c = search needs
+sub-all-are : tie.Need-sub-all-are
+sub-all-are c = search needs
 
-part-all-words-start : tie.Need-part-all-words-start
-part-all-words-start c = search needs
+part-all-are-start : tie.Need-part-all-are-start
+part-all-are-start c = search needs
 
-part-all-words-end : tie.Need-part-all-words-end
-part-all-words-end c = search needs
+part-all-are-end : tie.Need-part-all-are-end
+part-all-are-end c = search needs
 
-all-words-requires-2 : tie.Need-all-words-requires-2
-all-words-requires-2 c κs = search needs
+all-are-requires-2 : tie.Need-all-are-requires-2
+all-are-requires-2 c κs = search needs
 
 returns-2 : tie.Need-returns-2
 returns-2 c = search needs
@@ -41,12 +41,12 @@ cleared-words-spec =
     tie.close
     (tie.spec
     returns
-    slice-aggregate-all-words
-    all-words-requires
-    mul-all-words
-    sub-all-words
-    part-all-words-start
-    part-all-words-end
-    all-words-requires-2
+    slice-aggregate-all-are
+    all-are-requires
+    mul-all-are
+    sub-all-are
+    part-all-are-start
+    part-all-are-end
+    all-are-requires-2
     returns-2
     returns-3)

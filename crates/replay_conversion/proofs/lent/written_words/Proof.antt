@@ -15,20 +15,20 @@ slice-aggregate-same-words c = sym (length-take-le _ _ (omega arith))
 same-words-requires : tie.Need-same-words-requires
 same-words-requires c κs = search needs
 
-mul-all-words : tie.Need-mul-all-words
-mul-all-words c = search needs
+mul-all-are : tie.Need-mul-all-are
+mul-all-are c = search needs
 
-sub-all-words : tie.Need-sub-all-words
-sub-all-words c = search needs
+sub-all-are : tie.Need-sub-all-are
+sub-all-are c = search needs
 
-part-all-words-start : tie.Need-part-all-words-start
-part-all-words-start c = search needs
+part-all-are-start : tie.Need-part-all-are-start
+part-all-are-start c = search needs
 
-part-all-words-end : tie.Need-part-all-words-end
-part-all-words-end c = search needs
+part-all-are-end : tie.Need-part-all-are-end
+part-all-are-end c = search needs
 
-all-words-requires : tie.Need-all-words-requires
-all-words-requires c κs = search needs
+all-are-requires : tie.Need-all-are-requires
+all-are-requires c κs = search needs
 
 returns-2 : tie.Need-returns-2
 returns-2 c = search needs
@@ -43,10 +43,10 @@ written-words-spec =
     returns
     slice-aggregate-same-words
     same-words-requires
-    mul-all-words
-    sub-all-words
-    part-all-words-start
-    part-all-words-end
-    all-words-requires
+    mul-all-are
+    sub-all-are
+    part-all-are-start
+    part-all-are-end
+    all-are-requires
     returns-2
     returns-3)

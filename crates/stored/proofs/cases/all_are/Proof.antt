@@ -1,15 +1,15 @@
--- `all_zero`: the measure is the words that are left.
+-- `all_are`: the measure is the words that are left.
 use Prim.Native.Nat.{_-_}
 use lib.ListN.{length}
 use borrow.Author.Needs.{needs}
-use Rattle.replay_trees.proofs.trees.all_zero.Statement.{statement}
-use Rattle.replay_trees.proofs.trees.all_zero.Tie as tie
+use Rattle.stored.proofs.cases.all_are.Statement.{statement}
+use Rattle.stored.proofs.cases.all_are.Tie as tie
 
 abbrev Inv-loop : tie.InvT-loop
-Inv-loop words i₀ i = Unit {0}
+Inv-loop words x i₀ i = Unit {0}
 
 abbrev μ-loop : tie.MeasureT-loop
-μ-loop words i₀ i = length words - i
+μ-loop words x i₀ i = length words - i
 
 loop-holds : tie.Need-loop-holds Inv-loop μ-loop
 loop-holds c = search needs
@@ -35,8 +35,8 @@ loop-again c = search needs
 returns-2 : tie.Need-returns-2 Inv-loop μ-loop
 returns-2 c = search needs
 
-pub all-zero-spec : {M : Type 1} → statement M
-all-zero-spec =
+pub all-are-spec : {M : Type 1} → statement M
+all-are-spec =
     tie.close
     (tie.spec
     Inv-loop

@@ -1,0 +1,86 @@
+//! The library's functions, and those of the crate `measured`, as Rust calls them: a slice goes as a pointer and a length.
+
+unsafe extern "C" {
+    fn funnelcress_half_areas(boxes: *const f32, boxes_len: usize, out: *mut f32, out_len: usize) -> u32;
+    fn funnelcress_entry_distances(
+        boxes: *const f32,
+        boxes_len: usize,
+        ray: *const f32,
+        ray_len: usize,
+        out: *mut f32,
+        out_len: usize,
+    ) -> u32;
+    fn funnelcress_validate(record: *const u8, record_len: usize, n: usize, work: *mut u32, work_len: usize) -> u64;
+    fn measured_hit_masks(
+        record: *const u8,
+        record_len: usize,
+        ray: *const f32,
+        ray_len: usize,
+        out: *mut u32,
+        out_len: usize,
+    ) -> usize;
+    fn measured_rules(record: *const u8, record_len: usize, n: usize) -> usize;
+    fn measured_orders(
+        words: *const u32,
+        words_len: usize,
+        cases: *const u32,
+        cases_len: usize,
+        out: *mut u32,
+        out_len: usize,
+    ) -> usize;
+    fn measured_accept(words: *const u32, words_len: usize, n: usize, marks: *mut u32, marks_len: usize) -> u32;
+    fn measured_costs(
+        words: *const u32,
+        words_len: usize,
+        limit: u32,
+        decisions: *mut u32,
+        decisions_len: usize,
+        costs: *mut f32,
+        costs_len: usize,
+    ) -> u32;
+}
+
+pub fn half_areas(boxes: &[f32], out: &mut [f32]) -> u32 {
+    unsafe { funnelcress_half_areas(boxes.as_ptr(), boxes.len(), out.as_mut_ptr(), out.len()) }
+}
+
+pub fn entry_distances(boxes: &[f32], ray: &[f32], out: &mut [f32]) -> u32 {
+    unsafe {
+        funnelcress_entry_distances(boxes.as_ptr(), boxes.len(), ray.as_ptr(), ray.len(), out.as_mut_ptr(), out.len())
+    }
+}
+
+pub fn validate(record: &[u8], n: usize, work: &mut [u32]) -> u64 {
+    unsafe { funnelcress_validate(record.as_ptr(), record.len(), n, work.as_mut_ptr(), work.len()) }
+}
+
+pub fn hit_masks(record: &[u8], ray: &[f32], out: &mut [u32]) -> usize {
+    unsafe { measured_hit_masks(record.as_ptr(), record.len(), ray.as_ptr(), ray.len(), out.as_mut_ptr(), out.len()) }
+}
+
+pub fn rules(record: &[u8], n: usize) -> usize {
+    unsafe { measured_rules(record.as_ptr(), record.len(), n) }
+}
+
+pub fn orders(words: &[u32], cases: &[u32], out: &mut [u32]) -> usize {
+    unsafe { measured_orders(words.as_ptr(), words.len(), cases.as_ptr(), cases.len(), out.as_mut_ptr(), out.len()) }
+}
+
+pub fn accept(words: &[u32], n: usize, marks: &mut [u32]) -> u32 {
+    unsafe { measured_accept(words.as_ptr(), words.len(), n, marks.as_mut_ptr(), marks.len()) }
+}
+
+/// Only for words of an accepted tree, with tables as long as they are.
+pub fn costs(words: &[u32], limit: u32, decisions: &mut [u32], costs: &mut [f32]) -> u32 {
+    unsafe {
+        measured_costs(
+            words.as_ptr(),
+            words.len(),
+            limit,
+            decisions.as_mut_ptr(),
+            decisions.len(),
+            costs.as_mut_ptr(),
+            costs.len(),
+        )
+    }
+}

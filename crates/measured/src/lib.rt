@@ -1,0 +1,159 @@
+// Internal: functions that bench/ measures, each exported under its name. They are no part of the interface; bench/ compares their answers.
+ghost use mathlib.Core.Path.{_≡_};
+ghost use Prim.Native.Nat.{_+_, _*_, _≤_, _<_};
+ghost use lib.ListN.{length};
+ghost use Rattle.bvh2.specs.Tree.{leaves};
+ghost use Rattle.bvh2.specs.Words.{treeAt};
+ghost use Rattle.cost.specs.Table.{wordOf, costOf};
+ghost use Rattle.cost.specs.Rows.{fill, Ready};
+use aabb::Aabb;
+use ray::Ray;
+use ray::Vec3;
+
+// Three floats, from a place on.
+fn vec_at(s: &[f32], at: usize) -> Vec3
+    requires { ⌜ at + 3 ≤ length (now s) ⌝ }
+{
+    Vec3 {
+        x: s[at],
+        y: s[at + 1],
+        z: s[at + 2],
+    }
+}
+
+fn fill_masks(record: &[u8], ray: Ray, octant: u32, m: usize, out: &mut [u32])
+    requires { ⌜ (octant < 8) × (80 * m ≤ length (now «record»)) × (m ≤ length (now out)) ⌝ }
+{
+    let mut i: usize = 0;
+    while i < m {
+        out[i] = slot::intersect_ray(record, 80 * i, ray, octant);
+        i += 1;
+    }
+}
+
+// The hit mask of each node of a record for a ray of eight floats, at the front of the answers; how many there are.
+#[no_mangle]
+pub extern "C" fn measured_hit_masks(record: &[u8], ray: &[f32], out: &mut [u32]) -> usize {
+    let m = record.len() / 80;
+    if ray.len() != 8 {
+        return 0;
+    }
+    if m > out.len() {
+        return 0;
+    }
+    let direction = vec_at(ray, 3);
+    let r = Ray::new(vec_at(ray, 0), direction, ray[6], ray[7]);
+    fill_masks(record, r, ray::octant(direction), m, out);
+    m
+}
+
+// How many nodes of a record of n positions meet the node rule.
+#[no_mangle]
+pub extern "C" fn measured_rules(record: &[u8], n: usize) -> usize {
+    let m = record.len() / 80;
+    let mut met: usize = 0;
+    let mut i: usize = 0;
+    while i < m {
+        if rule::node_rule(record, i, m, n) {
+            met += 1;
+        }
+        i += 1;
+    }
+    met
+}
+
+fn wide(x: u32) -> usize {
+    x as usize
+}
+
+// The box of node v, or the origin where there is no such node.
+fn node_box(words: &[u32], v: usize) -> Aabb {
+    if v < words.len() / 7 {
+        return bvh2::node_box(words, v);
+    }
+    let origin = Vec3 {
+        x: 0.0,
+        y: 0.0,
+        z: 0.0,
+    };
+    Aabb {
+        min: origin,
+        max: origin,
+    }
+}
+
+// The children of a node by slots; a case is the node, how many children it has, and eight words for them.
+fn order_case(words: &[u32], cases: &[u32], at: usize) -> [u32; 8]
+    requires { ⌜ at + 10 ≤ length (now cases) ⌝ }
+{
+    let parent = node_box(words, wide(cases[at]));
+    let count = wide(cases[at + 1]);
+    let mut boxes = [parent; 8];
+    let mut children = [0u32; 8];
+    let mut i: usize = 0;
+    while i < 8 {
+        let child = cases[at + 2 + i];
+        children[i] = child;
+        if i < count {
+            let b = node_box(words, wide(child));
+            boxes[i] = b;
+        }
+        i += 1;
+    }
+    order::order_children(true, parent, boxes, children, count)
+}
+
+// Eight words from a place on.
+fn put_eight(out: &mut [u32], at: usize, x: [u32; 8])
+    requires { ⌜ at + 8 ≤ length (now out) ⌝ }
+{
+    let mut i: usize = 0;
+    while i < 8 {
+        out[at + i] = x[i];
+        i += 1;
+    }
+}
+
+// The children of each case by slots, eight words each, at the front of the answers; how many cases there are.
+#[no_mangle]
+pub extern "C" fn measured_orders(words: &[u32], cases: &[u32], out: &mut [u32]) -> usize {
+    let count = cases.len() / 10;
+    if count > out.len() / 8 {
+        return 0;
+    }
+    let mut i: usize = 0;
+    while i < count {
+        put_eight(out, 8 * i, order_case(words, cases, 10 * i));
+        i += 1;
+    }
+    count
+}
+
+// The first of causes 1, 2 and 5 to 7 of a tree of n leaves, or 0; 4 if there are not three marks to a leaf.
+#[no_mangle]
+pub extern "C" fn measured_accept(words: &[u32], n: usize, marks: &mut [u32]) -> u32 {
+    let first = bvh2_check::sizes(words, n);
+    if first != 0 {
+        return first;
+    }
+    if n > marks.len() / 3 {
+        return 4;
+    }
+    bvh2_check::structure(words, n, marks)
+}
+
+// The tables of an accepted tree.
+#[no_mangle]
+pub extern "C" fn measured_costs(
+    words: &[u32],
+    limit: u32,
+    decisions: &mut [u32],
+    costs: &mut [f32],
+) -> u32
+    requires { ⌜ Ready (now words) (length (now decisions)) (length (now costs)) 127 0 ⌝ }
+    ensures { λ r. ⌜ r ≡ leaves (treeAt (now (words .entry)) 127 0) ⌝ }
+    ensures { λ _. ⌜ now (decisions .exit) ≡ fill (wordOf limit) (treeAt (now (words .entry)) 127 0) (now (decisions .entry)) ⌝ }
+    ensures { λ _. ⌜ now (costs .exit) ≡ fill (costOf limit) (treeAt (now (words .entry)) 127 0) (now (costs .entry)) ⌝ }
+{
+    cost::calculate_cost(words, 0, 127, limit, decisions, costs)
+}
