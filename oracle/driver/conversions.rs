@@ -7,7 +7,7 @@ use crate::store::*;
 use crate::tree::{BOUND, Tree, inner, leaf, sample_tree};
 
 /// n, limit, order, record nodes, deepest level; then node words, indices, decision words, cost bits, record, list.
-fn case(t: &Tree, limit: u32, order: bool, c: &Converted) -> Vec<u32> {
+pub fn case(t: &Tree, limit: u32, order: bool, c: &Converted) -> Vec<u32> {
     let n = t.indices.len() as u32;
     let mut w = vec![n, limit, order as u32, c.record.len() as u32 / 80, c.deepest];
     w.extend(&t.nodes);
@@ -64,7 +64,7 @@ fn accepted(rng: &mut Rng, count: usize) -> Group {
 }
 
 /// Lengths in words (the record's in bytes), limit, order, number; then node words and indices.
-fn refused_case(t: &Tree, limit: u32, order: bool, room: Room, number: u32) -> Vec<u32> {
+pub fn refused_case(t: &Tree, limit: u32, order: bool, room: Room, number: u32) -> Vec<u32> {
     let mut w = sizes_case(t.nodes.len(), t.indices.len(), limit, order, room, number);
     w.extend(&t.nodes);
     w.extend(&t.indices);

@@ -5,6 +5,7 @@ mod children;
 mod compare;
 mod conversions;
 mod convert;
+mod corners;
 mod differences;
 mod generate;
 mod leaves;
@@ -36,7 +37,7 @@ fn store(folder: &str) -> bool {
     let at = |name: &str| Path::new(folder).join(name);
     std::fs::create_dir_all(folder).unwrap();
     store::write(&at("leaves"), &leaves::groups(SEED));
-    store::write(&at("trees"), &conversions::groups(SEED + 1));
+    store::write(&at("conversion"), &corners::groups(SEED + 1));
     store::write(&at("check"), &checks::groups(SEED + 2));
     store::write(&at("queries"), &queries::groups(SEED + 3));
     store::write(&at("showrecord"), &show::groups(SEED + 4));

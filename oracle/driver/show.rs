@@ -2,6 +2,7 @@
 use crate::accept::{Room, conversion_refusal};
 use crate::conversions::some_tree;
 use crate::convert::{Converted, convert};
+use crate::corners::{past_bound, relinked, stretched};
 use crate::generate::{BOXES, Boxes, SHAPES, chain, tree};
 use crate::rng::Rng;
 use crate::store::*;
@@ -89,7 +90,17 @@ pub fn groups(seed: u64) -> Vec<Group> {
     for cut in [0, 1, 3, 4, 11, 12, t.len() - 4, t.len() - 1, t.len()] {
         g.add(case(&t[..cut]));
     }
-    g.add(case(&[t.clone(), vec![0]].concat()));
+    let most = input_of(&tree(rng, 256, SHAPES[1], BOXES[2]), 1, 0);
+    g.add(case(&most));
+    for more in [1, 3, 4, 28, 400] {
+        let zeros = vec![0; more];
+        g.add(case(&[t.clone(), zeros.clone()].concat()));
+        g.add(case(&[input_of(&Tree::default(), 3, 1), zeros.clone()].concat()));
+        g.add(case(&[input_of(&sample_tree(), 4, 2), zeros].concat()));
+    }
+    g.add(case(&[most.clone(), vec![0]].concat()));
+    g.add(case(&most[..most.len() - 1]));
+    g.add(case(&[257u32.to_le_bytes().to_vec(), most[4..].to_vec()].concat()));
     for (n, limit, order) in [(0u32, 3u32, 0u32), (0, 4, 1), (0, 0, 2), (256, 0, 0), (257, 9, 9), (u32::MAX, 0, 0)] {
         g.add(case(&[n, limit, order].iter().flat_map(|w| w.to_le_bytes()).collect::<Vec<_>>()));
     }
@@ -97,6 +108,9 @@ pub fn groups(seed: u64) -> Vec<Group> {
         for order in 0..3 {
             g.add(case(&input_of(&sample_tree(), limit, order)));
         }
+    }
+    for (k, t) in relinked().iter().chain(&stretched(past_bound())).enumerate() {
+        g.add(case(&input_of(t, k as u32 % 4, k as u32 % 2)));
     }
     g.add(case(&input_of(&chain(33, Boxes::Point), 3, 0)));
     g.add(case(&input_of(&chain(34, Boxes::Point), 3, 0)));

@@ -3,10 +3,10 @@ ghost use Prim.Native.Nat.{_<_, _≤_};
 ghost use Rattle.bvh2.specs.Causes.{Accepted};
 ghost use Rattle.children.specs.Tabled.{Tabled};
 use crate::trees::MOST_WORDS;
-use crate::trees::copy_words;
 use crate::trees::first_cause;
 use crate::trees::node_count;
 use aabb::Aabb;
+use stored::copy_words;
 use stored::word;
 
 // A node number as a byte, 255 for none.

@@ -1,5 +1,5 @@
-// Runs the library on stored binary trees and compares each answer with the stored one, bit by bit.
-// Its arguments name two files of answers; how these are made and laid out is said in oracle/README.md.
+// Gathers the children of the nodes of stored binary trees and gives them slots, and compares each answer with the stored one, bit by bit.
+// Its argument names a file of answers; how these are made and laid out is said in oracle/README.md.
 mod gathered;
 mod trees;
 
@@ -9,19 +9,16 @@ const MOST_TURNS: u32 = 1000000;
 // Whether the library agrees with a case.
 fn agrees(kind: u32, case: &[u8]) -> bool {
     match kind {
-        16 => trees::accepted(case),
-        17 => trees::refused(case),
-        18 => trees::lengths(case),
         19 => gathered::children(case),
         _ => false,
     }
 }
 
-// Runs the file that argument i names.
-fn run(i: usize) -> bool {
+// Runs the file that the first argument names.
+fn run() -> bool {
     let mut space = io::large_buffer();
     let buffer: &mut [u8] = &mut space;
-    let mut at = stored::open(i);
+    let mut at = stored::open(1);
     let mut turns: u32 = 0;
     while turns < MOST_TURNS {
         if at.over {
@@ -36,7 +33,5 @@ fn run(i: usize) -> bool {
 }
 
 fn main() {
-    let trees = run(1);
-    let children = run(2);
-    stored::print_verdict(trees && children);
+    stored::print_verdict(run());
 }

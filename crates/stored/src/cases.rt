@@ -1,4 +1,8 @@
 // The words of a stored case, and its floats.
+ghost use Prim.Native.Nat.{_≤_};
+
+// The most words of a case that are copied at once.
+const MOST_COPIED: usize = 65536;
 
 // Word i of a case; 0 past its end.
 pub fn word(case: &[u8], i: usize) -> u32 {
@@ -6,6 +10,20 @@ pub fn word(case: &[u8], i: usize) -> u32 {
         return words::load_u32(case, i * 4);
     }
     0
+}
+
+// The words of a case from word `from` on, as many as `into` has, up to MOST_COPIED.
+pub fn copy_words(case: &[u8], from: usize, into: &mut [u32])
+    requires { ⌜ from ≤ 65536 ⌝ }
+{
+    if into.len() > MOST_COPIED {
+        return;
+    }
+    let mut i = 0;
+    while i < into.len() {
+        into[i] = word(case, from + i);
+        i += 1;
+    }
 }
 
 // Word i as a float.

@@ -3,6 +3,7 @@ mod cases;
 mod names;
 
 pub use cases::all_are;
+pub use cases::copy_words;
 pub use cases::real;
 pub use cases::same;
 pub use cases::same_vector;

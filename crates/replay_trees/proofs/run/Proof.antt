@@ -8,10 +8,10 @@ use Rattle.replay_trees.proofs.run.Statement.{statement}
 use Rattle.replay_trees.proofs.run.Tie as tie
 
 abbrev Inv-loop : tie.InvT-loop
-Inv-loop i buffer₀ at₀ turns₀ buffer at turns = Unit {0}
+Inv-loop buffer₀ at₀ turns₀ buffer at turns = Unit {0}
 
 abbrev μ-loop : tie.MeasureT-loop
-μ-loop i buffer₀ at₀ turns₀ buffer at turns = 1000000 - turns
+μ-loop buffer₀ at₀ turns₀ buffer at turns = 1000000 - turns
 
 large-buffer-requires : tie.Need-large-buffer-requires Inv-loop μ-loop
 large-buffer-requires c κs = search needs

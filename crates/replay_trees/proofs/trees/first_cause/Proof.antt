@@ -17,11 +17,11 @@ slice-aggregate-structure c = search needs
 structure-requires : tie.Need-structure-requires
 structure-requires c κs = (sized _ _ (c .before .before .sizes .ensures) (c .before .if1 .left), omega arith)
 
-slice-aggregate-all-zero : tie.Need-slice-aggregate-all-zero
-slice-aggregate-all-zero c = search needs
+slice-aggregate-all-are : tie.Need-slice-aggregate-all-are
+slice-aggregate-all-are c = search needs
 
-all-zero-requires : tie.Need-all-zero-requires
-all-zero-requires c κs = search needs
+all-are-requires : tie.Need-all-are-requires
+all-are-requires c κs = search needs
 
 returns-2 : tie.Need-returns-2
 returns-2 c = λ e. no-cause _ _ (sized _ _ (c .before .before .before .before .before .before .before .sizes .ensures) (c .before .before .before .before .before .before .if1 .left)) (c .before .before .before .before .structure .ensures .0) e
@@ -37,7 +37,7 @@ first-cause-spec =
     returns
     slice-aggregate-structure
     structure-requires
-    slice-aggregate-all-zero
-    all-zero-requires
+    slice-aggregate-all-are
+    all-are-requires
     returns-2
     returns-3)

@@ -1,0 +1,64 @@
+-- `copy_words`: the slice keeps its length. The measure is what is left of it.
+use mathlib.Core.Path.{_≡_}
+use Prim.Native.Nat.{_-_}
+use lib.ListN.{length}
+use borrow.Author.Needs.{needs}
+use Rattle.stored.proofs.cases.copy_words.Statement.{statement}
+use Rattle.stored.proofs.cases.copy_words.Tie as tie
+
+abbrev Inv-loop : tie.InvT-loop
+Inv-loop case from into₀ i₀ into i = length into ≡ length into₀
+
+abbrev μ-loop : tie.MeasureT-loop
+μ-loop case from into₀ i₀ into i = length into₀ - i
+
+returns : tie.Need-returns Inv-loop μ-loop
+returns c = search needs
+
+loop-holds : tie.Need-loop-holds Inv-loop μ-loop
+loop-holds c = search needs
+
+add-word : tie.Need-add-word Inv-loop μ-loop
+add-word c = search needs
+
+word-requires : tie.Need-word-requires Inv-loop μ-loop
+word-requires c κs = search needs
+
+mul-into : tie.Need-mul-into Inv-loop μ-loop
+mul-into c = search needs
+
+slice-write-into : tie.Need-slice-write-into Inv-loop μ-loop
+slice-write-into c = search needs
+
+add-i : tie.Need-add-i Inv-loop μ-loop
+add-i c = search needs
+
+loop-less : tie.Need-loop-less Inv-loop μ-loop
+loop-less c = search needs
+
+loop-again : tie.Need-loop-again Inv-loop μ-loop
+loop-again c = search needs
+
+same-length : tie.Need-same-length Inv-loop μ-loop
+same-length c = search needs
+
+returns-2 : tie.Need-returns-2 Inv-loop μ-loop
+returns-2 c = search needs
+
+pub copy-words-spec : {M : Type 1} → statement M
+copy-words-spec =
+    tie.close
+    (tie.spec
+    Inv-loop
+    μ-loop
+    returns
+    loop-holds
+    add-word
+    word-requires
+    mul-into
+    slice-write-into
+    add-i
+    loop-less
+    loop-again
+    same-length
+    returns-2)
