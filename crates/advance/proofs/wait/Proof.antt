@@ -1,0 +1,31 @@
+use borrow.Author.Needs.{needs}
+use Rattle.advance.proofs.Parts.{rest-gone, rest-waits}
+use Rattle.advance.proofs.wait.Statement.{statement}
+use Rattle.advance.proofs.wait.Tie as tie
+
+returns : tie.Need-returns
+returns c = let a = c .before .before .args in rest-gone (a .stack .now) (a .stack .now) (a .depth) (a .base) (a .bits) (c .if1 .taken)
+
+mul-word : tie.Need-mul-word
+mul-word c = search needs
+
+add-word : tie.Need-add-word
+add-word c = search needs
+
+push-requires : tie.Need-push-requires
+push-requires c κs = search needs
+
+add-result : tie.Need-add-result
+add-result c = search needs
+
+same-length : tie.Need-same-length
+same-length c = search needs
+
+returns-2 : tie.Need-returns-2
+returns-2 c =
+    let p = c .before .before in
+    let a = p .before .before .before .before .args in
+    rest-waits (a .stack .now) _ (a .depth) (a .base) (a .bits) (p .before .before .if1 .left) (p .push .ensures .1)
+
+pub wait-spec : {M : Type 1} → statement M
+wait-spec = tie.close (tie.spec returns mul-word add-word push-requires add-result same-length returns-2)
