@@ -1,0 +1,3 @@
+pub mod Ray
+pub mod AnyHit
+pub mod Panes

@@ -1,0 +1,127 @@
+-- Closest and miss (01, "Walking"; "Causes of refusal", 6 and 10): a walk over panes that are boxes of six floats, a position's pane being the one that
+-- its index word names.
+use mathlib.Core.Bool.{Bool, true, false}
+use mathlib.Core.List.{List}
+use Prim.Native.Nat.{ℕ, zero, suc, _+_, _*_, _/_, _%_}
+use lib.Dec.{eqb, ltb}
+use lib.ListN.{length, getD}
+use lib.Ieee.{Float, nan, lt}
+use Rattle.ray.specs.declared.Ray.{Ray}
+use Rattle.aabb.specs.declared.Aabb.{Aabb}
+use Rattle.aabb.specs.Aabb.{acceptedBox, entryDistance}
+use Rattle.walk.specs.Step as S
+use Rattle.walk.specs.Queries.{Pane, distance, faulty, Found, none, hit, fault, closest, miss}
+use Rattle.walk.specs.WordQueries.{OutcomeWords}
+use Rattle.walk_record.specs.Beam.{Beam, beams}
+use Rattle.walk_record.specs.Walk.{queryAt}
+use Rattle.cwbvh.specs.Ray.{beamOf, entryCause}
+use Rattle.cwbvh.specs.declared.Closest.{Closest}
+use Rattle.cwbvh.specs.declared.Closest.the-variants as C
+use Rattle.cwbvh.specs.declared.Miss.{Miss}
+use Rattle.cwbvh.specs.declared.Miss.the-variants as M
+
+-- ---- panes
+
+-- pane k: min x, y, z, then max x, y, z
+unfoldable pub paneBox : List Float → ℕ → Aabb
+paneBox panes k = record {
+  min = record { x = getD panes (k * 6) nan; y = getD panes (k * 6 + 1) nan; z = getD panes (k * 6 + 2) nan };
+  max = record { x = getD panes (k * 6 + 3) nan; y = getD panes (k * 6 + 4) nan; z = getD panes (k * 6 + 5) nan };
+}
+
+-- pane k as a ray meets it: one that is not there is cause 10, and one whose box is not accepted is cause 6
+unfoldable pub paneMet : List Float → ℕ → Ray → Pane Float
+unfolding paneBox
+paneMet panes k r =
+    elim (ltb k (length panes / 6)) [
+      | false ↦ faulty 10
+      | true ↦ elim (acceptedBox (paneBox panes k)) [ false ↦ faulty 6 | true ↦ distance (entryDistance (paneBox panes k) r) ]
+    ]
+
+-- the pane of a position
+unfoldable pub paneOf : List ℕ → List Float → ℕ → Beam → Pane Float
+unfolding paneMet
+paneOf indices panes p b = paneMet panes (getD indices p 0) (b .ray)
+
+-- a distance below the reach
+abbrev pub nearer : Float → Beam → Bool
+nearer t b = lt t (b .ray .tmax)
+
+-- ---- answers
+
+-- an answer with the node tests; beside a refusal these are 0 and no part of it
+pub record Result (A : Type 0) : Type 0 where
+  pub answer : A
+  pub tests : ℕ
+
+-- closest: a hit with its position and distance, or no hit, or a refusal
+pub data ClosestAnswer : Type 0 where
+  hitAt : (position : ℕ) → Float → ClosestAnswer
+  noHit : ClosestAnswer
+  refusedClosest : (number : ℕ) → ClosestAnswer
+
+-- miss: no pane is nearer than the reach, or one is, or a refusal
+pub data MissAnswer : Type 0 where
+  missed : MissAnswer
+  blocked : MissAnswer
+  refusedMiss : (number : ℕ) → MissAnswer
+
+-- what was found by a walk of so many tests: a pane's fault is the query's
+unfoldable pub closestFound : Found Float → ℕ → Result ClosestAnswer
+closestFound none tests = record { answer = noHit; tests = tests }
+closestFound (hit p t) tests = record { answer = hitAt p t; tests = tests }
+closestFound (fault k) tests = record { answer = refusedClosest k; tests = 0 }
+
+unfoldable pub missFound : Found Float → ℕ → Result MissAnswer
+missFound none tests = record { answer = missed; tests = tests }
+missFound (hit p t) tests = record { answer = blocked; tests = tests }
+missFound (fault k) tests = record { answer = refusedMiss k; tests = 0 }
+
+-- how a walk ended. (One that was not refused ends with done, or stopped at a position: law query-halts.)
+unfoldable pub walked : {A : Type 0} → (ℕ → A) → (Found Float → ℕ → Result A) → OutcomeWords Beam (Found Float) → S.Answer → Result A
+walked refuse found o (S.tested v) = record { answer = refuse 10; tests = 0 }
+walked refuse found o (S.position p) = found (o .noted) (o .walker .tests)
+walked refuse found o S.done = found (o .noted) (o .walker .tests)
+walked refuse found o (S.refused k) = record { answer = refuse k; tests = 0 }
+
+-- ---- the queries
+
+module _ (bytes indices : List ℕ) (panes : List Float) (r : Ray) where
+  -- the first of causes 1, 2 and 9
+  abbrev pub paneCause : ℕ
+  paneCause = entryCause (eqb (length panes % 6) 0) bytes (length indices) r
+
+  -- the walks that they take: closest notes and tells each distance below the reach, so that a tie keeps the first met; miss stops at the first
+  unfoldable pub closestWalk : OutcomeWords Beam (Found Float)
+  unfolding paneOf queryAt
+  closestWalk = queryAt bytes beams (closest (paneOf indices panes) nearer) none (length indices) (beamOf r)
+
+  unfoldable pub missWalk : OutcomeWords Beam (Found Float)
+  unfolding paneOf queryAt
+  missWalk = queryAt bytes beams (miss (paneOf indices panes) nearer) none (length indices) (beamOf r)
+
+  unfoldable pub closestOf : Result ClosestAnswer
+  unfolding entryCause walked closestFound closestWalk
+  closestOf = elim paneCause [
+    | suc k ↦ record { answer = refusedClosest (suc k); tests = 0 }
+    | zero ↦ walked refusedClosest closestFound closestWalk (closestWalk .ended)
+  ]
+
+  unfoldable pub missOf : Result MissAnswer
+  unfolding entryCause walked missFound missWalk
+  missOf = elim paneCause [
+    | suc k ↦ record { answer = refusedMiss (suc k); tests = 0 }
+    | zero ↦ walked refusedMiss missFound missWalk (missWalk .ended)
+  ]
+
+-- ---- the cases of the results in the requirements' terms
+
+unfoldable pub closestAnswer : Closest → ClosestAnswer
+closestAnswer (C.Hit p t) = hitAt p t
+closestAnswer C.NoHit = noHit
+closestAnswer (C.Refused k) = refusedClosest k
+
+unfoldable pub missAnswer : Miss → MissAnswer
+missAnswer M.Missed = missed
+missAnswer M.Blocked = blocked
+missAnswer (M.Refused k) = refusedMiss k
