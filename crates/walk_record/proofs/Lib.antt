@@ -1,3 +1,4 @@
 pub mod Laws
 pub mod Demands
 pub mod Beam
+pub mod Example
