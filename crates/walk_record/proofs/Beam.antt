@@ -30,18 +30,20 @@ octant-lt b f =
     let e = eqb-true (b .octant) (octantOf (b .ray .direction)) (a .1) in
     omega (arith, octant-most (b .ray .direction))
 
-told-accepted : (t : Float) (b : Beam) → forgedBeam b ≡ false → forgedBeam (toldBeam t b) ≡ false
+-- a ray that is not forged stays so with another reach, if that is no NaN
+reach-accepted : (t : Float) (b : Beam) (c : Bool) → (c ≡ true → isNan t ≡ false) → forgedBeam b ≡ false
+    → forgedBeam (record { ray = cond c (reaching t (b .ray)) (b .ray); octant = b .octant }) ≡ false
 unfolding acceptedRay
-told-accepted t b f = go (lt t (b .ray .tmax)) refl
-  where
-    go : (c : Bool) → lt t (b .ray .tmax) ≡ c → forgedBeam (record { ray = cond c (reaching t (b .ray)) (b .ray); octant = b .octant }) ≡ false
-    go false e = f
-    go true e =
-        let a = and-true (acceptedRay (b .ray) && ownInverse (b .ray)) (eqb (b .octant) (octantOf (b .ray .direction))) (not-false-true _ f) in
-        let c = and-true (acceptedRay (b .ray)) (ownInverse (b .ray)) (a .0) in
-        let g = and-true (boundedVec (b .ray .origin) && boundedVec (b .ray .direction)) (not (isNan (b .ray .tmax))) (c .0) in
-        let h = and-true (boundedVec (b .ray .origin)) (boundedVec (b .ray .direction)) (g .0) in
-        rw (h .0, h .1, below-no-nan t (b .ray .tmax) e, c .1, a .1)
+reach-accepted t b false n f = f
+reach-accepted t b true n f =
+    let a = and-true (acceptedRay (b .ray) && ownInverse (b .ray)) (eqb (b .octant) (octantOf (b .ray .direction))) (not-false-true _ f) in
+    let c = and-true (acceptedRay (b .ray)) (ownInverse (b .ray)) (a .0) in
+    let g = and-true (boundedVec (b .ray .origin) && boundedVec (b .ray .direction)) (not (isNan (b .ray .tmax))) (c .0) in
+    let h = and-true (boundedVec (b .ray .origin)) (boundedVec (b .ray .direction)) (g .0) in
+    rw (h .0, h .1, n refl, c .1, a .1)
+
+told-accepted : (t : Float) (b : Beam) → forgedBeam b ≡ false → forgedBeam (toldBeam t b) ≡ false
+told-accepted t b = reach-accepted t b _ (below-no-nan t (b .ray .tmax))
 
 pub beam-laws : RayLaws beams
 beam-laws = record { octant-lt = octant-lt; octant-told = λ t b. refl; told-accepted = told-accepted }
