@@ -10,13 +10,13 @@ use Rattle.walk.specs.WordStep.{WalkerWords, SteppedWords, NodeWords, st
 use Rattle.walk.proofs.Cases.{cond-elim}
 
 module _ {s d : Type 0} (m : ℕ) (N : NodeWords s d) (n : ℕ) (w : WalkerWords s) where
-  abbrev Keeps : Answer → WalkerWords s → Type 0
+  abbrev pub Keeps : Answer → WalkerWords s → Type 0
   Keeps (tested v) u = Unit {0}
   Keeps (position p) u = Unit {0}
   Keeps done u = u ≡ w
   Keeps (refused e) u = u ≡ w
 
-  abbrev Kept : SteppedWords s → Type 0
+  abbrev pub Kept : SteppedWords s → Type 0
   Kept r = Keeps (r .answer) (r .walker)
 
   visit-cases : (P : SteppedWords s → Type 0) (g : _) (e : ℕ) → P (stayWords w (refused 10)) → P (afterTestWords m N w g e) → P (visitWords m N n w g e)

@@ -13,27 +13,15 @@ use Rattle.walk.specs.Listing.{In, flat, listing}
 use Rattle.walk.specs.Queries.{Reaction, Halted, Ended}
 use Rattle.walk.specs.Slots.{ReachedBySlots, PassedBySlots, positionsOf, childrenOf, testsOf}
 use Rattle.walk.specs.Slots
-use Rattle.walk.specs.WordStep.{WalkerWords, freshWords, decodedStep, decoded, InRange}
-use Rattle.walk.specs.Step.{stepOf}
+use Rattle.walk.specs.WordStep.{freshWords}
 use Rattle.walk.proofs.Demands
-use Rattle.walk.proofs.WordStep.{step-decoded}
-use Rattle.walk.proofs.Masks.{masks-decode}
 use Rattle.walk.proofs.WordDemands.{query-words-halts, words-report-once, words-wait-few, words-answered, query-words-answered, any-hit-words-done, any-hit-words-listing, any-hit-words-exact, any-hit-words-nodup, any-hit-words-counts, any-hit-words-tests}
-use Rattle.walk_record.specs.Record.{Rays, RayLaws, AreBytes, slotsAt, maskAt, nodeWordsAt}
-use Rattle.walk_record.specs.Walk.{stepAt, runAt, queryAt, anyHitAt, listingAt, Reached, first, child, Passed}
+use Rattle.walk_record.specs.Record.{Rays, RayLaws, AreBytes, slotsAt, maskAt}
+use Rattle.walk_record.specs.Walk.{runAt, queryAt, anyHitAt, listingAt, Reached, first, child, Passed}
 use Rattle.walk_record.proofs.Laws.{slot-laws, mask-laws}
 
 module _ {s d : Type 0} (bytes : List ℕ) (R : Rays s d) (laws : RayLaws R) (small : AreBytes bytes) where
-  -- ---- any record at all
-
-  -- a step is the step on the lists that the walker's words stand for,
-  pub step-on-lists : (n : ℕ) (w : WalkerWords s) → InRange w
-      → decodedStep (nodeWordsAt bytes R) (stepAt bytes R n w) ≡ stepOf (nodeCount bytes) (testsOf (slotsAt bytes R n)) n (decoded (nodeWordsAt bytes R) w)
-  unfolding stepAt shapeAt
-  step-on-lists n w i =
-      step-decoded (nodeCount bytes) (nodeWordsAt bytes R) (positionsOf (slotsAt bytes R n)) (childrenOf (slotsAt bytes R n)) (masks-decode (slotsAt bytes R n) (maskAt bytes R) (mask-laws bytes R laws n small)) n w i
-
-  -- and every query ends
+  -- every query ends, on any record at all
   pub query-halts : {a : Type 0} (react : ℕ → s → a → Reaction d a) (x : a) (n : ℕ) (r : s) → R .forged r ≡ false → Halted (queryAt bytes R react x n r .ended)
   unfolding queryAt shapeAt
   query-halts react x n r f = query-words-halts (slotsAt bytes R n) (maskAt bytes R) (mask-laws bytes R laws n small) react n r x f
