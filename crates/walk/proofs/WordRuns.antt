@@ -20,7 +20,7 @@ use Rattle.walk.specs.WordStep.{WalkerWords, SteppedWords, NodeWords, fr
 use Rattle.walk.proofs.Cases.{cond-elim}
 use Rattle.walk.proofs.Words.{positions-none, children-none, children-first, rest-lt}
 use Rattle.walk.proofs.Stacks.{top-bits, pushed-length, pushed-words}
-use Rattle.walk.proofs.WordStep.{step-decoded}
+use Rattle.walk.proofs.WordStep.{good-child, step-decoded}
 
 -- the words of an empty stack
 zeros : (n i : ℕ) → _≡_ {A = ℕ} (getD (replicate n 0) i 0) 0
@@ -46,12 +46,13 @@ module _ {s d : Type 0} (m : ℕ) (N : NodeWords s d) (ps cs : s → ℕ → Lis
 
   -- ---- words stay in range
 
-  test-range : (w : WalkerWords s) (g : Group) (e : ℕ) → InRange w → g .bits < 2 ^ 32 → g .base < 2 ^ 32 → InRange (afterTestWords m N w g e .walker)
-  test-range w g e i h b =
+  test-range : (w : WalkerWords s) (g : Group) (e : ℕ) → InRange w → g .bits < 2 ^ 32 → g .base < 2 ^ 32 → firstChild (N .octant (w .ray)) g < m
+      → InRange (afterTestWords m N w g e .walker)
+  test-range w g e i h b l =
       record {
         positions = omega arith;
-        base = D .child-base-lt (firstChild (N .octant (w .ray)) g);
-        bits = omega (arith, D .mask-lt (w .ray) (firstChild (N .octant (w .ray)) g), D .imask-lt (firstChild (N .octant (w .ray)) g));
+        base = D .child-base-lt (firstChild (N .octant (w .ray)) g) l;
+        bits = omega (arith, D .mask-lt (w .ray) (firstChild (N .octant (w .ray)) g), D .imask-lt (firstChild (N .octant (w .ray)) g) l);
         room = subst (λ (x : ℕ). capacity ≤ x) (sym (pushed-length (w .stack) e (i .room) (hasChild (restOf g)) (packed (restOf g)))) (i .room);
         words = pushed-words (w .stack) e (i .room) (hasChild (restOf g)) (packed (restOf g)) (let z = rest-lt g h in omega arith) (i .words);
       }
@@ -61,7 +62,8 @@ module _ {s d : Type 0} (m : ℕ) (N : NodeWords s d) (ps cs : s → ℕ → Lis
 
   visit-range : (n : ℕ) (w : WalkerWords s) (g : Group) (e : ℕ) → InRange w → g .bits < 2 ^ 32 → g .base < 2 ^ 32 → StaysIn (visitWords m N n w g e)
   visit-range n w g e i h b =
-      cond-elim StaysIn (badChild m N n w g e) (stayWords w (refused 10)) (afterTestWords m N w g e) (λ _. i) (λ _. test-range w g e i h b)
+      cond-elim StaysIn (badChild m N n w g e) (stayWords w (refused 10)) (afterTestWords m N w g e) (λ _. i)
+      (λ z. test-range w g e i h b (good-child m N n w g e z .node))
 
   report-range : (w : WalkerWords s) → InRange w → InRange (afterReportWords w .walker)
   report-range w i =

@@ -171,7 +171,7 @@ module _ {s d : Type 0} (m : ℕ) (N : NodeWords s d) where
     pub octant-lt : (r : s) → N .forged r ≡ false → N .octant r < 8
     pub octant-told : (x : d) (r : s) → N .octant (N .told x r) ≡ N .octant r
     pub mask-lt : (r : s) (v : ℕ) → N .mask r v < 2 ^ 32
-    pub imask-lt : (v : ℕ) → N .imask v < 256
-    pub child-base-lt : (v : ℕ) → N .childBase v < 2 ^ 32
+    pub imask-lt : (v : ℕ) → v < m → N .imask v < 256
+    pub child-base-lt : (v : ℕ) → v < m → N .childBase v < 2 ^ 32
     pub positions-are : (r : s) (n v : ℕ) → N .forged r ≡ false → v < m → N .rule n v ≡ true → positionsIn (passedPositions N r v) ≡ positions r v
     pub children-are : (r : s) (n v : ℕ) → N .forged r ≡ false → v < m → N .rule n v ≡ true → childrenIn (N .octant r) (passedChildren N r v) ≡ children r v

@@ -15,7 +15,7 @@ use Rattle.walk.proofs.WordStep.{step-decoded}
 use Rattle.walk.proofs.WordRuns
 use Rattle.walk.proofs.WordEnds.{stepsLeftWords, words-fall, query-words-enough}
 use Rattle.walk.proofs.WordKept.{Kept, words-kept, words-done-stays}
-use Rattle.walk_record.specs.Record.{Rays, RayLaws, AreBytes, slotsAt, maskAt, nodeWordsAt}
+use Rattle.walk_record.specs.Record.{Rays, RayLaws, FieldsFit, slotsAt, maskAt, nodeWordsAt}
 use Rattle.walk_record.specs.Walk.{stepAt}
 use Rattle.walk_record.proofs.Laws.{mask-laws}
 
@@ -34,10 +34,10 @@ module _ {s d : Type 0} (bytes : List ℕ) (R : Rays s d) (n : ℕ) (w : WalkerW
 
 -- ---- for words in range
 
-module _ {s d : Type 0} (bytes : List ℕ) (R : Rays s d) (laws : RayLaws R) (small : AreBytes bytes) where
+module _ {s d : Type 0} (bytes : List ℕ) (R : Rays s d) (laws : RayLaws R) (fit : FieldsFit bytes) where
   decodes : (n : ℕ) → Decodes (nodeCount bytes) (nodeWordsAt bytes R) (positionsOf (slotsAt bytes R n)) (childrenOf (slotsAt bytes R n))
   unfolding shapeAt
-  decodes n = masks-decode (slotsAt bytes R n) (maskAt bytes R) (mask-laws bytes R laws n small)
+  decodes n = masks-decode (slotsAt bytes R n) (maskAt bytes R) (mask-laws bytes R laws n fit)
 
   -- a step is the step on the lists that the walker's words stand for,
   pub step-on-lists : (n : ℕ) (w : WalkerWords s) → InRange w
