@@ -15,7 +15,7 @@ use Rattle.walk.specs.Slots.{ReachedBySlots, PassedBySlots, positionsOf, childr
 use Rattle.walk.specs.Slots
 use Rattle.walk.specs.WordStep.{freshWords}
 use Rattle.walk.proofs.Demands
-use Rattle.walk.proofs.WordDemands.{query-words-halts, words-report-once, words-wait-few, words-answered, query-words-answered, any-hit-words-done, any-hit-words-listing, any-hit-words-exact, any-hit-words-nodup, any-hit-words-counts, any-hit-words-tests}
+use Rattle.walk.proofs.WordDemands.{query-words-halts, words-report-once, words-wait-few, words-answered, query-words-answered, any-hit-words-done, any-hit-words-listing, any-hit-words-exact, any-hit-words-nodup, any-hit-words-most, any-hit-words-counts, any-hit-words-tests}
 use Rattle.walk_record.specs.Record.{Rays, RayLaws, FieldsFit, slotsAt, maskAt}
 use Rattle.walk_record.specs.Walk.{runAt, queryAt, anyHitAt, listingAt, Reached, first, child, Passed}
 use Rattle.walk_record.proofs.Laws.{slot-laws, mask-laws}
@@ -97,6 +97,10 @@ module _ {s d : Type 0} (bytes : List ℕ) (R : Rays s d) (laws : RayLaws R) (fi
       pub any-hit-nodup : List·Nodup (anyHitAt bytes R n r .noted)
       unfolding anyHitAt queryAt shapeAt
       any-hit-nodup = any-hit-words-nodup (slotsAt bytes R n) (maskAt bytes R) (RuleAt bytes n) (slot-laws bytes R laws n) (mask-laws bytes R laws n fit) sound r accepted few-positions few-nodes
+
+      pub any-hit-most : length (anyHitAt bytes R n r .noted) ≤ n
+      unfolding anyHitAt queryAt shapeAt
+      any-hit-most = any-hit-words-most (slotsAt bytes R n) (maskAt bytes R) (RuleAt bytes n) (slot-laws bytes R laws n) (mask-laws bytes R laws n fit) sound r accepted few-positions few-nodes
 
       pub any-hit-counts : (p : ℕ)
           → (Passed bytes n (R .ray r) p → count p (anyHitAt bytes R n r .noted) ≡ 1) × (¬ (Passed bytes n (R .ray r) p) → count p (anyHitAt bytes R n r .noted) ≡ 0)
