@@ -15,7 +15,6 @@ use Rattle.words.specs.Le.{leAt, sumOf}
 use Rattle.words.specs.Ones.{onesBelow}
 use Rattle.words.specs.Ors.{orOf}
 use Rattle.faststack.specs.Stack.{pushed, topOf}
-use Rattle.ray.specs.declared.Vec3.{Vec3}
 use Rattle.ray.specs.Ray.{safeInverse, octantOf, rayOf, boundedVec, acceptedRay}
 use Rattle.node.specs.Node.{slotOffset, slotFrom, nodeFrom, childIndex}
 use Rattle.rule.specs.Rule.{pointOk, exponentOk, headOk, childrenOk, leafTop, slotOk, slotsOk, nodeRule}
@@ -25,7 +24,7 @@ use Rattle.walk.specs.Step.{tested, position, done, refused}
 use Rattle.walk.specs.Calls.{step, tell}
 use Rattle.walk.specs.WordStep.{freshWords, stepWords, runWords}
 use Rattle.walk.specs.WordQueries.{queryWords}
-use Rattle.walk_record.specs.Beam.{Beam, beams}
+use Rattle.walk_record.specs.Beam.{Beam, beamOf, beams}
 use Rattle.walk_record.specs.Walk.{runAt, queryAt, anyHitAt}
 
 abbrev bytesT : List ℕ
@@ -48,11 +47,7 @@ three =
 -- from (x, 0.5, 0.5) along (u, v, 0), without end
 abbrev beam : Float → Float → Float → Beam
 beam x u v =
-    let dir : Vec3 = record { x = u; y = v; z = fin false 0 (pos 0) } in
-    record {
-      ray = rayOf (record { x = x; y = fin false 1 (negsuc 0); z = fin false 1 (negsuc 0) }) dir (fin false 0 (pos 0)) (inf false);
-      octant = octantOf dir;
-    }
+    beamOf (rayOf (record { x = x; y = fin false 1 (negsuc 0); z = fin false 1 (negsuc 0) }) (record { x = u; y = v; z = fin false 0 (pos 0) }) (fin false 0 (pos 0)) (inf false))
 
 abbrev zero+ : Float
 zero+ = fin false 0 (pos 0)
