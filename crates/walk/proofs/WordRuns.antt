@@ -16,7 +16,7 @@ use Rattle.walk.specs.Tests.{Tests}
 use Rattle.walk.specs.Step.{Stepped, refused, fresh, sizesFit, badPosition, tellOf}
 use Rattle.walk.specs.Calls.{Op, step, tell, Run, runOps}
 use Rattle.walk.specs.Words.{Group, packed, unpacked, positionsIn, childrenIn, groupsIn, restOf, firstPosition, firstChild, hasChild, waitingDepth}
-use Rattle.walk.specs.WordStep.{WalkerWords, SteppedWords, NodeWords, freshWords, forgedWords, onlyFirstWords, badChild, stayWords, afterReportWords, afterTestWords, visitWords, stepWords, tellWords, RunWords, runWords, decoded, InRange, testsWith, Decodes}
+use Rattle.walk.specs.WordStep.{WalkerWords, SteppedWords, NodeWords, freshWords, forgedWords, onlyFirstWords, badChild, stayWords, afterReportWords, afterTestWords, visitWords, reportWords, popWords, advanceWords, stepWords, tellWords, RunWords, runWords, decoded, InRange, testsWith, Decodes}
 use Rattle.walk.proofs.Cases.{cond-elim}
 use Rattle.walk.proofs.Words.{positions-none, children-none, children-first, rest-lt}
 use Rattle.walk.proofs.Stacks.{top-bits, pushed-length, pushed-words}
@@ -61,6 +61,7 @@ module _ {s d : Type 0} (m : ℕ) (N : NodeWords s d) (ps cs : s → ℕ → Lis
   StaysIn r = InRange (r .walker)
 
   visit-range : (n : ℕ) (w : WalkerWords s) (g : Group) (e : ℕ) → InRange w → g .bits < 2 ^ 32 → g .base < 2 ^ 32 → StaysIn (visitWords m N n w g e)
+  unfolding visitWords
   visit-range n w g e i h b =
       cond-elim StaysIn (badChild m N n w g e) (stayWords w (refused 10)) (afterTestWords m N w g e) (λ _. i)
       (λ z. test-range w g e i h b (good-child m N n w g e z .node))
@@ -70,7 +71,7 @@ module _ {s d : Type 0} (m : ℕ) (N : NodeWords s d) (ps cs : s → ℕ → Lis
       record { positions = rest-lt (w .positions) (i .positions); base = i .base; bits = i .bits; room = i .room; words = i .words }
 
   pub step-range : (n : ℕ) (w : WalkerWords s) → InRange w → InRange (stepWords m N n w .walker)
-  unfolding stepWords
+  unfolding stepWords advanceWords reportWords popWords
   step-range n w i =
       cond-elim StaysIn (sizesFit m n) _ _
       (λ _. cond-elim StaysIn (forgedWords m N w) _ _ (λ _. i)

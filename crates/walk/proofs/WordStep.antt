@@ -99,6 +99,7 @@ module _ {s d : Type 0} (m : ℕ) (N : NodeWords s d) (ps cs : s → ℕ → Lis
   visit-decoded : (n : ℕ) (w : WalkerWords s) (g : Group) (e : ℕ) → T .forged (w .ray) ≡ false → capacity ≤ length (w .stack) → hasChild g ≡ true → g .bits < 2 ^ 32 → g .base < 2 ^ 32
       → decodedStep N (visitWords m N n w g e)
       ≡ advance m T n (decoded N w) (test (firstChild (N .octant (w .ray)) g) (childrenIn (N .octant (w .ray)) (restOf g)) (groupsIn (N .octant (w .ray)) (w .stack) e))
+  unfolding visitWords
   visit-decoded n w g e f long h l b =
       cond-same (decodedStep N) (badChild m N n w g e) (badNode m T n (w .tests) (firstChild (N .octant (w .ray)) g) (childrenIn (N .octant (w .ray)) (restOf g)) (groupsIn (N .octant (w .ray)) (w .stack) e))
       _ _ _ _ same-bad (λ _. refl) after
@@ -135,6 +136,7 @@ module _ {s d : Type 0} (m : ℕ) (N : NodeWords s d) (ps cs : s → ℕ → Lis
 
   pop-decoded : (n : ℕ) (w : WalkerWords s) (e : ℕ) → InRange w → T .forged (w .ray) ≡ false → (0 < e → hasChild (unpacked (topOf (w .stack) e)) ≡ true)
       → decodedStep N (popWords m N n w e) ≡ advance m T n (decoded N w) (dueWords (N .octant (w .ray)) (w .stack) e)
+  unfolding popWords
   pop-decoded n w zero i f h = refl
   pop-decoded n w (suc e) i f h =
       let z : suc e - 1 ≡ e = omega arith in
@@ -148,6 +150,7 @@ module _ {s d : Type 0} (m : ℕ) (N : NodeWords s d) (ps cs : s → ℕ → Lis
       ≡ advance m T n (decoded N w) (dueIn w)
 
   advance-decoded : (n : ℕ) (w : WalkerWords s) → InRange w → T .forged (w .ray) ≡ false → DoesDue n w (advanceWords m N n w)
+  unfolding advanceWords reportWords
   advance-decoded n w i f =
       cond-elim (DoesDue n w) (ltb 0 (w .positions .bits)) _ _ (λ a. in-hand (ltb-true 0 _ a))
       (λ a. cond-elim (DoesDue n w) (hasChild (w .current)) _ _ (λ b. in-group (ltb-false 0 _ a) b) (λ b. on-stack (ltb-false 0 _ a) b))

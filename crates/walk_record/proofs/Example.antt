@@ -22,7 +22,7 @@ use Rattle.slot.specs.Slot.{nearLimit, adjustedInverse, adjustedOrigin, planeAt
 use Rattle.slot.specs.Mask.{hitBits, slotHit, hitMask}
 use Rattle.walk.specs.Step.{tested, position, done, refused}
 use Rattle.walk.specs.Calls.{step, tell}
-use Rattle.walk.specs.WordStep.{freshWords, stepWords, runWords}
+use Rattle.walk.specs.WordStep.{freshWords, stepWords, advanceWords, reportWords, visitWords, popWords, runWords}
 use Rattle.walk.specs.WordQueries.{queryWords}
 use Rattle.walk_record.specs.Beam.{Beam, beamOf, beams}
 use Rattle.walk_record.specs.Walk.{runAt, queryAt, anyHitAt}
@@ -83,7 +83,7 @@ pub record Examples : Type 0 where
   pub forged : runAt three beams (step 4 ∷ []) (freshWords (record { ray = along .ray; octant = 3 })) .answers ≡ refused 10 ∷ []
 
 pub examples : Examples
-unfolding anyHitAt queryAt runAt queryWords runWords stepWords rayOf octantOf hitMask slotHit hitBits orOf passes nearOf farOf maxOf minOf planeAt adjustedInverse adjustedOrigin nearLimit scaleOf nodeFrom leAt sumOf slotFrom slotOffset nodeRule headOk childrenOk slotsOk slotOk leafTop pointOk exponentOk inBounds onesBelow field childIndex topOf pushed leadingZeros safeInverse boundedVec acceptedRay round ofBits ofInt add sub mul div lt le eq isNan
+unfolding anyHitAt queryAt runAt queryWords runWords stepWords advanceWords reportWords visitWords popWords rayOf octantOf hitMask slotHit hitBits orOf passes nearOf farOf maxOf minOf planeAt adjustedInverse adjustedOrigin nearLimit scaleOf nodeFrom leAt sumOf slotFrom slotOffset nodeRule headOk childrenOk slotsOk slotOk leafTop pointOk exponentOk inBounds onesBelow field childIndex topOf pushed leadingZeros safeInverse boundedVec acceptedRay round ofBits ofInt add sub mul div lt le eq isNan
 examples = record {
   both = refl;
   one-test = refl;
