@@ -8,6 +8,8 @@ use native.Mathlib.Omega.{arith}
 use native.Mathlib.Decide.{decLt}
 use lib.ListN.{length}
 use Rattle.lists.specs.Counts.{count}
+use Rattle.lists.proofs.Counts.{Some, none, some, some?}
+use Rattle.lists.proofs.Sums.{distinct-length}
 use Rattle.lists.proofs.Perms.{no-duplicates}
 use Rattle.soundness.specs.Shape.{Shape}
 use Rattle.soundness.specs.Sound.{Sound}
@@ -20,7 +22,7 @@ use Rattle.walk.proofs.Dues.{flats, push-flats, report-hand, test-hand,
 use Rattle.walk.proofs.Cases.{Visits, Finished, nothing-due, no-nodes, step-cases}
 use Rattle.walk.proofs.Gather.{gather-none}
 use Rattle.walk.proofs.Valid.{Valid, no-refusal, report-valid, test-valid, fresh-valid, empty-step}
-use Rattle.walk.proofs.Listing.{listing-is, reached-from-is, listed, listed-once, reached-in, reached-once}
+use Rattle.walk.proofs.Listing.{listing-is, reached-from-is, listed, listed-once, passed-position, reached-in, reached-once}
 use Rattle.walk.proofs.Ends.{stepsLeft, step-falls}
 
 -- a query ended with done, having noted ps after x, with t tests in all
@@ -170,6 +172,14 @@ module _ {s d : Type 0} (S : Shape) (Rule : ℕ → Type 0) (T : Tests s d) (L :
 
   pub any-hit-nodup : List·Nodup (anyHitOf (S .nodes) T (S .positions) ray .noted)
   any-hit-nodup = no-duplicates (anyHitOf (S .nodes) T (S .positions) ray .noted) any-hit-once
+
+  -- so it is no longer than there are positions
+  pub any-hit-most : length (anyHitOf (S .nodes) T (S .positions) ray .noted) ≤ S .positions
+  any-hit-most = distinct-length (S .positions) (anyHitOf (S .nodes) T (S .positions) ray .noted) any-hit-once (λ p l. none-past p l (some? (count p (anyHitOf (S .nodes) T (S .positions) ray .noted))))
+    where
+      none-past : (p : ℕ) → S .positions ≤ p → Some (count p (anyHitOf (S .nodes) T (S .positions) ray .noted)) → count p (anyHitOf (S .nodes) T (S .positions) ray .noted) ≡ 0
+      none-past p l (none e) = e
+      none-past p l (some e) = absurd (omega (arith, passed-position S Rule T L sound ray accepted p (any-hit-exact p .0 e)))
 
   -- the tests are as many as a list has that holds each reached node once and no other
   pub any-hit-tests : (l : List ℕ) × List·Nodup l × ((v : ℕ) → In v l ↔ Reached (S .nodes) T ray v) × (anyHitOf (S .nodes) T (S .positions) ray .walker .tests ≡ length l)

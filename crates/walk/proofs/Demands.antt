@@ -74,6 +74,9 @@ module _ {s d : Type 0} (W : Slots s d) (Rule : ℕ → Type 0) (laws : SlotLaws
       pub any-hit-nodup : List·Nodup (anyHitOf (W .shape .nodes) (testsOf W) (W .shape .positions) ray .noted)
       any-hit-nodup = AnyHit.any-hit-nodup (W .shape) Rule (testsOf W) (slots-lawful W Rule laws) sound few-positions few-nodes (slots-narrow W _) ray accepted
 
+      pub any-hit-most : length (anyHitOf (W .shape .nodes) (testsOf W) (W .shape .positions) ray .noted) ≤ W .shape .positions
+      any-hit-most = AnyHit.any-hit-most (W .shape) Rule (testsOf W) (slots-lawful W Rule laws) sound few-positions few-nodes (slots-narrow W _) ray accepted
+
       -- counted: a passed position stands there once, any other not
       pub any-hit-counts : (p : ℕ) → (PassedBySlots W ray p → count p list ≡ 1) × (¬ (PassedBySlots W ray p) → count p list ≡ 0)
       any-hit-counts p =

@@ -1,7 +1,7 @@
 -- Every query ends, on any record at all; on a sound record the walk does not refuse it. And a query is the list of calls that it makes.
 use mathlib.Core.Bool.{Bool, true, false, cond}
-use mathlib.Core.List.{List, [], _∷_, _++_}
-use mathlib.Core.Path.{_≡_, refl, ap, subst}
+use mathlib.Core.List.{List, [], _∷_, _++_, append-assoc, append-nil}
+use mathlib.Core.Path.{_≡_, refl, sym, ap, _∙_, subst}
 use Prim.Native.Nat.{ℕ, zero, suc, _+_, _-_, _*_, _≤_, _<_}
 use native.Mathlib.Omega.{arith}
 use native.Mathlib.Decide.{decLt}
@@ -10,8 +10,8 @@ use Rattle.soundness.specs.Shape.{Shape}
 use Rattle.soundness.specs.Sound.{Sound}
 use Rattle.walk.specs.Tests.{Tests}
 use Rattle.walk.specs.Step.{Walker, Answer, tested, position, done, refused, fresh, Stepped, stepOf, tellOf}
-use Rattle.walk.specs.Calls.{Op, runOps, Answered}
-use Rattle.walk.specs.Queries.{Reaction, Outcome, toldAll, follow, query, tellings, callsAfter, calls, stepsFor, Going, Halted, Ended}
+use Rattle.walk.specs.Calls.{Op, runOps, reportOf, reported, Answered}
+use Rattle.walk.specs.Queries.{Reaction, Outcome, toldAll, follow, query, tellings, callsAfter, calls, stepsFor, append, Going, Halted, Ended}
 use Rattle.walk.specs.Lawful.{Lawful, Narrow}
 use Rattle.walk.proofs.Dues.{report-hand}
 use Rattle.walk.proofs.Cases.{cond-elim, step-cases}
@@ -121,6 +121,20 @@ module _ {s d a : Type 0} (m : ℕ) (T : Tests s d) (react : ℕ → s → a →
               by false = h (toldAll T (r .tells) v) (r .noted)
       go done v h = refl
       go (refused e) v h = refl
+
+-- any-hit has noted what its calls reported
+pub any-hit-run : {s d : Type 0} (m : ℕ) (T : Tests s d) (f n : ℕ) (w : Walker s) (x : List ℕ)
+    → query m T append f n w x .noted ≡ x ++ reported (runOps m T (calls m T append f n w x) w .answers)
+unfolding runOps query calls
+any-hit-run m T zero n w x = sym (append-nil x)
+any-hit-run {s} m T (suc f) n w x = go (stepOf m T n w .answer) (stepOf m T n w .walker) (any-hit-run m T f n)
+  where
+    go : (b : Answer) (v : Walker s) → ((u : Walker s) (y : List ℕ) → query m T append f n u y .noted ≡ y ++ reported (runOps m T (calls m T append f n u y) u .answers))
+        → follow m T append b v x (query m T append f n) .noted ≡ x ++ (reportOf b ++ reported (runOps m T (callsAfter m T append b v x (calls m T append f n)) v .answers))
+    go (tested c) v h = h v x
+    go (position p) v h = h v (x ++ (p ∷ [])) ∙ append-assoc x (p ∷ []) _
+    go done v h = sym (append-nil x)
+    go (refused e) v h = sym (append-nil x)
 
 -- ---- a sound record
 

@@ -20,3 +20,4 @@ pub mod Masks
 pub mod WordQueries
 pub mod WordDemands
 pub mod WordKept
+pub mod WordEnds

@@ -38,7 +38,7 @@ module _ {s d : Type 0} (W : Slots s d) (mask : s → ℕ → ℕ) (H : MaskLaws
   children-are ray n v f h r =
       falling-same (λ k. childIndex (W .shape .base v) (bits) (bitXor k (W .octant ray))) (λ k. childAt W v (bitXor k (W .octant ray)))
       (λ k. isSet (24 + k) bits) (λ k. passedChild W ray v (bitXor k (W .octant ray))) 8
-      (λ k l. high-set k bits (mask ray v) (omega (arith, H .imask-lt v)) ∙ H .child-bit ray n v k f h r l)
+      (λ k l. high-set k bits (mask ray v) (omega (arith, H .imask-lt v h)) ∙ H .child-bit ray n v k f h r l)
       (λ k l e. ap (λ (x : ℕ). W .shape .base v + x) (rank (bitXor k (W .octant ray)) (xor-lt 3 k (W .octant ray) l (H .octant-lt ray f))))
     where
       bits : ℕ
@@ -46,7 +46,7 @@ module _ {s d : Type 0} (W : Slots s d) (mask : s → ℕ → ℕ) (H : MaskLaws
 
       rank : (j : ℕ) → j < 8 → onesBelow j (mask ray v / 0x100_0000 * 0x100_0000 + W .imask v) ≡ onesBelow j (W .imask v)
       rank j l =
-          let e : (mask ray v / 0x100_0000 * 0x100_0000 + W .imask v) % 2 ^ 24 ≡ W .imask v = omega (arith, H .imask-lt v) in
+          let e : (mask ray v / 0x100_0000 * 0x100_0000 + W .imask v) % 2 ^ 24 ≡ W .imask v = omega (arith, H .imask-lt v h) in
           sym (cut-rank 24 j (mask ray v / 0x100_0000 * 0x100_0000 + W .imask v) (omega arith)) ∙ ap (onesBelow j) e
 
   pub masks-decode : Decodes (W .shape .nodes) (wordsOf W mask) (positionsOf W) (childrenOf W)

@@ -16,7 +16,7 @@ use Rattle.walk.specs.Slots.{Slots, positionsOf, childrenOf, testsOf, Re
 use Rattle.walk.specs.WordStep.{freshWords, RunWords, runWords}
 use Rattle.walk.specs.WordQueries.{OutcomeWords, queryWords, decodedOutcome}
 use Rattle.walk.specs.Masks.{wordsOf, MaskLaws}
-use Rattle.walk.proofs.Demands.{query-halts, calls-report-once, calls-wait-few, calls-answered, any-hit-done, any-hit-listing, any-hit-exact, any-hit-nodup, any-hit-counts, any-hit-tests, query-answered}
+use Rattle.walk.proofs.Demands.{query-halts, calls-report-once, calls-wait-few, calls-answered, any-hit-done, any-hit-listing, any-hit-exact, any-hit-nodup, any-hit-most, any-hit-counts, any-hit-tests, query-answered}
 use Rattle.walk.proofs.Stacks.{groups-length}
 use Rattle.walk.proofs.WordRuns.{calls-decoded}
 use Rattle.walk.proofs.WordQueries.{fresh-query}
@@ -83,6 +83,9 @@ module _ {s d : Type 0} (W : Slots s d) (mask : s → ℕ → ℕ) (Rule : ℕ �
 
     pub any-hit-words-nodup : List·Nodup (askWords W mask append [] ray .noted)
     any-hit-words-nodup = subst (λ (l : List ℕ). List·Nodup l) noted (any-hit-nodup W Rule laws sound few-positions few-nodes ray accepted)
+
+    pub any-hit-words-most : length (askWords W mask append [] ray .noted) ≤ W .shape .positions
+    any-hit-words-most = subst (λ (l : List ℕ). length l ≤ W .shape .positions) noted (any-hit-most W Rule laws sound few-positions few-nodes ray accepted)
 
     pub any-hit-words-counts : (p : ℕ)
         → (PassedBySlots W ray p → count p (askWords W mask append [] ray .noted) ≡ 1) × (¬ (PassedBySlots W ray p) → count p (askWords W mask append [] ray .noted) ≡ 0)

@@ -6,24 +6,26 @@ use lib.Dec.{leb, ltb}
 use Rattle.faststack.specs.Stack.{topOf}
 use Rattle.walk.specs.Step.{Answer, tested, position, done, refused, sizesFit, badPosition}
 use Rattle.walk.specs.Words.{unpacked, firstPosition, hasChild, waitingDepth}
-use Rattle.walk.specs.WordStep.{WalkerWords, SteppedWords, NodeWords, stayWords, afterReportWords, forgedWords, onlyFirstWords, badChild, afterTestWords, visitWords, advanceWords, stepWords}
+use Rattle.walk.specs.WordStep.{WalkerWords, SteppedWords, NodeWords, stayWords, afterReportWords, forgedWords, onlyFirstWords, badChild, afterTestWords, reportWords, visitWords, popWords, advanceWords, stepWords}
 use Rattle.walk.proofs.Cases.{cond-elim}
 
 module _ {s d : Type 0} (m : ℕ) (N : NodeWords s d) (n : ℕ) (w : WalkerWords s) where
-  abbrev Keeps : Answer → WalkerWords s → Type 0
+  abbrev pub Keeps : Answer → WalkerWords s → Type 0
   Keeps (tested v) u = Unit {0}
   Keeps (position p) u = Unit {0}
   Keeps done u = u ≡ w
   Keeps (refused e) u = u ≡ w
 
-  abbrev Kept : SteppedWords s → Type 0
+  abbrev pub Kept : SteppedWords s → Type 0
   Kept r = Keeps (r .answer) (r .walker)
 
   visit-cases : (P : SteppedWords s → Type 0) (g : _) (e : ℕ) → P (stayWords w (refused 10)) → P (afterTestWords m N w g e) → P (visitWords m N n w g e)
+  unfolding visitWords
   visit-cases P g e a b = cond-elim P (badChild m N n w g e) _ _ (λ _. a) (λ _. b)
 
   advance-cases : (P : SteppedWords s → Type 0) → P (stayWords w (refused 10)) → P (afterReportWords w) → ((g : _) (e : ℕ) → P (afterTestWords m N w g e))
       → (((k : ℕ) → advanceWords m N k w ≡ stayWords w done) → P (stayWords w done)) → P (advanceWords m N n w)
+  unfolding advanceWords reportWords popWords
   advance-cases P a b c e =
       cond-elim P (ltb 0 (w .positions .bits)) _ _ (λ _. cond-elim P (badPosition m n (firstPosition (w .positions))) _ _ (λ _. a) (λ _. b))
       (λ h. cond-elim P (hasChild (w .current)) _ _ (λ _. visit-cases P (w .current) (w .depth) a (c (w .current) (w .depth)))

@@ -15,7 +15,7 @@ module _ {s d a : Type 0} (m : ℕ) (N : NodeWords s d) (ps cs : s → ℕ → L
   abbrev T : Tests s d
   T = testsWith N ps cs
 
-  all-range : (l : List d) (w : WalkerWords s) → InRange w → InRange (toldAllWords N l w)
+  pub all-range : (l : List d) (w : WalkerWords s) → InRange w → InRange (toldAllWords N l w)
   all-range [] w i = i
   all-range (x ∷ l) w i = all-range l (tellWords N x w) (tell-range m N ps cs D x w i)
 

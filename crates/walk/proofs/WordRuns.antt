@@ -16,11 +16,11 @@ use Rattle.walk.specs.Tests.{Tests}
 use Rattle.walk.specs.Step.{Stepped, refused, fresh, sizesFit, badPosition, tellOf}
 use Rattle.walk.specs.Calls.{Op, step, tell, Run, runOps}
 use Rattle.walk.specs.Words.{Group, packed, unpacked, positionsIn, childrenIn, groupsIn, restOf, firstPosition, firstChild, hasChild, waitingDepth}
-use Rattle.walk.specs.WordStep.{WalkerWords, SteppedWords, NodeWords, freshWords, forgedWords, onlyFirstWords, badChild, stayWords, afterReportWords, afterTestWords, visitWords, stepWords, tellWords, RunWords, runWords, decoded, InRange, testsWith, Decodes}
+use Rattle.walk.specs.WordStep.{WalkerWords, SteppedWords, NodeWords, freshWords, forgedWords, onlyFirstWords, badChild, stayWords, afterReportWords, afterTestWords, visitWords, reportWords, popWords, advanceWords, stepWords, tellWords, RunWords, runWords, decoded, InRange, testsWith, Decodes}
 use Rattle.walk.proofs.Cases.{cond-elim}
 use Rattle.walk.proofs.Words.{positions-none, children-none, children-first, rest-lt}
 use Rattle.walk.proofs.Stacks.{top-bits, pushed-length, pushed-words}
-use Rattle.walk.proofs.WordStep.{step-decoded}
+use Rattle.walk.proofs.WordStep.{good-child, step-decoded}
 
 -- the words of an empty stack
 zeros : (n i : ℕ) → _≡_ {A = ℕ} (getD (replicate n 0) i 0) 0
@@ -46,12 +46,13 @@ module _ {s d : Type 0} (m : ℕ) (N : NodeWords s d) (ps cs : s → ℕ → Lis
 
   -- ---- words stay in range
 
-  test-range : (w : WalkerWords s) (g : Group) (e : ℕ) → InRange w → g .bits < 2 ^ 32 → g .base < 2 ^ 32 → InRange (afterTestWords m N w g e .walker)
-  test-range w g e i h b =
+  test-range : (w : WalkerWords s) (g : Group) (e : ℕ) → InRange w → g .bits < 2 ^ 32 → g .base < 2 ^ 32 → firstChild (N .octant (w .ray)) g < m
+      → InRange (afterTestWords m N w g e .walker)
+  test-range w g e i h b l =
       record {
         positions = omega arith;
-        base = D .child-base-lt (firstChild (N .octant (w .ray)) g);
-        bits = omega (arith, D .mask-lt (w .ray) (firstChild (N .octant (w .ray)) g), D .imask-lt (firstChild (N .octant (w .ray)) g));
+        base = D .child-base-lt (firstChild (N .octant (w .ray)) g) l;
+        bits = omega (arith, D .mask-lt (w .ray) (firstChild (N .octant (w .ray)) g), D .imask-lt (firstChild (N .octant (w .ray)) g) l);
         room = subst (λ (x : ℕ). capacity ≤ x) (sym (pushed-length (w .stack) e (i .room) (hasChild (restOf g)) (packed (restOf g)))) (i .room);
         words = pushed-words (w .stack) e (i .room) (hasChild (restOf g)) (packed (restOf g)) (let z = rest-lt g h in omega arith) (i .words);
       }
@@ -60,15 +61,17 @@ module _ {s d : Type 0} (m : ℕ) (N : NodeWords s d) (ps cs : s → ℕ → Lis
   StaysIn r = InRange (r .walker)
 
   visit-range : (n : ℕ) (w : WalkerWords s) (g : Group) (e : ℕ) → InRange w → g .bits < 2 ^ 32 → g .base < 2 ^ 32 → StaysIn (visitWords m N n w g e)
+  unfolding visitWords
   visit-range n w g e i h b =
-      cond-elim StaysIn (badChild m N n w g e) (stayWords w (refused 10)) (afterTestWords m N w g e) (λ _. i) (λ _. test-range w g e i h b)
+      cond-elim StaysIn (badChild m N n w g e) (stayWords w (refused 10)) (afterTestWords m N w g e) (λ _. i)
+      (λ z. test-range w g e i h b (good-child m N n w g e z .node))
 
   report-range : (w : WalkerWords s) → InRange w → InRange (afterReportWords w .walker)
   report-range w i =
       record { positions = rest-lt (w .positions) (i .positions); base = i .base; bits = i .bits; room = i .room; words = i .words }
 
   pub step-range : (n : ℕ) (w : WalkerWords s) → InRange w → InRange (stepWords m N n w .walker)
-  unfolding stepWords
+  unfolding stepWords advanceWords reportWords popWords
   step-range n w i =
       cond-elim StaysIn (sizesFit m n) _ _
       (λ _. cond-elim StaysIn (forgedWords m N w) _ _ (λ _. i)

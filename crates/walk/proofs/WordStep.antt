@@ -46,6 +46,21 @@ first-same zero d true r st f g l = let q = g refl in rw (q .2)
 first-same zero d false r [] f g l = rw (f refl, ← l)
 first-same zero d false r (x ∷ st) f g l = rw (f refl, ne-eqb d 0 (λ e. omega (arith, l)))
 
+-- a child that nothing stands in the way of
+pub record GoodChild {s d : Type 0} (m : ℕ) (N : NodeWords s d) (n : ℕ) (w : WalkerWords s) (g : Group) (e : ℕ) : Type 0 where
+  pub roomy : hasChild (restOf g) && not (hasRoom e) ≡ false
+  pub node : firstChild (N .octant (w .ray)) g < m
+  pub rule : N .rule n (firstChild (N .octant (w .ray)) g) ≡ true
+
+pub good-child : {s d : Type 0} (m : ℕ) (N : NodeWords s d) (n : ℕ) (w : WalkerWords s) (g : Group) (e : ℕ) → badChild m N n w g e ≡ false → GoodChild m N n w g e
+good-child m N n w g e z =
+    let c = firstChild (N .octant (w .ray)) g in
+    let r = hasChild (restOf g) && not (hasRoom e) in
+    let a = or-false (r || leb m c || leb m (w .tests)) (not (N .rule n c)) z in
+    let a2 = or-false (r || leb m c) (leb m (w .tests)) (a .0) in
+    let a3 = or-false r (leb m c) (a2 .0) in
+    record { roomy = a3 .0; node = leb-false m c (a3 .1); rule = not-false-true (N .rule n c) (a .1) }
+
 module _ {s d : Type 0} (m : ℕ) (N : NodeWords s d) (ps cs : s → ℕ → List ℕ) (D : Decodes m N ps cs) where
   abbrev T : Tests s d
   T = testsWith N ps cs
@@ -84,6 +99,7 @@ module _ {s d : Type 0} (m : ℕ) (N : NodeWords s d) (ps cs : s → ℕ → Lis
   visit-decoded : (n : ℕ) (w : WalkerWords s) (g : Group) (e : ℕ) → T .forged (w .ray) ≡ false → capacity ≤ length (w .stack) → hasChild g ≡ true → g .bits < 2 ^ 32 → g .base < 2 ^ 32
       → decodedStep N (visitWords m N n w g e)
       ≡ advance m T n (decoded N w) (test (firstChild (N .octant (w .ray)) g) (childrenIn (N .octant (w .ray)) (restOf g)) (groupsIn (N .octant (w .ray)) (w .stack) e))
+  unfolding visitWords
   visit-decoded n w g e f long h l b =
       cond-same (decodedStep N) (badChild m N n w g e) (badNode m T n (w .tests) (firstChild (N .octant (w .ray)) g) (childrenIn (N .octant (w .ray)) (restOf g)) (groupsIn (N .octant (w .ray)) (w .stack) e))
       _ _ _ _ same-bad (λ _. refl) after
@@ -109,21 +125,18 @@ module _ {s d : Type 0} (m : ℕ) (N : NodeWords s d) (ps cs : s → ℕ → Lis
           → decodedStep N (afterTestWords m N w g e)
           ≡ afterTest T (decoded N w) (firstChild (N .octant (w .ray)) g) (childrenIn (N .octant (w .ray)) (restOf g)) (groupsIn (N .octant (w .ray)) (w .stack) e)
       after z =
-          let a = or-false ((hasChild (restOf g) && not (hasRoom e)) || leb m (firstChild (N .octant (w .ray)) g) || leb m (w .tests)) (not (T .rule n (firstChild (N .octant (w .ray)) g))) z in
-          let a2 = or-false ((hasChild (restOf g) && not (hasRoom e)) || leb m (firstChild (N .octant (w .ray)) g)) (leb m (w .tests)) (a .0) in
-          let a3 = or-false (hasChild (restOf g) && not (hasRoom e)) (leb m (firstChild (N .octant (w .ray)) g)) (a2 .0) in
-          let node = leb-false m (firstChild (N .octant (w .ray)) g) (a3 .1) in
-          let rule = not-false-true (T .rule n (firstChild (N .octant (w .ray)) g)) (a .1) in
+          let k = good-child m N n w g e z in
           ap (λ (u : Walker s). stay u (tested (firstChild (N .octant (w .ray)) g)))
           (same-walker (w .ray) (suc (w .tests)) _ _ _ _ _ _
-          (D .positions-are (w .ray) n (firstChild (N .octant (w .ray)) g) f node rule)
-          (D .children-are (w .ray) n (firstChild (N .octant (w .ray)) g) f node rule)
-          (groups-pushed (w .stack) e long (N .octant (w .ray)) (restOf g) small b (rest-lt g l) (room (a3 .0))))
+          (D .positions-are (w .ray) n (firstChild (N .octant (w .ray)) g) f (k .node) (k .rule))
+          (D .children-are (w .ray) n (firstChild (N .octant (w .ray)) g) f (k .node) (k .rule))
+          (groups-pushed (w .stack) e long (N .octant (w .ray)) (restOf g) small b (rest-lt g l) (room (k .roomy))))
 
   -- ---- what is due
 
   pop-decoded : (n : ℕ) (w : WalkerWords s) (e : ℕ) → InRange w → T .forged (w .ray) ≡ false → (0 < e → hasChild (unpacked (topOf (w .stack) e)) ≡ true)
       → decodedStep N (popWords m N n w e) ≡ advance m T n (decoded N w) (dueWords (N .octant (w .ray)) (w .stack) e)
+  unfolding popWords
   pop-decoded n w zero i f h = refl
   pop-decoded n w (suc e) i f h =
       let z : suc e - 1 ≡ e = omega arith in
@@ -137,6 +150,7 @@ module _ {s d : Type 0} (m : ℕ) (N : NodeWords s d) (ps cs : s → ℕ → Lis
       ≡ advance m T n (decoded N w) (dueIn w)
 
   advance-decoded : (n : ℕ) (w : WalkerWords s) → InRange w → T .forged (w .ray) ≡ false → DoesDue n w (advanceWords m N n w)
+  unfolding advanceWords reportWords
   advance-decoded n w i f =
       cond-elim (DoesDue n w) (ltb 0 (w .positions .bits)) _ _ (λ a. in-hand (ltb-true 0 _ a))
       (λ a. cond-elim (DoesDue n w) (hasChild (w .current)) _ _ (λ b. in-group (ltb-false 0 _ a) b) (λ b. on-stack (ltb-false 0 _ a) b))

@@ -16,8 +16,8 @@ module _ {s d : Type 0} (W : Slots s d) (mask : s → ℕ → ℕ) where
     pub octant-lt : (ray : s) → W .forged ray ≡ false → W .octant ray < 8
     pub octant-told : (x : d) (ray : s) → W .octant (W .told x ray) ≡ W .octant ray
     pub mask-lt : (ray : s) (v : ℕ) → mask ray v < 2 ^ 32
-    pub imask-lt : (v : ℕ) → W .imask v < 256
-    pub child-base-lt : (v : ℕ) → W .shape .base v < 2 ^ 32
+    pub imask-lt : (v : ℕ) → v < W .shape .nodes → W .imask v < 256
+    pub child-base-lt : (v : ℕ) → v < W .shape .nodes → W .shape .base v < 2 ^ 32
     -- bit b below 24 is the position b past the node's base
     pub position-bit : (ray : s) (n v b : ℕ) → W .forged ray ≡ false → v < W .shape .nodes → W .rule n v ≡ true → b < 24
         → isSet b (mask ray v) ≡ passedPosition W ray v (W .positionBase v + b)

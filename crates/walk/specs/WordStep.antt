@@ -134,18 +134,18 @@ module _ {s d : Type 0} (m : ℕ) (N : NodeWords s d) where
         answer = tested (firstChild (N .octant (w .ray)) g);
       }
 
-  abbrev pub reportWords : ℕ → WalkerWords s → SteppedWords s
+  unfoldable pub reportWords : ℕ → WalkerWords s → SteppedWords s
   reportWords n w = cond (badPosition m n (firstPosition (w .positions))) (stayWords w (refused 10)) (afterReportWords w)
 
-  abbrev pub visitWords : ℕ → WalkerWords s → Group → ℕ → SteppedWords s
+  unfoldable pub visitWords : ℕ → WalkerWords s → Group → ℕ → SteppedWords s
   visitWords n w g d = cond (badChild n w g d) (stayWords w (refused 10)) (afterTestWords w g d)
 
   -- the last group that waits, d being the depth with it on top
-  abbrev pub popWords : ℕ → WalkerWords s → ℕ → SteppedWords s
+  unfoldable pub popWords : ℕ → WalkerWords s → ℕ → SteppedWords s
   popWords n w d = cond (ltb 0 d) (visitWords n w (unpacked (topOf (w .stack) d)) (d - 1)) (stayWords w done)
 
   -- positions come first, then the group in hand, then the stack
-  abbrev pub advanceWords : ℕ → WalkerWords s → SteppedWords s
+  unfoldable pub advanceWords : ℕ → WalkerWords s → SteppedWords s
   advanceWords n w =
       cond (ltb 0 (w .positions .bits)) (reportWords n w)
       (cond (hasChild (w .current)) (visitWords n w (w .current) (w .depth)) (popWords n w (waitingDepth (w .stack) (w .depth))))
@@ -171,7 +171,7 @@ module _ {s d : Type 0} (m : ℕ) (N : NodeWords s d) where
     pub octant-lt : (r : s) → N .forged r ≡ false → N .octant r < 8
     pub octant-told : (x : d) (r : s) → N .octant (N .told x r) ≡ N .octant r
     pub mask-lt : (r : s) (v : ℕ) → N .mask r v < 2 ^ 32
-    pub imask-lt : (v : ℕ) → N .imask v < 256
-    pub child-base-lt : (v : ℕ) → N .childBase v < 2 ^ 32
+    pub imask-lt : (v : ℕ) → v < m → N .imask v < 256
+    pub child-base-lt : (v : ℕ) → v < m → N .childBase v < 2 ^ 32
     pub positions-are : (r : s) (n v : ℕ) → N .forged r ≡ false → v < m → N .rule n v ≡ true → positionsIn (passedPositions N r v) ≡ positions r v
     pub children-are : (r : s) (n v : ℕ) → N .forged r ≡ false → v < m → N .rule n v ≡ true → childrenIn (N .octant r) (passedChildren N r v) ≡ children r v

@@ -13,30 +13,18 @@ use Rattle.walk.specs.Listing.{In, flat, listing}
 use Rattle.walk.specs.Queries.{Reaction, Halted, Ended}
 use Rattle.walk.specs.Slots.{ReachedBySlots, PassedBySlots, positionsOf, childrenOf, testsOf}
 use Rattle.walk.specs.Slots
-use Rattle.walk.specs.WordStep.{WalkerWords, freshWords, decodedStep, decoded, InRange}
-use Rattle.walk.specs.Step.{stepOf}
+use Rattle.walk.specs.WordStep.{freshWords}
 use Rattle.walk.proofs.Demands
-use Rattle.walk.proofs.WordStep.{step-decoded}
-use Rattle.walk.proofs.Masks.{masks-decode}
-use Rattle.walk.proofs.WordDemands.{query-words-halts, words-report-once, words-wait-few, words-answered, query-words-answered, any-hit-words-done, any-hit-words-listing, any-hit-words-exact, any-hit-words-nodup, any-hit-words-counts, any-hit-words-tests}
-use Rattle.walk_record.specs.Record.{Rays, RayLaws, AreBytes, slotsAt, maskAt, nodeWordsAt}
-use Rattle.walk_record.specs.Walk.{stepAt, runAt, queryAt, anyHitAt, listingAt, Reached, first, child, Passed}
+use Rattle.walk.proofs.WordDemands.{query-words-halts, words-report-once, words-wait-few, words-answered, query-words-answered, any-hit-words-done, any-hit-words-listing, any-hit-words-exact, any-hit-words-nodup, any-hit-words-most, any-hit-words-counts, any-hit-words-tests}
+use Rattle.walk_record.specs.Record.{Rays, RayLaws, FieldsFit, slotsAt, maskAt}
+use Rattle.walk_record.specs.Walk.{runAt, queryAt, anyHitAt, listingAt, Reached, first, child, Passed}
 use Rattle.walk_record.proofs.Laws.{slot-laws, mask-laws}
 
-module _ {s d : Type 0} (bytes : List ℕ) (R : Rays s d) (laws : RayLaws R) (small : AreBytes bytes) where
-  -- ---- any record at all
-
-  -- a step is the step on the lists that the walker's words stand for,
-  pub step-on-lists : (n : ℕ) (w : WalkerWords s) → InRange w
-      → decodedStep (nodeWordsAt bytes R) (stepAt bytes R n w) ≡ stepOf (nodeCount bytes) (testsOf (slotsAt bytes R n)) n (decoded (nodeWordsAt bytes R) w)
-  unfolding stepAt shapeAt
-  step-on-lists n w i =
-      step-decoded (nodeCount bytes) (nodeWordsAt bytes R) (positionsOf (slotsAt bytes R n)) (childrenOf (slotsAt bytes R n)) (masks-decode (slotsAt bytes R n) (maskAt bytes R) (mask-laws bytes R laws n small)) n w i
-
-  -- and every query ends
+module _ {s d : Type 0} (bytes : List ℕ) (R : Rays s d) (laws : RayLaws R) (fit : FieldsFit bytes) where
+  -- every query ends, on any record at all
   pub query-halts : {a : Type 0} (react : ℕ → s → a → Reaction d a) (x : a) (n : ℕ) (r : s) → R .forged r ≡ false → Halted (queryAt bytes R react x n r .ended)
   unfolding queryAt shapeAt
-  query-halts react x n r f = query-words-halts (slotsAt bytes R n) (maskAt bytes R) (mask-laws bytes R laws n small) react n r x f
+  query-halts react x n r f = query-words-halts (slotsAt bytes R n) (maskAt bytes R) (mask-laws bytes R laws n fit) react n r x f
 
   module _ (n : ℕ) (sound : SoundRecord bytes n) (r : s) (accepted : R .forged r ≡ false) where
     -- ---- every list of steps and tellings from a walker just begun, refused steps included
@@ -44,34 +32,34 @@ module _ {s d : Type 0} (bytes : List ℕ) (R : Rays s d) (laws : RayLaws R) (sm
     -- no position is reported twice,
     pub calls-report-once : (l : List (Op d)) → List·Nodup (reported (runAt bytes R l (freshWords r) .answers))
     unfolding runAt shapeAt
-    calls-report-once = words-report-once (slotsAt bytes R n) (maskAt bytes R) (RuleAt bytes n) (slot-laws bytes R laws n) (mask-laws bytes R laws n small) sound r accepted
+    calls-report-once = words-report-once (slotsAt bytes R n) (maskAt bytes R) (RuleAt bytes n) (slot-laws bytes R laws n) (mask-laws bytes R laws n fit) sound r accepted
 
     -- and the waiting groups of the walker then held do not outnumber the deepest node's level
     pub calls-wait-few : (e : ℕ) → DeepestLevel bytes n e → (l : List (Op d)) → runAt bytes R l (freshWords r) .walker .depth ≤ e
     unfolding runAt shapeAt
-    calls-wait-few = words-wait-few (slotsAt bytes R n) (maskAt bytes R) (RuleAt bytes n) (slot-laws bytes R laws n) (mask-laws bytes R laws n small) sound r accepted
+    calls-wait-few = words-wait-few (slotsAt bytes R n) (maskAt bytes R) (RuleAt bytes n) (slot-laws bytes R laws n) (mask-laws bytes R laws n fit) sound r accepted
 
     module _ (few-positions : n ≤ 65536) (few-nodes : nodeCount bytes ≤ 65535) where
       -- where each step brings the record's own count of positions none is refused
       pub calls-answered : (l : List (Op d)) → All (Brings n) l → All Answered (runAt bytes R l (freshWords r) .answers)
       unfolding runAt shapeAt
-      calls-answered = words-answered (slotsAt bytes R n) (maskAt bytes R) (RuleAt bytes n) (slot-laws bytes R laws n) (mask-laws bytes R laws n small) sound r accepted few-positions few-nodes
+      calls-answered = words-answered (slotsAt bytes R n) (maskAt bytes R) (RuleAt bytes n) (slot-laws bytes R laws n) (mask-laws bytes R laws n fit) sound r accepted few-positions few-nodes
 
       -- ---- queries
 
       -- none is refused by the walk
       pub query-answered : {a : Type 0} (react : ℕ → s → a → Reaction d a) (x : a) → Ended (queryAt bytes R react x n r .ended)
       unfolding queryAt shapeAt
-      query-answered react x = query-words-answered (slotsAt bytes R n) (maskAt bytes R) (RuleAt bytes n) (slot-laws bytes R laws n) (mask-laws bytes R laws n small) sound r accepted few-positions few-nodes react x
+      query-answered react x = query-words-answered (slotsAt bytes R n) (maskAt bytes R) (RuleAt bytes n) (slot-laws bytes R laws n) (mask-laws bytes R laws n fit) sound r accepted few-positions few-nodes react x
 
       pub any-hit-done : anyHitAt bytes R n r .ended ≡ done
       unfolding anyHitAt queryAt shapeAt
-      any-hit-done = any-hit-words-done (slotsAt bytes R n) (maskAt bytes R) (RuleAt bytes n) (slot-laws bytes R laws n) (mask-laws bytes R laws n small) sound r accepted few-positions few-nodes
+      any-hit-done = any-hit-words-done (slotsAt bytes R n) (maskAt bytes R) (RuleAt bytes n) (slot-laws bytes R laws n) (mask-laws bytes R laws n fit) sound r accepted few-positions few-nodes
 
       -- any-hit's list is the first node's listing
       pub any-hit-listing : anyHitAt bytes R n r .noted ≡ listingAt bytes R n r
       unfolding anyHitAt queryAt shapeAt
-      any-hit-listing = any-hit-words-listing (slotsAt bytes R n) (maskAt bytes R) (RuleAt bytes n) (slot-laws bytes R laws n) (mask-laws bytes R laws n small) sound r accepted few-positions few-nodes
+      any-hit-listing = any-hit-words-listing (slotsAt bytes R n) (maskAt bytes R) (RuleAt bytes n) (slot-laws bytes R laws n) (mask-laws bytes R laws n fit) sound r accepted few-positions few-nodes
 
       -- and a node's listing its passed positions, then its reached children's listings, each in the order of the walk
       pub listing-order : (v : ℕ) → v < nodeCount bytes
@@ -102,24 +90,28 @@ module _ {s d : Type 0} (bytes : List ℕ) (R : Rays s d) (laws : RayLaws R) (sm
       pub any-hit-exact : (p : ℕ) → In p (anyHitAt bytes R n r .noted) ↔ Passed bytes n (R .ray r) p
       unfolding anyHitAt queryAt shapeAt
       any-hit-exact p =
-          let i = any-hit-words-exact (slotsAt bytes R n) (maskAt bytes R) (RuleAt bytes n) (slot-laws bytes R laws n) (mask-laws bytes R laws n small) sound r accepted few-positions few-nodes p in
+          let i = any-hit-words-exact (slotsAt bytes R n) (maskAt bytes R) (RuleAt bytes n) (slot-laws bytes R laws n) (mask-laws bytes R laws n fit) sound r accepted few-positions few-nodes p in
           (λ x. passed-to p (i .0 x), λ y. i .1 (passed-from p y))
 
       -- once
       pub any-hit-nodup : List·Nodup (anyHitAt bytes R n r .noted)
       unfolding anyHitAt queryAt shapeAt
-      any-hit-nodup = any-hit-words-nodup (slotsAt bytes R n) (maskAt bytes R) (RuleAt bytes n) (slot-laws bytes R laws n) (mask-laws bytes R laws n small) sound r accepted few-positions few-nodes
+      any-hit-nodup = any-hit-words-nodup (slotsAt bytes R n) (maskAt bytes R) (RuleAt bytes n) (slot-laws bytes R laws n) (mask-laws bytes R laws n fit) sound r accepted few-positions few-nodes
+
+      pub any-hit-most : length (anyHitAt bytes R n r .noted) ≤ n
+      unfolding anyHitAt queryAt shapeAt
+      any-hit-most = any-hit-words-most (slotsAt bytes R n) (maskAt bytes R) (RuleAt bytes n) (slot-laws bytes R laws n) (mask-laws bytes R laws n fit) sound r accepted few-positions few-nodes
 
       pub any-hit-counts : (p : ℕ)
           → (Passed bytes n (R .ray r) p → count p (anyHitAt bytes R n r .noted) ≡ 1) × (¬ (Passed bytes n (R .ray r) p) → count p (anyHitAt bytes R n r .noted) ≡ 0)
       unfolding anyHitAt queryAt shapeAt
       any-hit-counts p =
-          let i = any-hit-words-counts (slotsAt bytes R n) (maskAt bytes R) (RuleAt bytes n) (slot-laws bytes R laws n) (mask-laws bytes R laws n small) sound r accepted few-positions few-nodes p in
+          let i = any-hit-words-counts (slotsAt bytes R n) (maskAt bytes R) (RuleAt bytes n) (slot-laws bytes R laws n) (mask-laws bytes R laws n fit) sound r accepted few-positions few-nodes p in
           (λ q. i .0 (passed-from p q), λ q. i .1 (λ y. q (passed-to p y)))
 
       -- its tests are the nodes reached: as many as a list has that holds each of them once and no other node
       pub any-hit-tests : (l : List ℕ) × List·Nodup l × ((v : ℕ) → In v l ↔ Reached bytes (R .ray r) v) × (anyHitAt bytes R n r .walker .tests ≡ length l)
       unfolding anyHitAt queryAt shapeAt
       any-hit-tests =
-          let t = any-hit-words-tests (slotsAt bytes R n) (maskAt bytes R) (RuleAt bytes n) (slot-laws bytes R laws n) (mask-laws bytes R laws n small) sound r accepted few-positions few-nodes in
+          let t = any-hit-words-tests (slotsAt bytes R n) (maskAt bytes R) (RuleAt bytes n) (slot-laws bytes R laws n) (mask-laws bytes R laws n fit) sound r accepted few-positions few-nodes in
           (t .0, t .1, λ v. (λ i. reached-to v (t .2 v .0 i), λ q. t .2 v .1 (reached-from v q)), t .3)

@@ -30,7 +30,7 @@ use Rattle.walk.specs.Slots.{passedChild, passedPosition, SlotLaws}
 use Rattle.walk.specs.Words.{isSet}
 use Rattle.walk.specs.Masks.{MaskLaws}
 use Rattle.walk.proofs.Slots.{child-tells, position-tells}
-use Rattle.walk_record.specs.Record.{Rays, RayLaws, AreBytes, slotsAt, maskAt}
+use Rattle.walk_record.specs.Record.{Rays, RayLaws, FieldsFit, slotsAt, maskAt}
 
 -- ---- what the rule says of a leaf range
 
@@ -137,15 +137,20 @@ mask-lt v r octant = or-of-lt 32 8 (slotHit v r octant) (λ k l. small (passesSl
     small true meta = mod-lt (childBits meta * 2 ^ bitIndex octant meta) (pow-pos 32)
     small false meta = pow-pos 32
 
-module _ {s d : Type 0} (bytes : List ℕ) (R : Rays s d) (laws : RayLaws R) (n : ℕ) (small : AreBytes bytes) where
+-- bytes fit
+pub bytes-fit : (bytes : List ℕ) → ((i : ℕ) → getD bytes i 0 < 256) → FieldsFit bytes
+unfolding nodeFrom
+bytes-fit bytes h = record { imask = λ v l. h (80 * v + 15); childBase = λ v l. le-lt 4 bytes (80 * v + 16) (λ i k. h (80 * v + 16 + i)) }
+
+module _ {s d : Type 0} (bytes : List ℕ) (R : Rays s d) (laws : RayLaws R) (n : ℕ) (fit : FieldsFit bytes) where
   pub mask-laws : MaskLaws (slotsAt bytes R n) (maskAt bytes R)
-  unfolding shapeAt nodeFrom
+  unfolding shapeAt
   mask-laws = record {
     octant-lt = laws .octant-lt;
     octant-told = laws .octant-told;
     mask-lt = λ r v. mask-lt (nodeAt bytes v) (R .ray r) (R .octant r);
-    imask-lt = λ v. small (80 * v + 15);
-    child-base-lt = λ v. le-lt 4 bytes (80 * v + 16) (λ i l. small (80 * v + 16 + i));
+    imask-lt = fit .imask;
+    child-base-lt = fit .childBase;
     position-bit = λ r k v b f h e l. position-bit bytes R laws n r k v b f e l;
     child-bit = λ r k v i f h e l. child-bit bytes R laws n r k v i f e l;
   }

@@ -1,3 +1,5 @@
 pub mod Laws
+pub mod Steps
 pub mod Demands
 pub mod Beam
+pub mod Example

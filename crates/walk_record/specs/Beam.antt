@@ -11,6 +11,10 @@ pub record Beam : Type 0 where
   pub ray : Ray
   pub octant : ℕ
 
+-- the ray of a walker just begun
+abbrev pub beamOf : Ray → Beam
+beamOf r = record { ray = r; octant = octantOf (r .direction) }
+
 -- the inverse is the direction's
 abbrev pub ownInverse : Ray → Bool
 ownInverse r =

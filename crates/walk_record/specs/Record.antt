@@ -2,8 +2,7 @@
 use mathlib.Core.Bool.{Bool, true, false}
 use mathlib.Core.List.{List}
 use mathlib.Core.Path.{_≡_}
-use Prim.Native.Nat.{ℕ, _<_}
-use lib.ListN.{getD}
+use Prim.Native.Nat.{ℕ, _^_, _<_}
 use Rattle.ray.specs.declared.Ray.{Ray}
 use Rattle.node.specs.Node.{nodeAt}
 use Rattle.rule.specs.Rule.{nodeRule}
@@ -25,9 +24,10 @@ pub record RayLaws {s d : Type 0} (R : Rays s d) : Type 0 where
   pub octant-told : (x : d) (r : s) → R .octant (R .told x r) ≡ R .octant r
   pub told-accepted : (x : d) (r : s) → R .forged r ≡ false → R .forged (R .told x r) ≡ false
 
--- each number of a list is a byte
-abbrev pub AreBytes : List ℕ → Type 0
-AreBytes bytes = (i : ℕ) → getD bytes i 0 < 256
+-- Each node's imask is a byte and its child_base_idx a word of 32 bits, as in any list of bytes.
+pub record FieldsFit (bytes : List ℕ) : Type 0 where
+  pub imask : (v : ℕ) → v < nodeCount bytes → nodeAt bytes v .imask < 256
+  pub childBase : (v : ℕ) → v < nodeCount bytes → nodeAt bytes v .«child_base_idx» < 2 ^ 32
 
 module _ {s d : Type 0} (bytes : List ℕ) (R : Rays s d) where
   -- the slots of a record of n positions; there is no test of single positions
