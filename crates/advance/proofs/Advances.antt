@@ -8,26 +8,30 @@ use Rattle.faststack.specs.Stack.{topOf}
 use Rattle.record_shape.specs.Record.{nodeCount}
 use Rattle.walk.specs.Step as S
 use Rattle.walk.specs.Words.{unpacked, waitingDepth}
-use Rattle.walk.specs.WordStep.{WalkerWords, stayWords, reportWords, visitWords, advanceWords}
+use Rattle.walk.specs.WordStep.{WalkerWords, stayWords, reportWords, visitWords, popWords, advanceWords}
 use Rattle.walk.proofs.Stacks.{waiting-child, waiting-most}
 use Rattle.walk_record.specs.Beam.{Beam, beams}
 use Rattle.walk_record.specs.Record.{nodeWordsAt}
 
 module _ (bytes : List ℕ) (n : ℕ) (w : WalkerWords Beam) where
   pub due-report : 0 < w .positions .bits → reportWords (nodeCount bytes) (nodeWordsAt bytes beams) n w ≡ advanceWords (nodeCount bytes) (nodeWordsAt bytes beams) n w
+  unfolding advanceWords popWords
   due-report h = rw (lt-ltb 0 (w .positions .bits) h)
 
   module _ (none : w .positions .bits ≤ 0) where
     pub due-group : 0x100_0000 ≤ w .current .bits
         → visitWords (nodeCount bytes) (nodeWordsAt bytes beams) n w (w .current) (w .depth) ≡ advanceWords (nodeCount bytes) (nodeWordsAt bytes beams) n w
+    unfolding advanceWords popWords
     due-group h = rw (le-ltb 0 (w .positions .bits) none, le-leb 0x100_0000 (w .current .bits) h)
 
     module _ (empty : w .current .bits < 0x100_0000) (d : ℕ) (e : d ≡ waitingDepth (w .stack) (w .depth)) where
       pub due-none : d ≡ 0 → stayWords w S.done ≡ advanceWords (nodeCount bytes) (nodeWordsAt bytes beams) n w
+      unfolding advanceWords popWords
       due-none z = rw (le-ltb 0 (w .positions .bits) none, lt-leb 0x100_0000 (w .current .bits) empty, le-ltb 0 (waitingDepth (w .stack) (w .depth)) (omega arith))
 
       pub due-stack : 0 < d → (word : ℕ) → word ≡ topOf (w .stack) d
           → visitWords (nodeCount bytes) (nodeWordsAt bytes beams) n w (record { base = word % 2 ^ 32; bits = word / 2 ^ 32 }) (d - 1) ≡ advanceWords (nodeCount bytes) (nodeWordsAt bytes beams) n w
+      unfolding advanceWords popWords
       due-stack h word f =
           ap (λ (x : ℕ). visitWords (nodeCount bytes) (nodeWordsAt bytes beams) n w (unpacked x) (d - 1)) (f ∙ ap (topOf (w .stack)) e)
           ∙ ap (λ (x : ℕ). visitWords (nodeCount bytes) (nodeWordsAt bytes beams) n w (unpacked (topOf (w .stack) (waitingDepth (w .stack) (w .depth)))) (x - 1)) e

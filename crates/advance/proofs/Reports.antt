@@ -53,10 +53,13 @@ reported w p bits c k stack e f = λ i. record {
 
 module _ (m n : ℕ) (bytes : List ℕ) (w : WalkerWords Beam) where
   pub report-none : m ≡ 0 → stayWords w (S.refused 10) ≡ reportWords m (nodeWordsAt bytes beams) n w
+  unfolding reportWords
   report-none e = rw (le-leb m 0 (omega arith))
 
   pub report-past : (m ≡ 0 → ⊥) → n ≤ W.firstPosition (w .positions) → stayWords w (S.refused 10) ≡ reportWords m (nodeWordsAt bytes beams) n w
+  unfolding reportWords
   report-past z h = rw (lt-leb m 0 (omega arith), le-leb n (W.firstPosition (w .positions)) h)
 
   pub report-made : (m ≡ 0 → ⊥) → W.firstPosition (w .positions) < n → afterReportWords w ≡ reportWords m (nodeWordsAt bytes beams) n w
+  unfolding reportWords
   report-made z h = rw (lt-leb m 0 (omega arith), lt-leb n (W.firstPosition (w .positions)) h)

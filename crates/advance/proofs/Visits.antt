@@ -32,6 +32,7 @@ module _ (bytes : List ℕ) (n : ℕ) (w : WalkerWords Beam) (g : W.Group) (dept
   either false x y z e = refl
 
   pub visit-crowded : lacksRoom depth (W.restOf g .bits) ≡ true → stayWords w (S.refused 10) ≡ visitWords (nodeCount bytes) (nodeWordsAt bytes beams) n w g depth
+  unfolding visitWords
   visit-crowded e = rw e
 
   bad-is : lacksRoom depth (W.restOf g .bits) ≡ false → badChild (nodeCount bytes) (nodeWordsAt bytes beams) n w g depth ≡ isBad bytes n child (w .tests)
@@ -39,10 +40,12 @@ module _ (bytes : List ℕ) (n : ℕ) (w : WalkerWords Beam) (g : W.Group) (dept
   bad-is e = either (lacksRoom depth (W.restOf g .bits)) (leb (nodeCount bytes) child) (leb (nodeCount bytes) (w .tests)) (not (nodeRule (nodeAt bytes child) (nodeCount bytes) n child)) e
 
   pub visit-bad : lacksRoom depth (W.restOf g .bits) ≡ false → isBad bytes n child (w .tests) ≡ true → stayWords w (S.refused 10) ≡ visitWords (nodeCount bytes) (nodeWordsAt bytes beams) n w g depth
+  unfolding visitWords
   visit-bad e f = sym (ap (λ (b : Bool). cond b (stayWords w (S.refused 10)) (afterTestWords (nodeCount bytes) (nodeWordsAt bytes beams) w g depth)) (bad-is e ∙ f))
 
   visit-good : lacksRoom depth (W.restOf g .bits) ≡ false → isBad bytes n child (w .tests) ≡ false
       → afterTestWords (nodeCount bytes) (nodeWordsAt bytes beams) w g depth ≡ visitWords (nodeCount bytes) (nodeWordsAt bytes beams) n w g depth
+  unfolding visitWords
   visit-good e f = sym (ap (λ (b : Bool). cond b (stayWords w (S.refused 10)) (afterTestWords (nodeCount bytes) (nodeWordsAt bytes beams) w g depth)) (bad-is e ∙ f))
 
   -- the walker after a test

@@ -8,11 +8,11 @@ use Rattle.lists.specs.Splice.{splice}
 use Rattle.ray.specs.declared.Ray.{Ray}
 use Rattle.walk.specs.Step as S
 use Rattle.walk.specs.WordQueries.{OutcomeWords}
-use Rattle.walk_record.specs.Beam.{Beam, beams}
+use Rattle.walk_record.specs.Beam.{Beam, beamOf, beams}
 use Rattle.walk_record.specs.Walk.{anyHitAt}
-use Rattle.cwbvh.specs.Ray.{beamOf, entryCause}
-use Rattle.cwbvh.specs.declared.AnyHit.{AnyHit}
-use Rattle.cwbvh.specs.declared.AnyHit.the-variants.{Listed, Short, Refused}
+use Rattle.query.specs.Entry.{entryCause}
+use Rattle.any_hit.specs.declared.AnyHit.{AnyHit}
+use Rattle.any_hit.specs.declared.AnyHit.the-variants.{Listed, Short, Refused}
 
 -- so many positions listed after so many tests; or refused with a number; or refused with a number and the length needed
 pub data Answer : Type 0 where
@@ -42,7 +42,7 @@ walked o (S.refused k) room = refused k
 unfoldable pub anyHitOf : List ℕ → ℕ → Ray → ℕ → Answer
 unfolding entryCause walked anyHitAt
 anyHitOf bytes n r room =
-    elim (entryCause true bytes n r) [ suc k ↦ refused (suc k) | zero ↦ let o = anyHitAt bytes beams n (beamOf r) in walked o (o .ended) room ]
+    elim (entryCause true (length bytes) n r) [ suc k ↦ refused (suc k) | zero ↦ let o = anyHitAt bytes beams n (beamOf r) in walked o (o .ended) room ]
 
 -- the list at the end: the positions in front of what was there, and at a refusal as it was
 unfoldable pub listFor : Answer → List ℕ → List ℕ → List ℕ

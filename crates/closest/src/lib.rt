@@ -1,11 +1,4 @@
-// Queries over a record (cwbvh/mod.rs): any-hit, closest and miss.
-
-// How any-hit ends: so many positions listed after so many node tests; or the list is short, refused 11 with the length needed; or refused for another cause.
-pub enum AnyHit {
-    Listed(u32, u32),
-    Short(u32),
-    Refused(u32),
-}
+// Closest and miss over a record and its panes (cwbvh/mod.rs, ray_traverse and ray_traverse_miss).
 
 // How closest ends: a hit with its position and distance, no hit, or refused for the cause of this number.
 pub enum Closest {

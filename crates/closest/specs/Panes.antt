@@ -12,13 +12,13 @@ use Rattle.aabb.specs.Aabb.{acceptedBox, entryDistance}
 use Rattle.walk.specs.Step as S
 use Rattle.walk.specs.Queries.{Pane, distance, faulty, Found, none, hit, fault, closest, miss}
 use Rattle.walk.specs.WordQueries.{OutcomeWords}
-use Rattle.walk_record.specs.Beam.{Beam, beams}
+use Rattle.walk_record.specs.Beam.{Beam, beamOf, beams}
 use Rattle.walk_record.specs.Walk.{queryAt}
-use Rattle.cwbvh.specs.Ray.{beamOf, entryCause}
-use Rattle.cwbvh.specs.declared.Closest.{Closest}
-use Rattle.cwbvh.specs.declared.Closest.the-variants as C
-use Rattle.cwbvh.specs.declared.Miss.{Miss}
-use Rattle.cwbvh.specs.declared.Miss.the-variants as M
+use Rattle.query.specs.Entry.{entryCause}
+use Rattle.closest.specs.declared.Closest.{Closest}
+use Rattle.closest.specs.declared.Closest.the-variants as C
+use Rattle.closest.specs.declared.Miss.{Miss}
+use Rattle.closest.specs.declared.Miss.the-variants as M
 
 -- ---- panes
 
@@ -89,7 +89,7 @@ walked refuse found o (S.refused k) = record { answer = refuse k; tests = 0 }
 module _ (bytes indices : List ℕ) (panes : List Float) (r : Ray) where
   -- the first of causes 1, 2 and 9
   abbrev pub paneCause : ℕ
-  paneCause = entryCause (eqb (length panes % 6) 0) bytes (length indices) r
+  paneCause = entryCause (eqb (length panes % 6) 0) (length bytes) (length indices) r
 
   -- the walks that they take: closest notes and tells each distance below the reach, so that a tie keeps the first met; miss stops at the first
   unfoldable pub closestWalk : OutcomeWords Beam (Found Float)

@@ -1,3 +1,0 @@
-pub mod Ray
-pub mod AnyHit
-pub mod Panes
