@@ -1,0 +1,4 @@
+pub mod Turned
+pub mod Tests
+pub mod Begun
+pub mod Steps
