@@ -20,7 +20,7 @@ module _ (w : WalkerWords Beam) (a : Answer) (p c : W.Group) (d : ℕ) (s : List
   after-tested v u e f = (λ i. record { walker = record { ray = w .ray; tests = f i; positions = p; current = c; depth = d; stack = s }; answer = S.tested v }) ∙ answered (Tested v) e
 
   pub after-position : (q : ℕ) → a ≡ Position q
-      → record { walker = record { ray = w .ray; tests = w .tests; positions = p; current = w .current; depth = w .depth; stack = w .stack }; answer = S.position q } ≡ turned w a p c d s
+      → record { walker = record { ray = w .ray; tests = w .tests; positions = p; current = w .current; depth = w .depth; stack = s }; answer = S.position q } ≡ turned w a p c d s
   unfolding turned
   after-position q e = answered (Position q) e
 

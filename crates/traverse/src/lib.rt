@@ -180,7 +180,11 @@ fn after(w: Walker, t: Turn, stack: [u64; 32]) -> Stepped
             Stepped { walker, answer }
         }
         Answer::Position(p) => {
-            let walker = Walker { positions, ..w };
+            let walker = Walker {
+                positions,
+                stack,
+                ..w
+            };
             Stepped { walker, answer }
         }
         Answer::Done => Stepped { walker: w, answer },
