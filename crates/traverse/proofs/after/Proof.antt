@@ -30,8 +30,8 @@ returns c =
 returns-2 : tie.Need-returns-2
 unfolding answerOf
 returns-2 c =
-    let a = c .before .before .before .before .before .before .before .before .args in
-    after-position (wordsOf (a .w)) (a .t .answer) (groupOf (a .t .positions)) (groupOf (a .t .current)) (a .t .depth) (a .stack) _ (c .before .before .before .before .answer2 .given .1)
+    let a = c .before .before .before .before .before .before .before .args in
+    after-position (wordsOf (a .w)) (a .t .answer) (groupOf (a .t .positions)) (groupOf (a .t .current)) (a .t .depth) (a .stack) _ (c .before .before .before .answer2 .given .1)
 
 returns-3 : tie.Need-returns-3
 unfolding answerOf
