@@ -4,5 +4,7 @@ pub mod Boxes
 pub mod Answered
 pub mod Sound
 pub mod Children
+pub mod Fields
 pub mod Demands
 pub mod Refusals
+pub mod Walks
