@@ -1,14 +1,16 @@
 -- Any-hit (01, "Walking"; "Causes of refusal", 10 and 11): the positions that a walk reports, in its order.
 use mathlib.Core.Bool.{true, false}
 use mathlib.Core.List.{List}
-use Prim.Native.Nat.{ℕ, zero, suc}
+use mathlib.Core.Path.{_≡_}
+use Prim.Native.Nat.{ℕ, zero, suc, _%_, _≤_, _<_}
 use lib.Dec.{leb}
-use lib.ListN.{length}
+use lib.ListN.{length, take}
 use Rattle.lists.specs.Splice.{splice}
 use Rattle.ray.specs.declared.Ray.{Ray}
+use Rattle.record_shape.specs.Record.{nodeCount}
 use Rattle.walk.specs.Step as S
 use Rattle.walk.specs.WordQueries.{OutcomeWords}
-use Rattle.walk_record.specs.Beam.{Beam, beamOf, beams}
+use Rattle.walk_record.specs.Beam.{Beam, beamOf, forgedBeam, beams}
 use Rattle.walk_record.specs.Walk.{anyHitAt}
 use Rattle.query.specs.Entry.{entryCause}
 use Rattle.any_hit.specs.declared.AnyHit.{AnyHit}
@@ -26,23 +28,27 @@ answerOf (Listed count tests) = listed count tests
 answerOf (Short needed) = lacking 11 needed
 answerOf (Refused number) = refused number
 
--- a list that is long enough, or short
-unfoldable pub fitted : List ℕ → (tests room : ℕ) → Answer
-fitted l tests room = elim (leb (length l) room) [ true ↦ listed (length l) tests | false ↦ lacking 11 (length l) ]
+-- a list that is long enough for so many positions, or short
+unfoldable pub fitted : (count tests room : ℕ) → Answer
+fitted count tests room = elim (leb count room) [ true ↦ listed count tests | false ↦ lacking 11 count ]
 
 -- how a walk ended: its refusals come before a short list. (A walk ends with done or a refusal: law query-halts.)
 unfoldable pub walked : OutcomeWords Beam (List ℕ) → S.Answer → ℕ → Answer
 unfolding fitted
 walked o (S.tested v) room = refused 10
 walked o (S.position p) room = refused 10
-walked o S.done room = fitted (o .noted) (o .walker .tests) room
+walked o S.done room = fitted (length (o .noted)) (o .walker .tests) room
 walked o (S.refused k) room = refused k
+
+-- the answer of a whole walk, with room for so many positions
+unfoldable pub walkOf : List ℕ → ℕ → Beam → ℕ → Answer
+unfolding walked anyHitAt
+walkOf bytes n b room = let o = anyHitAt bytes beams n b in walked o (o .ended) room
 
 -- the answer for a record, n positions, a ray, and room for so many positions
 unfoldable pub anyHitOf : List ℕ → ℕ → Ray → ℕ → Answer
-unfolding entryCause walked anyHitAt
-anyHitOf bytes n r room =
-    elim (entryCause true (length bytes) n r) [ suc k ↦ refused (suc k) | zero ↦ let o = anyHitAt bytes beams n (beamOf r) in walked o (o .ended) room ]
+unfolding entryCause walkOf
+anyHitOf bytes n r room = elim (entryCause true (length bytes) n r) [ suc k ↦ refused (suc k) | zero ↦ walkOf bytes n (beamOf r) room ]
 
 -- the list at the end: the positions in front of what was there, and at a refusal as it was
 unfoldable pub listFor : Answer → List ℕ → List ℕ → List ℕ
@@ -53,3 +59,25 @@ listFor (lacking number needed) found before = before
 unfoldable pub listAfter : List ℕ → ℕ → Ray → List ℕ → List ℕ
 unfolding anyHitOf listFor
 listAfter bytes n r before = listFor (anyHitOf bytes n r (length before)) (anyHitAt bytes beams n (beamOf r) .noted) before
+
+-- ---- one walk, which writes as it goes
+
+abbrev pub beamWith : Ray → ℕ → Beam
+beamWith ray octant = record { ray = ray; octant = octant }
+
+-- what it asks: a record of whole nodes within the bounds, at least one of them, and a ray that is not forged
+pub record Ready (bytes : List ℕ) (n : ℕ) (b : Beam) : Type 0 where
+  pub whole : length bytes % 80 ≡ 0
+  pub some : 0 < nodeCount bytes
+  pub nodes : nodeCount bytes ≤ 65535
+  pub positions : n ≤ 65536
+  pub accepted : forgedBeam b ≡ false
+
+-- positions in front of what was there, as many as there is room for
+abbrev pub metIn : List ℕ → List ℕ → List ℕ
+metIn before found = splice before 0 (take (length before) found)
+
+-- the positions that the walk reports, refused or not, written so
+unfoldable pub metOf : List ℕ → ℕ → Beam → List ℕ → List ℕ
+unfolding anyHitAt
+metOf bytes n b before = metIn before (anyHitAt bytes beams n b .noted)
