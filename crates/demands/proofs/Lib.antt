@@ -7,4 +7,5 @@ pub mod Children
 pub mod Fields
 pub mod Demands
 pub mod Refusals
+pub mod Listed
 pub mod Walks
