@@ -8,4 +8,6 @@ pub mod Fields
 pub mod Demands
 pub mod Refusals
 pub mod Listed
+pub mod SoundWalks
 pub mod Walks
+pub mod Runs
