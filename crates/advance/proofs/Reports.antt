@@ -43,10 +43,10 @@ unfolding turned
 turned-done w t stack e = ap (λ (a : Answer). turned w a (groupOf (t .positions)) (groupOf (t .current)) (t .depth) stack) e
 
 -- ---- a report
-pub reported : (w : WalkerWords Beam) (p bits : ℕ) (c : W.Group) (k : ℕ) (stack : List ℕ) → p ≡ W.firstPosition (w .positions) → bits ≡ W.restOf (w .positions) .bits
-    → turned w (Position p) (record { base = w .positions .base; bits = bits }) c k stack ≡ afterReportWords w
+pub reported : (w : WalkerWords Beam) (p bits : ℕ) (c : W.Group) (k : ℕ) → p ≡ W.firstPosition (w .positions) → bits ≡ W.restOf (w .positions) .bits
+    → turned w (Position p) (record { base = w .positions .base; bits = bits }) c k (w .stack) ≡ afterReportWords w
 unfolding turned
-reported w p bits c k stack e f = λ i. record {
+reported w p bits c k e f = λ i. record {
   walker = record { ray = w .ray; tests = w .tests; positions = record { base = w .positions .base; bits = f i }; current = w .current; depth = w .depth; stack = w .stack };
   answer = S.position (e i);
 }

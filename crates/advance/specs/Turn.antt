@@ -34,12 +34,12 @@ abbrev pub holding : Ray → ℕ → ℕ → W.Group → W.Group → ℕ → Lis
 holding ray octant tests positions current depth stack =
     record { ray = record { ray = ray; octant = octant }; tests = tests; positions = positions; current = current; depth = depth; stack = stack }
 
--- the walker after a turn, `stack` being its stack after a test: a report leaves all but the positions, and an end or a refusal leaves all
+-- the walker after a turn, `stack` being its stack then: a report leaves all but the positions, and an end or a refusal leaves all
 unfoldable pub turned : WalkerWords Beam → Answer → W.Group → W.Group → ℕ → List ℕ → SteppedWords Beam
 turned w (Tested v) positions current depth stack =
     record { walker = record { ray = w .ray; tests = suc (w .tests); positions = positions; current = current; depth = depth; stack = stack }; answer = S.tested v }
 turned w (Position p) positions current depth stack =
-    record { walker = record { ray = w .ray; tests = w .tests; positions = positions; current = w .current; depth = w .depth; stack = w .stack }; answer = S.position p }
+    record { walker = record { ray = w .ray; tests = w .tests; positions = positions; current = w .current; depth = w .depth; stack = stack }; answer = S.position p }
 turned w Done positions current depth stack = stayWords w S.done
 turned w (Refused k) positions current depth stack = stayWords w (S.refused k)
 

@@ -54,7 +54,7 @@ returns-3 c = λ bytes ray octant tests current depth stack.
     let w = holding ray octant tests (groupOf (a .positions)) current depth stack in
     let e = highest-found (a .positions .bits) (h .highest .result) (h .highest .ensures) in
     let q : firstPosition (groupOf (a .positions)) < a .n = omega (arith, e, c .before .if2 .left) in
-    reported w (a .positions .base + h .highest .result) (c .clear-highest .result) (record { base = a .positions .base; bits = c .clear-highest .result }) 0 stack (ap (λ (x : ℕ). a .positions .base + x) e) (c .clear-highest .ensures .1 ∙ ap (λ (x : ℕ). a .positions .bits % 2 ^ x) e)
+    reported w (a .positions .base + h .highest .result) (c .clear-highest .result) (record { base = a .positions .base; bits = c .clear-highest .result }) 0 (ap (λ (x : ℕ). a .positions .base + x) e) (c .clear-highest .ensures .1 ∙ ap (λ (x : ℕ). a .positions .bits % 2 ^ x) e)
     ∙ report-made (a .m) (a .n) bytes w (c .before .before .if1 .left) q
 
 pub report-spec : {M : Type 1} → statement M
