@@ -35,7 +35,7 @@ pub refuses-deep : (c : Call) → Convertible c → outcome c .answer ≡ refuse
 refuses-deep c = A.refused-eight (c .words) (c .indices) (c .limit) (c .ordered) (c .decisions) (c .costs) (c .bytes) (c .list)
 
 module _ (c : Call) (m d : ℕ) (answers : Answers c m d) where
-  good-record : Good (recordAt c m) (leafCount c) d
+  pub good-record : Good (recordAt c m) (leafCount c) d
   good-record = subst (λ (n : ℕ). Good (recordAt c m) n d) (leaf-count c m d answers) (good _ (c .indices) (recordAt c m) (listAt c) d (writes c m d answers))
 
   -- A call that is answered was convertible, and its record and its index list are the defined ones.

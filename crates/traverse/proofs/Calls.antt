@@ -1,0 +1,32 @@
+-- On a record of whole nodes the calls are those of the machine of words.
+use mathlib.Core.Path.{_≡_, refl, ap, _∙_}
+use mathlib.Core.Bool.{Bool, true, false}
+use mathlib.Core.List.{List, [], _∷_}
+use Prim.Native.Nat.{ℕ, _%_}
+use lib.ListN.{length}
+use lib.Ieee.{Float}
+use borrow.Author.Tests.{eq-eqb}
+use Rattle.walk.specs.Step as S
+use Rattle.walk.specs.Calls.{Op, step, tell}
+use Rattle.walk.specs.WordStep.{WalkerWords, SteppedWords, runWords, stayWords}
+use Rattle.walk_record.specs.Beam.{Beam, beams}
+use Rattle.walk_record.specs.Walk.{stepAt, runAt}
+use Rattle.traverse.specs.Walker.{stepBytes}
+use Rattle.traverse.specs.Calls.{runBytes}
+
+module _ (bytes : List ℕ) (whole : length bytes % 80 ≡ 0) where
+  pub step-whole : (n : ℕ) (w : WalkerWords Beam) → stepBytes bytes n w ≡ stepAt bytes beams n w
+  unfolding stepBytes
+  step-whole n w = ap by (eq-eqb (length bytes % 80) 0 whole)
+    where
+      by : Bool → SteppedWords Beam
+      by a = elim a [ false ↦ stayWords w (S.refused 1) | true ↦ stepAt bytes beams n w ]
+
+  pub run-whole : (l : List (Op Float)) (w : WalkerWords Beam) → runBytes bytes l w ≡ runAt bytes beams l w
+  unfolding runBytes runAt runWords stepAt
+  run-whole [] w = refl
+  run-whole (step n ∷ l) w =
+      let e = step-whole n w in
+      let r = run-whole l (stepBytes bytes n w .walker) ∙ ap (λ (x : SteppedWords Beam). runAt bytes beams l (x .walker)) e in
+      λ i. record { walker = r i .walker; answers = e i .answer ∷ r i .answers }
+  run-whole (tell t ∷ l) w = run-whole l _

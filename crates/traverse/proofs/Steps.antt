@@ -1,0 +1,126 @@
+-- A step by its parts, and telling.
+use mathlib.Core.Path.{_≡_, refl, sym, ap, _∙_, subst}
+use mathlib.Core.Bool.{Bool, true, false, _&&_, _||_, cond}
+use mathlib.Core.List.{List}
+use Prim.Native.Nat.{ℕ, _%_, _<_}
+use native.Mathlib.Omega.{arith}
+use lib.Dec.{eqb, leb, ltb, T}
+use lib.ListN.{length}
+use lib.Ieee.{Float, lt}
+use borrow.Author.Tests.{leb-true, eqb-true, ltb-false}
+use Rattle.record_shape.specs.Record.{nodeCount}
+use Rattle.walk.specs.Step as S
+use Rattle.walk.specs.Step.{sizesFit}
+use Rattle.walk.specs.WordStep.{WalkerWords, SteppedWords, stayWords, advanceWords, stepWords}
+use Rattle.walk_record.specs.Beam.{Beam, forgedBeam, reaching, beams}
+use Rattle.walk_record.proofs.Beam.{beam-laws}
+use Rattle.walk_record.specs.Record.{nodeWordsAt}
+use Rattle.walk_record.specs.Walk.{stepAt}
+use Rattle.advance.specs.Turn.{Walkable}
+use Rattle.traverse.specs.Walker.{sizesCause, stepBytes, isForged, isOver, toldWalker}
+
+-- ---- telling
+module _ (w : WalkerWords Beam) (t : Float) where
+  abbrev told : Bool → WalkerWords Beam
+  told b = record {
+    ray = record { ray = cond b (reaching t (w .ray .ray)) (w .ray .ray); octant = w .ray .octant };
+    tests = w .tests;
+    positions = w .positions;
+    current = w .current;
+    depth = w .depth;
+    stack = w .stack;
+  }
+
+  pub told-nearer : lt t (w .ray .ray .tmax) ≡ true → told true ≡ toldWalker t w
+  told-nearer e = sym (ap told e)
+
+  pub told-farther : lt t (w .ray .ray .tmax) ≡ false → told false ≡ toldWalker t w
+  told-farther e = sym (ap told e)
+
+-- ---- a step
+module _ (bytes : List ℕ) (n : ℕ) (w : WalkerWords Beam) where
+  abbrev m : ℕ
+  m = nodeCount bytes
+
+  -- by four tests: the length, the sizes, forged, and a record without nodes
+  abbrev by : Bool → Bool → Bool → Bool → SteppedWords Beam
+  by a b c d =
+      elim a [
+        | false ↦ stayWords w (S.refused 1)
+        | true ↦ cond b (cond c (stayWords w (S.refused 10)) (cond d (stayWords w S.done) (advanceWords m (nodeWordsAt bytes beams) n w))) (stayWords w (S.refused 2))
+      ]
+
+  abbrev forged : Bool
+  forged = isForged (w .ray .ray) (w .ray .octant) (w .depth) (w .tests) m
+
+  abbrev over : Bool
+  over = isOver m (w .positions) (w .current) (w .depth) (w .ray .octant)
+
+  is : stepBytes bytes n w ≡ by (eqb (length bytes % 80) 0) (sizesFit m n) forged over
+  unfolding stepBytes stepAt stepWords
+  is = refl
+
+  -- what the sizes say
+  pub step-sizes : (k : ℕ) → k ≡ sizesCause (length bytes) n → (k ≡ 0 → ⊥) → stayWords w (S.refused k) ≡ stepBytes bytes n w
+  unfolding sizesCause
+  step-sizes k e h = go (eqb (length bytes % 80) 0) refl (sizesFit m n) refl e ∙ sym is
+    where
+      go : (a : Bool) → eqb (length bytes % 80) 0 ≡ a → (b : Bool) → sizesFit m n ≡ b → k ≡ elim a as (λ (x : Bool). ℕ) [ false ↦ 1 | true ↦ elim b as (λ (x : Bool). ℕ) [ false ↦ 2 | true ↦ 0 ] ]
+          → stayWords w (S.refused k) ≡ by (eqb (length bytes % 80) 0) (sizesFit m n) forged over
+      go false p b q z = ap (λ (x : ℕ). stayWords w (S.refused x)) z ∙ sym (λ i. by (p i) (q i) forged over)
+      go true p false q z = ap (λ (x : ℕ). stayWords w (S.refused x)) z ∙ sym (λ i. by (p i) (q i) forged over)
+      go true p true q z = absurd (h z)
+
+  pub record Fit : Type 0 where
+    pub whole : eqb (length bytes % 80) 0 ≡ true
+    pub sizes : sizesFit m n ≡ true
+
+  pub fits : (k : ℕ) → k ≡ sizesCause (length bytes) n → k ≡ 0 → Fit
+  unfolding sizesCause
+  fits k e z = go (eqb (length bytes % 80) 0) refl (sizesFit m n) refl (sym e ∙ z)
+    where
+      go : (a : Bool) → eqb (length bytes % 80) 0 ≡ a → (b : Bool) → sizesFit m n ≡ b → _≡_ {A = ℕ} (elim a as (λ (x : Bool). ℕ) [ false ↦ 1 | true ↦ elim b as (λ (x : Bool). ℕ) [ false ↦ 2 | true ↦ 0 ] ]) 0 → Fit
+      go false p b q h = absurd (omega (arith, h))
+      go true p false q h = absurd (omega (arith, h))
+      go true p true q h = record { whole = p; sizes = q }
+
+  module _ (f : Fit) where
+    pub step-forged : forged ≡ true → stayWords w (S.refused 10) ≡ stepBytes bytes n w
+    step-forged e = sym (λ i. by (f .whole i) (f .sizes i) (e i) over) ∙ sym is
+
+    module _ (own : forged ≡ false) where
+      pub step-over : over ≡ true → stayWords w S.done ≡ stepBytes bytes n w
+      step-over e = sym (λ i. by (f .whole i) (f .sizes i) (own i) (e i)) ∙ sym is
+
+      pub step-advances : over ≡ false → advanceWords m (nodeWordsAt bytes beams) n w ≡ stepBytes bytes n w
+      step-advances e = sym (λ i. by (f .whole i) (f .sizes i) (own i) (e i)) ∙ sym is
+
+    sizes-say : (a b : Bool) → (a && b) ≡ true → (a ≡ true) × (b ≡ true)
+    sizes-say true true e = (refl, refl)
+    sizes-say true false e = absurd (subst T (sym e) tt)
+    sizes-say false b e = absurd (subst T (sym e) tt)
+
+    own-say : (a b c : Bool) → (a || b || c) ≡ false → (a ≡ false) × (b ≡ false) × (c ≡ false)
+    own-say false false false e = (refl, refl, refl)
+    own-say false false true e = absurd (subst T e tt)
+    own-say false true c e = absurd (subst T e tt)
+    own-say true b c e = absurd (subst T e tt)
+
+    -- what the core asks, of a walker that is not forged
+    pub walks : forged ≡ false → Walkable bytes n (w .ray .octant) (w .depth) 32
+    walks e =
+        let s = sizes-say (leb n 65536) (leb m 65535) (f .sizes) in
+        let o = own-say (forgedBeam (w .ray)) (ltb 32 (w .depth)) (ltb m (w .tests)) e in
+        record {
+          whole = eqb-true (length bytes % 80) 0 (f .whole);
+          nodes = leb-true m 65535 (s .1);
+          positions = leb-true n 65536 (s .0);
+          eight = beam-laws .octant-lt (w .ray) (o .0);
+          deep = ltb-false 32 (w .depth) (o .1);
+          stack = omega arith;
+        }
+
+    pub tests-fit : forged ≡ false → w .tests < 65536
+    tests-fit e =
+        let o = own-say (forgedBeam (w .ray)) (ltb 32 (w .depth)) (ltb m (w .tests)) e in
+        omega (arith, ltb-false m (w .tests) (o .2), walks e .nodes)

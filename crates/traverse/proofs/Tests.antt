@@ -1,0 +1,145 @@
+-- What refuses a step, by the tests that the code makes in turn.
+use mathlib.Core.Path.{_≡_, sym, ap, _∙_}
+use mathlib.Core.Bool.{Bool, true, false, not, _&&_, _||_}
+use Prim.Native.Nat.{ℕ, _/_, _%_, _≤_, _<_}
+use native.Mathlib.Omega.{arith}
+use lib.Dec.{eqb, leb, ltb}
+use lib.Ieee.{Float, eq}
+use borrow.Author.Tests.{le-leb, lt-leb, lt-ltb, le-ltb, eq-eqb, ne-eqb}
+use Rattle.ray.specs.declared.Ray.{Ray}
+use Rattle.ray.specs.Ray.{safeInverse, octantOf, acceptedRay}
+use Rattle.walk.specs.Words as W
+use Rattle.walk_record.specs.Beam.{ownInverse, forgedBeam}
+use Rattle.traverse.specs.Walker.{sizesCause, isForged, isOver}
+
+-- ---- causes 1 and 2
+abbrev bySizes : Bool → Bool → Bool → ℕ
+bySizes a b c = elim a [ false ↦ 1 | true ↦ elim (b && c) [ false ↦ 2 | true ↦ 0 ] ]
+
+module _ (bytes n : ℕ) where
+  pub sizes-length : (bytes % 80 ≡ 0 → ⊥) → 1 ≡ sizesCause bytes n
+  unfolding sizesCause
+  sizes-length h = let e = ne-eqb (bytes % 80) 0 h in sym (λ i. bySizes (e i) (leb n 65536) (leb (bytes / 80) 65535))
+
+  module _ (whole : bytes % 80 ≡ 0) where
+    pub sizes-positions : 65536 < n → 2 ≡ sizesCause bytes n
+    unfolding sizesCause
+    sizes-positions h = let e = eq-eqb (bytes % 80) 0 whole in let f = lt-leb n 65536 h in sym (λ i. bySizes (e i) (f i) (leb (bytes / 80) 65535))
+
+    module _ (few : n ≤ 65536) where
+      pub sizes-nodes : 65535 < bytes / 80 → 2 ≡ sizesCause bytes n
+      unfolding sizesCause
+      sizes-nodes h =
+          let e = eq-eqb (bytes % 80) 0 whole in
+          let f = le-leb n 65536 few in
+          let g = lt-leb (bytes / 80) 65535 h in
+          sym (λ i. bySizes (e i) (f i) (g i))
+
+      pub sizes-none : bytes / 80 ≤ 65535 → 0 ≡ sizesCause bytes n
+      unfolding sizesCause
+      sizes-none h =
+          let e = eq-eqb (bytes % 80) 0 whole in
+          let f = le-leb n 65536 few in
+          let g = le-leb (bytes / 80) 65535 h in
+          sym (λ i. bySizes (e i) (f i) (g i))
+
+-- ---- a ray's own inverse and octant
+module _ (a b c : Bool) where
+  and-first : a ≡ false → false ≡ (a && b && c)
+  and-first e = sym (λ i. e i && b && c)
+
+  and-second : a ≡ true → b ≡ false → false ≡ (a && b && c)
+  and-second e f = sym (λ i. e i && f i && c)
+
+  and-last : a ≡ true → b ≡ true → c ≡ (a && b && c)
+  and-last e f = sym (λ i. e i && f i && c)
+
+module _ (r : Ray) (x y z : Float) (p : x ≡ safeInverse (r .direction .x)) (q : y ≡ safeInverse (r .direction .y)) (s : z ≡ safeInverse (r .direction .z)) where
+  abbrev ex : eq (r .inverse .x) x ≡ eq (r .inverse .x) (safeInverse (r .direction .x))
+  ex = ap (eq (r .inverse .x)) p
+
+  abbrev ey : eq (r .inverse .y) y ≡ eq (r .inverse .y) (safeInverse (r .direction .y))
+  ey = ap (eq (r .inverse .y)) q
+
+  abbrev ez : eq (r .inverse .z) z ≡ eq (r .inverse .z) (safeInverse (r .direction .z))
+  ez = ap (eq (r .inverse .z)) s
+
+  pub inverse-x : eq (r .inverse .x) x ≡ false → false ≡ ownInverse r
+  inverse-x e = and-first _ _ _ (sym ex ∙ e)
+
+  pub inverse-y : eq (r .inverse .x) x ≡ true → eq (r .inverse .y) y ≡ false → false ≡ ownInverse r
+  inverse-y e f = and-second _ _ _ (sym ex ∙ e) (sym ey ∙ f)
+
+  pub inverse-z : eq (r .inverse .x) x ≡ true → eq (r .inverse .y) y ≡ true → eq (r .inverse .z) z ≡ ownInverse r
+  inverse-z e f = ez ∙ and-last _ _ _ (sym ex ∙ e) (sym ey ∙ f)
+
+module _ (r : Ray) (octant : ℕ) where
+  pub forged-nine : acceptedRay r ≡ false → true ≡ forgedBeam (record { ray = r; octant = octant })
+  forged-nine e = ap not (and-first (acceptedRay r) (ownInverse r) (eqb octant (octantOf (r .direction))) e)
+
+  pub forged-inverse : acceptedRay r ≡ true → ownInverse r ≡ false → true ≡ forgedBeam (record { ray = r; octant = octant })
+  forged-inverse e f = ap not (and-second (acceptedRay r) (ownInverse r) (eqb octant (octantOf (r .direction))) e f)
+
+  pub forged-octant : acceptedRay r ≡ true → ownInverse r ≡ true → (o : ℕ) → o ≡ octantOf (r .direction) → not (eqb octant o) ≡ forgedBeam (record { ray = r; octant = octant })
+  forged-octant e f o g = ap (λ (k : ℕ). not (eqb octant k)) g ∙ ap not (and-last (acceptedRay r) (ownInverse r) (eqb octant (octantOf (r .direction))) e f)
+
+  module _ (depth tests m : ℕ) where
+    pub forged-ray : forgedBeam (record { ray = r; octant = octant }) ≡ true → true ≡ isForged r octant depth tests m
+    forged-ray e = sym (λ i. e i || ltb 32 depth || ltb m tests)
+
+    pub forged-depth : forgedBeam (record { ray = r; octant = octant }) ≡ false → 32 < depth → true ≡ isForged r octant depth tests m
+    forged-depth e h = let f = lt-ltb 32 depth h in sym (λ i. e i || f i || ltb m tests)
+
+    pub forged-tests : forgedBeam (record { ray = r; octant = octant }) ≡ false → depth ≤ 32 → ltb m tests ≡ isForged r octant depth tests m
+    forged-tests e h = let f = le-ltb 32 depth h in sym (λ i. e i || f i || ltb m tests)
+
+-- ---- a record without nodes
+module _ (m : ℕ) (positions current : W.Group) (depth octant : ℕ) where
+  abbrev chain : Bool → Bool → Bool → Bool → Bool → Bool
+  chain x a b c d = x && (a && b && c && not d && eqb depth 0)
+
+  pub over-nodes : (m ≡ 0 → ⊥) → false ≡ isOver m positions current depth octant
+  over-nodes h = let x = lt-leb m 0 (omega arith) in sym (λ i. chain (x i) (eqb (positions .bits) 0) (W.hasChild current) (eqb (W.firstChild octant current) 0) (W.hasChild (W.restOf current)))
+
+  module _ (z : m ≡ 0) where
+    pub over-positions : (positions .bits ≡ 0 → ⊥) → false ≡ isOver m positions current depth octant
+    over-positions h =
+        let x = le-leb m 0 (omega arith) in
+        let a = ne-eqb (positions .bits) 0 h in
+        sym (λ i. chain (x i) (a i) (W.hasChild current) (eqb (W.firstChild octant current) 0) (W.hasChild (W.restOf current)))
+
+    module _ (none : positions .bits ≡ 0) where
+      pub over-empty : current .bits < 0x100_0000 → false ≡ isOver m positions current depth octant
+      over-empty h =
+          let x = le-leb m 0 (omega arith) in
+          let a = eq-eqb (positions .bits) 0 none in
+          let b = lt-leb 0x100_0000 (current .bits) h in
+          sym (λ i. chain (x i) (a i) (b i) (eqb (W.firstChild octant current) 0) (W.hasChild (W.restOf current)))
+
+      module _ (some : 0x100_0000 ≤ current .bits) where
+        pub over-child : (W.firstChild octant current ≡ 0 → ⊥) → false ≡ isOver m positions current depth octant
+        over-child h =
+            let x = le-leb m 0 (omega arith) in
+            let a = eq-eqb (positions .bits) 0 none in
+            let b = le-leb 0x100_0000 (current .bits) some in
+            let c = ne-eqb (W.firstChild octant current) 0 h in
+            sym (λ i. chain (x i) (a i) (b i) (c i) (W.hasChild (W.restOf current)))
+
+        module _ (first : W.firstChild octant current ≡ 0) where
+          pub over-rest : 0x100_0000 ≤ W.restOf current .bits → false ≡ isOver m positions current depth octant
+          over-rest h =
+              let x = le-leb m 0 (omega arith) in
+              let a = eq-eqb (positions .bits) 0 none in
+              let b = le-leb 0x100_0000 (current .bits) some in
+              let c = eq-eqb (W.firstChild octant current) 0 first in
+              let d = le-leb 0x100_0000 (W.restOf current .bits) h in
+              sym (λ i. chain (x i) (a i) (b i) (c i) (d i))
+
+          pub over-depth : W.restOf current .bits < 0x100_0000 → eqb depth 0 ≡ isOver m positions current depth octant
+          over-depth h =
+              let x = le-leb m 0 (omega arith) in
+              let a = eq-eqb (positions .bits) 0 none in
+              let b = le-leb 0x100_0000 (current .bits) some in
+              let c = eq-eqb (W.firstChild octant current) 0 first in
+              let d = lt-leb 0x100_0000 (W.restOf current .bits) h in
+              sym (λ i. chain (x i) (a i) (b i) (c i) (d i))

@@ -1,0 +1,31 @@
+use mathlib.Core.Path.{sym, _∙_}
+use lib.Ieee.{ofBits}
+use borrow.Author.Needs.{needs}
+use Rattle.ray.specs.Ray.{rayOf}
+use Rattle.traverse.proofs.Begun.{starts, refuses}
+use Rattle.traverse.proofs.Walker.new.Statement.{statement}
+use Rattle.traverse.proofs.Walker.new.Tie as tie
+
+new-requires : tie.Need-new-requires
+new-requires c κs = search needs
+
+accepted-requires : tie.Need-accepted-requires
+accepted-requires c κs = search needs
+
+octant-requires : tie.Need-octant-requires
+octant-requires c κs = search needs
+
+returns : tie.Need-returns
+unfolding rayOf
+returns c =
+    let a = c .before .before .before .before .args in
+    starts (rayOf (a .origin) (a .direction) (a .tmin) (a .tmax)) (c .before .before .before .new .result) (c .octant .result) (c .before .before .before .new .ensures) (c .octant .ensures) (sym (c .before .before .accepted .ensures) ∙ c .before .if1 .taken)
+
+returns-2 : tie.Need-returns-2
+unfolding ofBits
+returns-2 c =
+    let a = c .before .before .before .args in
+    refuses (rayOf (a .origin) (a .direction) (a .tmin) (a .tmax)) (c .before .before .new .result) (c .before .before .new .ensures) (sym (c .before .accepted .ensures) ∙ c .if1 .left)
+
+pub new-spec : {M : Type 1} → statement M
+new-spec = tie.close (tie.spec new-requires accepted-requires octant-requires returns returns-2)
