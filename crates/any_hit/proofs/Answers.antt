@@ -1,6 +1,6 @@
 -- The answers of any-hit, by the tests that the code makes.
 use mathlib.Core.Bool.{Bool, true, false}
-use mathlib.Core.List.{List}
+use mathlib.Core.List.{List, []}
 use mathlib.Core.Path.{_≡_, refl, sym, ap, _∙_}
 use Prim.Native.Nat.{ℕ, zero, suc, _+_, _≤_, _<_}
 use native.Mathlib.Omega.{arith}
@@ -11,14 +11,15 @@ use borrow.Author.Tests.{le-leb, lt-leb, leb-true, leb-false}
 use Rattle.lists.specs.Splice.{splice}
 use Rattle.lists.proofs.Splice.{splice-none}
 use Rattle.ray.specs.declared.Ray.{Ray}
-use Rattle.record_shape.specs.Record.{nodeCount}
 use Rattle.walk.specs.Step as S
+use Rattle.walk.specs.Queries.{append}
 use Rattle.walk.specs.WordQueries.{OutcomeWords}
 use Rattle.walk_record.specs.Beam.{Beam, beamOf, forgedBeam, beams}
+use Rattle.walk_record.specs.Record.{FieldsFit}
 use Rattle.walk_record.specs.Walk.{anyHitAt}
 use Rattle.query.specs.Entry.{entryCause}
+use Rattle.query.proofs.Begins.{query-empty}
 use Rattle.any_hit.specs.AnyHit.{Answer, listed, refused, lacking, fitted, walked, walkOf, anyHitOf, listFor, listAfter, metIn, metOf}
-use Rattle.any_hit.proofs.Empty.{empty-ended, empty-noted, empty-tests}
 
 -- ---- a list that is long enough, or short
 
@@ -124,14 +125,13 @@ module _ (bytes : List ℕ) (n : ℕ) (r : Ray) (list : List ℕ) where
     list-of a e = ap (λ (x : Answer). listFor x (anyHitAt bytes beams n (beamOf r) .noted) list) (e ∙ is-walk)
 
     -- without nodes
-    pub ends-empty : length bytes ≡ 0 → n ≤ 65536 → forgedBeam (beamOf r) ≡ false → Ends (listed 0 0) list
-    unfolding walkOf walked listFor
-    ends-empty z h f =
-        let none : nodeCount bytes ≡ 0 = omega arith in
+    pub ends-empty : length bytes ≡ 0 → n ≤ 65536 → FieldsFit bytes → forgedBeam (beamOf r) ≡ false → Ends (listed 0 0) list
+    unfolding walkOf walked listFor anyHitAt
+    ends-empty z h fit f =
         let o = anyHitAt bytes beams n (beamOf r) in
-        let e : listed 0 0 ≡ walked o (o .ended) (length list) =
-        rw (empty-ended bytes n (beamOf r) none h f, empty-noted bytes n (beamOf r) none h f, empty-tests bytes n (beamOf r) none h f) (fits 0 0 (length list) (omega arith)) in
-        (e ∙ is-walk, sym (ap (splice list 0) (empty-noted bytes n (beamOf r) none h f) ∙ splice-none list 0) ∙ list-of (listed 0 0) e)
+        let q = query-empty bytes n fit append [] r f (omega arith) h in
+        let e : listed 0 0 ≡ walked o (o .ended) (length list) = rw (q .ended, q .noted, q .tests) (fits 0 0 (length list) (omega arith)) in
+        (e ∙ is-walk, sym (ap (splice list 0) (q .noted) ∙ splice-none list 0) ∙ list-of (listed 0 0) e)
 
     -- ---- after a first walk, `zeros` being what lay aside before it
 

@@ -1,6 +1,4 @@
-pub mod Turns
 pub mod Walks
 pub mod Copies
 pub mod Answers
-pub mod Empty
 pub mod Begins

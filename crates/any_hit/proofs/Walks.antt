@@ -1,28 +1,37 @@
--- A walk by turns: what holds whenever its loop comes round, from the first turn to the last.
+-- A walk by turns that notes positions: what holds whenever its loop comes round, from the first turn to the last.
+use mathlib.Core.Bool.{false}
 use mathlib.Core.List.{List, [], _∷_, _++_}
 use mathlib.Core.Path.{_≡_, refl, sym, ap, _∙_}
-use Prim.Native.Nat.{ℕ, zero, suc, _+_, _*_, _≤_, _<_}
+use Prim.Native.Nat.{ℕ, _+_, _*_, _≤_, _<_}
 use native.Mathlib.Nat.{zero-add}
 use native.Mathlib.Decide.{decLt}
 use native.Mathlib.Omega.{arith}
-use lib.ListN.{length, take, set, length-append, length-take}
+use lib.ListN.{length, take, set, replicate, length-append, length-take}
 use lib.Seq.{take-all, take-nil, take-append-le, set-out}
 use Rattle.lists.specs.Splice.{splice}
 use Rattle.lists.proofs.Splice.{splice-none, set-splice, written-next, length-splice}
 use Rattle.words.specs.Fields.{field}
 use Rattle.words.specs.Ones.{onesBelow}
+use Rattle.faststack.specs.Stack.{capacity}
+use Rattle.ray.specs.declared.Ray.{Ray}
+use Rattle.ray.specs.Ray.{octantOf}
 use Rattle.record_shape.specs.Record.{nodeCount}
-use Rattle.walk.specs.Step.{tested, position, done, refused}
-use Rattle.walk.specs.Queries.{append, stepsFor, Going}
-use Rattle.walk.specs.WordStep.{WalkerWords, SteppedWords, freshWords, stayWords, advanceWords}
-use Rattle.walk.specs.WordQueries.{OutcomeWords, followWords, queryWords}
+use Rattle.walk.specs.Queries.{append}
+use Rattle.walk.specs.WordStep.{WalkerWords, advanceWords}
+use Rattle.walk.specs.WordQueries.{OutcomeWords}
 use Rattle.walk.proofs.WordEnds.{stepsLeftWords}
-use Rattle.walk_record.specs.Beam.{Beam, beams}
+use Rattle.walk_record.specs.Beam.{Beam, beamOf, forgedBeam, beams}
 use Rattle.walk_record.specs.Record.{FieldsFit, nodeWordsAt}
-use Rattle.walk_record.specs.Walk.{queryAt, anyHitAt}
-use Rattle.any_hit.specs.AnyHit.{fitted, walked, walkOf, Ready, metIn, metOf}
+use Rattle.walk_record.specs.Walk.{anyHitAt}
+use Rattle.advance.specs.declared.Turn.{Turn}
+use Rattle.advance.specs.declared.Answer.the-variants.{Tested, Position, Done, Refused}
+use Rattle.advance.specs.Turn.{turnedBy}
+use Rattle.query.specs.declared.Walk.{Walk}
+use Rattle.query.specs.Walk.{walkerOf, begun, afterTest, afterReport, Sized}
+use Rattle.query.proofs.Begins.{leads-begun}
+use Rattle.query.proofs.Leads.{Leads, Turning, turn-tested, turn-noted, turn-done, turn-refused}
+use Rattle.any_hit.specs.AnyHit.{fitted, refused, walked, walkOf, metIn, metOf}
 use Rattle.any_hit.specs.AnyHit
-use Rattle.any_hit.proofs.Turns.{Unforged, fresh-unforged, turn-unforged, turn-falls, turn-follows}
 
 -- ---- positions written as they are met
 
@@ -48,100 +57,82 @@ module _ (before noted found : List ℕ) (e : found ≡ metIn before noted) wher
 
 -- ---- the loop
 
-module _ (bytes : List ℕ) (n : ℕ) (b : Beam) (before : List ℕ) where
-  -- A walker that is not forged, so many positions noted, and they are written: what is left of the query, run from here, is the whole query's outcome.
-  pub record Walking (w : WalkerWords Beam) (count : ℕ) (found : List ℕ) : Type 0 where
-    pub unforged : Unforged (nodeCount bytes) w
-    pub noted : List ℕ
-    pub fuel : ℕ
-    pub enough : stepsLeftWords (nodeCount bytes) w < fuel
-    pub same : queryWords (nodeCount bytes) (nodeWordsAt bytes beams) append fuel n w noted ≡ anyHitAt bytes beams n b
-    pub counted : count ≡ length noted
-    pub most : count + stepsLeftWords (nodeCount bytes) w ≤ 25 * nodeCount bytes
-    pub met : found ≡ metIn before noted
+-- So many positions are noted and written, and what is left of the query, run from here, is the whole query's outcome.
+pub record Walking (bytes : List ℕ) (n : ℕ) (b : Beam) (before : List ℕ) (w : WalkerWords Beam) (count : ℕ) (found : List ℕ) : Type 0 where
+  pub noted : List ℕ
+  pub leads : Leads bytes n append (anyHitAt bytes beams n b) w noted
+  pub counted : count ≡ length noted
+  pub most : count + stepsLeftWords (nodeCount bytes) w ≤ 25 * nodeCount bytes
+  pub met : found ≡ metIn before noted
 
-  module _ (ready : Ready bytes n b) (fit : FieldsFit bytes) where
-    pub walk-begins : Walking (freshWords b) 0 before
-    unfolding anyHitAt queryAt onesBelow field
-    walk-begins = record {
-      unforged = fresh-unforged bytes n (ready .some) (ready .nodes) (ready .positions) fit b (ready .accepted);
-      noted = [];
-      fuel = stepsFor (nodeCount bytes);
-      enough = omega arith;
-      same = refl;
-      counted = refl;
-      most = omega arith;
-      met = sym (ap (splice before 0) (take-nil (length before)) ∙ splice-none before 0);
-    }
+pub walk-begins : (bytes : List ℕ) (n : ℕ) (ray : Ray) (before : List ℕ) → FieldsFit bytes → forgedBeam (beamOf ray) ≡ false → (octant : ℕ) → octant ≡ octantOf (ray .direction)
+    → Walking bytes n (beamOf ray) before (walkerOf ray octant begun (replicate capacity 0)) 0 before
+unfolding anyHitAt onesBelow field
+walk-begins bytes n ray before fit accepted octant e = record {
+  noted = [];
+  leads = leads-begun bytes n fit append [] ray accepted octant e begun refl;
+  counted = refl;
+  most = omega arith;
+  met = sym (ap (splice before 0) (take-nil (length before)) ∙ splice-none before 0);
+}
 
-    module _ (w : WalkerWords Beam) (count : ℕ) (found : List ℕ) (k : Walking w count found) where
-      -- a turn that goes on, with x noted then
-      walk-goes : (r : SteppedWords Beam) → r ≡ advanceWords (nodeCount bytes) (nodeWordsAt bytes beams) n w → Going (r .answer) → (x : List ℕ)
-          → ((go : WalkerWords Beam → List ℕ → OutcomeWords Beam (List ℕ)) → followWords (nodeCount bytes) (nodeWordsAt bytes beams) append (r .answer) (r .walker) (k .noted) go ≡ go (r .walker) x)
-          → length x ≤ count + 1 → (found₁ : List ℕ) → found₁ ≡ metIn before x
-          → (stepsLeftWords (nodeCount bytes) (r .walker) < stepsLeftWords (nodeCount bytes) w) × Walking (r .walker) (length x) found₁
-      walk-goes r e g x on c found₁ m = go (k .fuel) (k .enough) (k .same)
-        where
-          go : (f : ℕ) → stepsLeftWords (nodeCount bytes) w < f → queryWords (nodeCount bytes) (nodeWordsAt bytes beams) append f n w (k .noted) ≡ anyHitAt bytes beams n b
-              → (stepsLeftWords (nodeCount bytes) (r .walker) < stepsLeftWords (nodeCount bytes) w) × Walking (r .walker) (length x) found₁
-          go zero h q = absurd (omega arith)
-          go (suc f) h q =
-              let l = turn-falls bytes n (ready .some) (ready .nodes) (ready .positions) fit w (k .unforged) r e g in (
-                l,
-                record {
-                  unforged = turn-unforged bytes n (ready .some) (ready .nodes) (ready .positions) fit w (k .unforged) r e;
-                  noted = x;
-                  fuel = f;
-                  enough = omega (arith, l);
-                  same = sym (on _) ∙ sym (turn-follows bytes n (ready .some) (ready .nodes) (ready .positions) fit w (k .unforged) r e append f (k .noted)) ∙ q;
-                  counted = refl;
-                  most = omega (arith, l, k .most);
-                  met = m;
-                },
-              )
+-- a turn from walk v, with so many positions noted, gave t and a stack
+pub record Turns (bytes : List ℕ) (n : ℕ) (b : Beam) (before : List ℕ) (ray : Ray) (octant : ℕ) (v : Walk) (stack : List ℕ) (count : ℕ) (found : List ℕ) (t : Turn) (stack₁ : List ℕ) : Type 0 where
+  pub sized : Sized bytes n
+  pub fit : FieldsFit bytes
+  pub walking : Walking bytes n b before (walkerOf ray octant v stack) count found
+  pub turn : turnedBy (walkerOf ray octant v stack) t stack₁ ≡ advanceWords (nodeCount bytes) (nodeWordsAt bytes beams) n (walkerOf ray octant v stack)
 
-      -- a node was tested
-      pub walk-tested : (u : WalkerWords Beam) (v : ℕ) → record { walker = u; answer = tested v } ≡ advanceWords (nodeCount bytes) (nodeWordsAt bytes beams) n w
-          → (stepsLeftWords (nodeCount bytes) u < stepsLeftWords (nodeCount bytes) w) × Walking u count found
-      walk-tested u v e = rw (k .counted) (walk-goes (record { walker = u; answer = tested v }) e tt (k .noted) (λ go. refl) (omega (arith, k .counted)) found (k .met))
+module _ {bytes : List ℕ} {n : ℕ} {b : Beam} {before : List ℕ} {ray : Ray} {octant : ℕ} {v : Walk} {stack : List ℕ} {count : ℕ} {found : List ℕ} {t : Turn} {stack₁ : List ℕ}
+    (T : Turns bytes n b before ray octant v stack count found t stack₁) where
+  turning : Turning bytes n append (anyHitAt bytes beams n b) ray octant v stack (T .walking .noted) t stack₁
+  turning = record { sized = T .sized; fit = T .fit; leads = T .walking .leads; turn = T .turn }
 
-      -- a position was reported
-      pub walk-reported : (u : WalkerWords Beam) (p : ℕ) → record { walker = u; answer = position p } ≡ advanceWords (nodeCount bytes) (nodeWordsAt bytes beams) n w
-          → (found₁ : List ℕ) → found₁ ≡ set found count p
-          → (stepsLeftWords (nodeCount bytes) u < stepsLeftWords (nodeCount bytes) w) × Walking u (count + 1) found₁
-      walk-reported u p e found₁ m =
-          let c : length (k .noted ++ (p ∷ [])) ≡ count + 1 = omega (arith, k .counted, length-append (k .noted) (p ∷ [])) in
-          rw (← c)
-          (walk-goes (record { walker = u; answer = position p }) e tt (k .noted ++ (p ∷ [])) (λ go. refl) (omega arith) found₁
-          (m ∙ met-next before (k .noted) found (k .met) count p (k .counted)))
+  -- the loop comes round with walker w
+  abbrev pub Again : WalkerWords Beam → ℕ → List ℕ → Type 0
+  Again w c l = (stepsLeftWords (nodeCount bytes) w < stepsLeftWords (nodeCount bytes) (walkerOf ray octant v stack)) × Walking bytes n b before w c l
 
-      -- the last turn
-      walk-ends : (r : SteppedWords Beam) → r ≡ advanceWords (nodeCount bytes) (nodeWordsAt bytes beams) n w
-          → ((go : WalkerWords Beam → List ℕ → OutcomeWords Beam (List ℕ)) → followWords (nodeCount bytes) (nodeWordsAt bytes beams) append (r .answer) (r .walker) (k .noted) go ≡ record { walker = r .walker; noted = k .noted; ended = r .answer })
-          → record { walker = r .walker; noted = k .noted; ended = r .answer } ≡ anyHitAt bytes beams n b
-      walk-ends r e over = go (k .fuel) (k .enough) (k .same)
-        where
-          go : (f : ℕ) → stepsLeftWords (nodeCount bytes) w < f → queryWords (nodeCount bytes) (nodeWordsAt bytes beams) append f n w (k .noted) ≡ anyHitAt bytes beams n b
-              → record { walker = r .walker; noted = k .noted; ended = r .answer } ≡ anyHitAt bytes beams n b
-          go zero h q = absurd (omega arith)
-          go (suc f) h q = sym (over _) ∙ sym (turn-follows bytes n (ready .some) (ready .nodes) (ready .positions) fit w (k .unforged) r e append f (k .noted)) ∙ q
+  -- a node was tested
+  pub walk-tested : (u : ℕ) → t .answer ≡ Tested u → Again (walkerOf ray octant (afterTest v t) stack₁) count found
+  walk-tested u q =
+      let k = T .walking in
+      let g = turn-tested turning u q (afterTest v t) refl in
+      (g .less, record { noted = k .noted; leads = g .leads; counted = k .counted; most = omega (arith, g .less, k .most); met = k .met })
 
-      -- is one that says done
-      pub walk-done : stayWords w done ≡ advanceWords (nodeCount bytes) (nodeWordsAt bytes beams) n w
-          → (fitted count (w .tests) (length before) ≡ walkOf bytes n b (length before)) × (found ≡ metOf bytes n b before)
-      unfolding walkOf walked metOf
-      walk-done e =
-          let o = walk-ends (stayWords w done) e (λ go. refl) in (
-            ap (λ (c : ℕ). fitted c (w .tests) (length before)) (k .counted) ∙ ap (λ (x : OutcomeWords Beam (List ℕ)). walked x (x .ended) (length before)) o,
-            k .met ∙ ap (λ (x : OutcomeWords Beam (List ℕ)). metIn before (x .noted)) o,
-          )
+  -- a position was reported
+  pub walk-reported : (p : ℕ) → t .answer ≡ Position p → (found₁ : List ℕ) → found₁ ≡ set found count p → Again (walkerOf ray octant (afterReport v t) stack₁) (count + 1) found₁
+  walk-reported p q found₁ e =
+      let k = T .walking in
+      let g = turn-noted turning p q refl (afterReport v t) refl in (
+        g .less,
+        record {
+          noted = k .noted ++ (p ∷ []);
+          leads = g .leads;
+          counted = omega (arith, k .counted, length-append (k .noted) (p ∷ []));
+          most = omega (arith, g .less, k .most);
+          met = e ∙ met-next before (k .noted) found (k .met) count p (k .counted);
+        },
+      )
 
-      -- or is refused
-      pub walk-refused : (c : ℕ) → stayWords w (refused c) ≡ advanceWords (nodeCount bytes) (nodeWordsAt bytes beams) n w
-          → (AnyHit.refused c ≡ walkOf bytes n b (length before)) × (found ≡ metOf bytes n b before)
-      unfolding walkOf walked metOf
-      walk-refused c e =
-          let o = walk-ends (stayWords w (refused c)) e (λ go. refl) in (
-            ap (λ (x : OutcomeWords Beam (List ℕ)). walked x (x .ended) (length before)) o,
-            k .met ∙ ap (λ (x : OutcomeWords Beam (List ℕ)). metIn before (x .noted)) o,
-          )
+  -- how the walk ends
+  abbrev pub Ended : AnyHit.Answer → Type 0
+  Ended a = (a ≡ walkOf bytes n b (length before)) × (found ≡ metOf bytes n b before)
+
+  -- with done,
+  pub walk-done : t .answer ≡ Done → Ended (fitted count (v .tests) (length before))
+  unfolding walkOf walked metOf
+  walk-done q =
+      let k = T .walking in
+      let o = turn-done turning q in (
+        ap (λ (c : ℕ). fitted c (v .tests) (length before)) (k .counted) ∙ ap (λ (x : OutcomeWords Beam (List ℕ)). walked x (x .ended) (length before)) o,
+        k .met ∙ ap (λ (x : OutcomeWords Beam (List ℕ)). metIn before (x .noted)) o,
+      )
+
+  -- or refused
+  pub walk-refused : (c : ℕ) → t .answer ≡ Refused c → Ended (refused c)
+  unfolding walkOf walked metOf
+  walk-refused c q =
+      let o = turn-refused turning c q in (
+        ap (λ (x : OutcomeWords Beam (List ℕ)). walked x (x .ended) (length before)) o,
+        T .walking .met ∙ ap (λ (x : OutcomeWords Beam (List ℕ)). metIn before (x .noted)) o,
+      )

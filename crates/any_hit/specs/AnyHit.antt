@@ -1,16 +1,14 @@
 -- Any-hit (01, "Walking"; "Causes of refusal", 10 and 11): the positions that a walk reports, in its order.
 use mathlib.Core.Bool.{true, false}
 use mathlib.Core.List.{List}
-use mathlib.Core.Path.{_≡_}
-use Prim.Native.Nat.{ℕ, zero, suc, _%_, _≤_, _<_}
+use Prim.Native.Nat.{ℕ, zero, suc}
 use lib.Dec.{leb}
 use lib.ListN.{length, take}
 use Rattle.lists.specs.Splice.{splice}
 use Rattle.ray.specs.declared.Ray.{Ray}
-use Rattle.record_shape.specs.Record.{nodeCount}
 use Rattle.walk.specs.Step as S
 use Rattle.walk.specs.WordQueries.{OutcomeWords}
-use Rattle.walk_record.specs.Beam.{Beam, beamOf, forgedBeam, beams}
+use Rattle.walk_record.specs.Beam.{Beam, beamOf, beams}
 use Rattle.walk_record.specs.Walk.{anyHitAt}
 use Rattle.query.specs.Entry.{entryCause}
 use Rattle.any_hit.specs.declared.AnyHit.{AnyHit}
@@ -61,17 +59,6 @@ unfolding anyHitOf listFor
 listAfter bytes n r before = listFor (anyHitOf bytes n r (length before)) (anyHitAt bytes beams n (beamOf r) .noted) before
 
 -- ---- one walk, which writes as it goes
-
-abbrev pub beamWith : Ray → ℕ → Beam
-beamWith ray octant = record { ray = ray; octant = octant }
-
--- what it asks: a record of whole nodes within the bounds, at least one of them, and a ray that is not forged
-pub record Ready (bytes : List ℕ) (n : ℕ) (b : Beam) : Type 0 where
-  pub whole : length bytes % 80 ≡ 0
-  pub some : 0 < nodeCount bytes
-  pub nodes : nodeCount bytes ≤ 65535
-  pub positions : n ≤ 65536
-  pub accepted : forgedBeam b ≡ false
 
 -- positions in front of what was there, as many as there is room for
 abbrev pub metIn : List ℕ → List ℕ → List ℕ

@@ -1,10 +1,13 @@
 // Any-hit over a record (cwbvh/mod.rs, ray_traverse_anyhit): the positions that a ray passes, in the order of the walk.
 ghost use mathlib.Core.Path.{_≡_};
+ghost use mathlib.Core.Bool.{false};
 ghost use Prim.Native.Nat.{_≤_};
 ghost use lib.ListN.{length, take, set};
 ghost use Rattle.lists.specs.Splice.{splice};
 ghost use Rattle.ray.specs.Ray.{rayOf};
-ghost use Rattle.any_hit.specs.AnyHit.{answerOf, fitted, beamWith, Ready, walkOf, metOf, anyHitOf, listAfter};
+ghost use Rattle.walk_record.specs.Beam.{beamOf, forgedBeam};
+ghost use Rattle.query.specs.Walk.{Sized};
+ghost use Rattle.any_hit.specs.AnyHit.{answerOf, fitted, walkOf, metOf, anyHitOf, listAfter};
 use advance::Answer;
 use advance::Group;
 use ray::Ray;
@@ -36,12 +39,14 @@ fn note(list: &mut [u32], at: usize, p: u32)
     }
 }
 
-// A whole walk, and the answer for a list as long as `found`. Positions are written as they are met, as long as there is room, whatever the answer.
-fn walk(record: &[u8], n: usize, ray: Ray, octant: u32, found: &mut [u32]) -> AnyHit
-    requires { ⌜ Ready (now «record») n (beamWith ray octant) ⌝ }
-    ensures { λ r. ⌜ answerOf r ≡ walkOf (now («record» .entry)) n (beamWith ray octant) (length (now (found .entry))) ⌝ }
-    ensures { λ _. ⌜ now (found .exit) ≡ metOf (now («record» .entry)) n (beamWith ray octant) (now (found .entry)) ⌝ }
+// A whole walk over a record with nodes, and the answer for a list as long as `found`. Positions are written as they are met, as long as there is room,
+// whatever the answer.
+fn walk(record: &[u8], n: usize, ray: Ray, found: &mut [u32]) -> AnyHit
+    requires { ⌜ Sized (now «record») n × (forgedBeam (beamOf ray) ≡ false) ⌝ }
+    ensures { λ r. ⌜ answerOf r ≡ walkOf (now («record» .entry)) n (beamOf ray) (length (now (found .entry))) ⌝ }
+    ensures { λ _. ⌜ now (found .exit) ≡ metOf (now («record» .entry)) n (beamOf ray) (now (found .entry)) ⌝ }
 {
+    let octant = ray::octant(ray.direction);
     let mut tests: u32 = 0;
     let mut positions = Group { base: 0, bits: 0 };
     let mut current = Group {
@@ -116,9 +121,8 @@ pub fn any_hit(
     if record.len() == 0 {
         return AnyHit::Listed(0, 0);
     }
-    let octant = ray::octant(direction);
     let mut found = [0u32; 256];
-    let first = walk(record, n, ray, octant, &mut found);
+    let first = walk(record, n, ray, &mut found);
     match first {
         AnyHit::Listed(count, tests) => {
             if count as usize > list.len() {
@@ -131,7 +135,7 @@ pub fn any_hit(
             if needed as usize > list.len() {
                 return AnyHit::Short(needed);
             }
-            walk(record, n, ray, octant, list)
+            walk(record, n, ray, list)
         }
         AnyHit::Refused(k) => AnyHit::Refused(k),
     }

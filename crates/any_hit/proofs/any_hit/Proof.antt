@@ -1,4 +1,4 @@
-use mathlib.Core.Bool.{true}
+use mathlib.Core.Bool.{true, false}
 use mathlib.Core.List.{List}
 use mathlib.Core.Path.{_≡_, sym, ap, _∙_}
 use Prim.Native.Nat.{ℕ}
@@ -6,11 +6,13 @@ use native.Mathlib.Omega.{arith}
 use lib.ListN.{length, replicate}
 use Rattle.ray.specs.declared.Ray.{Ray}
 use Rattle.ray.specs.Ray.{rayOf}
-use Rattle.walk_record.specs.Beam.{Beam, beamOf}
+use Rattle.walk_record.specs.Beam.{beamOf, forgedBeam}
+use Rattle.walk_record.proofs.Laws.{bytes-fit}
+use Rattle.query.specs.Walk.{Sized}
 use Rattle.query.specs.Entry.{entryCause}
 use Rattle.any_hit.specs.declared.AnyHit.{AnyHit}
-use Rattle.any_hit.specs.AnyHit.{answerOf, beamWith, walkOf, metOf, Ready}
-use Rattle.any_hit.proofs.Begins.{begun, enters, unforged, ready}
+use Rattle.any_hit.specs.AnyHit.{answerOf, walkOf, metOf}
+use Rattle.any_hit.proofs.Begins.{enters, unforged, sized}
 use Rattle.any_hit.proofs.Answers.{listed-most, ends-entry, ends-empty, ends-listed, ends-short, ends-shorter, ends-again, ends-refused}
 use borrow.Author.Needs.{needs}
 use Rattle.any_hit.proofs.any_hit.Statement.{statement}
@@ -30,38 +32,37 @@ no-cause c = sym (cause (c .before)) ∙ c .if1 .left
 
 -- ---- the first walk
 
-beam : (c : tie.After-octant) → let e = c .before .before .before in
-    beamWith (e .before .new .result) (c .octant .result) ≡ beamOf (ray e)
-beam c =
-    let e = c .before .before .before in
-    let a = e .before .before .before .before .args in
-    begun (a .origin) (a .direction) (a .tmin) (a .tmax) _ _ (e .before .new .ensures) (c .octant .ensures)
-
-may-walk : (c : tie.After-octant) → let a = c .before .before .before .before .before .before .before .args in
-    Ready (a .«record» .now) (a .n) (beamWith (c .before .before .before .before .new .result) (c .octant .result))
+may-walk : (c : tie.Else2) → let a = c .before .before .before .before .before .before .args in
+    Sized (a .«record» .now) (a .n) × (forgedBeam (beamOf (c .before .before .before .new .result)) ≡ false)
 may-walk c =
-    let e = c .before .before .before in
-    let a = e .before .before .before .before .args in
-    ready (a .origin) (a .direction) (a .tmin) (a .tmax) (a .«record» .now) (a .n) (no-cause (c .before .before)) (c .before .if2 .left) _ (beam c)
+    let e = c .before .before in
+    let a = e .before .before .before .before .args in (
+      sized (a .origin) (a .direction) (a .tmin) (a .tmax) (a .«record» .now) (a .n) (no-cause (c .before)) (c .if2 .left),
+      ap (λ (r : Ray). forgedBeam (beamOf r)) (e .before .new .ensures) ∙ unforged (a .origin) (a .direction) (a .tmin) (a .tmax) (a .«record» .now) (a .n) (no-cause (c .before)),
+    )
 
 -- what lay aside before it, and after it
 abbrev zeros : List ℕ
 zeros = replicate 256 0
 
 abbrev aside : tie.After-walk → List ℕ
-aside c = c .walk .last .1 .1 .1 .1 .0
+aside c = c .walk .last .1 .1 .1 .0
 
-walk-answer : (c : tie.After-walk) (x : AnyHit) → c .walk .result ≡ x → let a = c .before .before .before .before .before .before .before .before .before .args in
-    answerOf x ≡ walkOf (a .«record» .now) (a .n) (beamOf (ray (c .before .before .before .before .before))) (length zeros)
+walk-answer : (c : tie.After-walk) (x : AnyHit) → c .walk .result ≡ x → let e = c .before .before .before .before in
+    let a = e .before .before .before .before .args in
+    answerOf x ≡ walkOf (a .«record» .now) (a .n) (beamOf (ray e)) (length zeros)
 walk-answer c x q =
-    let a = c .before .before .before .before .before .before .before .before .before .args in
-    ap answerOf (sym q) ∙ c .walk .ensures .0 ∙ ap (λ (b : Beam). walkOf (a .«record» .now) (a .n) b (length zeros)) (beam (c .before .before))
+    let e = c .before .before .before .before in
+    let a = e .before .before .before .before .args in
+    ap answerOf (sym q) ∙ c .walk .ensures .0 ∙ ap (λ (r : Ray). walkOf (a .«record» .now) (a .n) (beamOf r) (length zeros)) (e .before .new .ensures)
 
-walk-aside : (c : tie.After-walk) → let a = c .before .before .before .before .before .before .before .before .before .args in
-    aside c ≡ metOf (a .«record» .now) (a .n) (beamOf (ray (c .before .before .before .before .before))) zeros
+walk-aside : (c : tie.After-walk) → let e = c .before .before .before .before in
+    let a = e .before .before .before .before .args in
+    aside c ≡ metOf (a .«record» .now) (a .n) (beamOf (ray e)) zeros
 walk-aside c =
-    let a = c .before .before .before .before .before .before .before .before .before .args in
-    c .walk .ensures .1 ∙ ap (λ (b : Beam). metOf (a .«record» .now) (a .n) b zeros) (beam (c .before .before))
+    let e = c .before .before .before .before in
+    let a = e .before .before .before .before .args in
+    c .walk .ensures .1 ∙ ap (λ (r : Ray). metOf (a .«record» .now) (a .n) (beamOf r) zeros) (e .before .new .ensures)
 
 -- ---- the needs
 
@@ -83,10 +84,7 @@ returns-2 c =
     let e = c .before in
     let a = e .before .before .before .before .before .args in
     let h = enters (a .origin) (a .direction) (a .tmin) (a .tmax) (a .«record» .now) (a .n) (no-cause e) in
-    ends-empty (a .«record» .now) (a .n) (ray (e .before)) (a .list .now) (no-cause e) (c .if2 .taken) (h .few) (unforged (a .origin) (a .direction) (a .tmin) (a .tmax) (a .«record» .now) (a .n) (no-cause e))
-
-octant-requires : tie.Need-octant-requires
-octant-requires c κs = search needs
+    ends-empty (a .«record» .now) (a .n) (ray (e .before)) (a .list .now) (no-cause e) (c .if2 .taken) (h .few) (bytes-fit _ (λ i. e .before .before .before .before .shared-slice-known .given i .fits)) (unforged (a .origin) (a .direction) (a .tmin) (a .tmax) (a .«record» .now) (a .n) (no-cause e))
 
 slice-aggregate-walk : tie.Need-slice-aggregate-walk
 slice-aggregate-walk c = search needs
@@ -104,7 +102,7 @@ returns-3 : tie.Need-returns-3
 unfolding answerOf
 returns-3 c =
     let w = c .before .before .before .before .before in
-    let e = w .before .before .before .before in
+    let e = w .before .before .before in
     let a = e .before .before .before .before .before .args in
     let q = c .before .before .first .given in
     ends-short (a .«record» .now) (a .n) (ray (e .before)) (a .list .now) (no-cause e) zeros (q .0 .0) (q .0 .1 .0) (walk-answer w _ (q .1)) (c .if3 .taken)
@@ -119,10 +117,10 @@ copy-requires : tie.Need-copy-requires
 unfolding answerOf
 copy-requires c κs =
     let w = c .before .before .before .before .before .before .before in
-    let a = w .before .before .before .before .before .before .before .before .before .args in
+    let a = w .before .before .before .before .before .before .before .before .args in
     let q = c .before .before .before .before .first .given in
     let m = listed-most (a .«record» .now) (a .n) _ (q .0 .0) (q .0 .1 .0) (length zeros) (walk-answer w _ (q .1)) in
-    (omega (arith, w .walk .kept .1 .1 .1 .1 .0, m), c .before .before .if3 .left)
+    (omega (arith, w .walk .kept .1 .1 .1 .0, m), c .before .before .if3 .left)
 
 enum-known-first-2 : tie.Need-enum-known-first-2
 enum-known-first-2 c = search needs
@@ -134,7 +132,7 @@ returns-4 : tie.Need-returns-4
 unfolding answerOf
 returns-4 c =
     let w = c .before .before .before .before .before in
-    let e = w .before .before .before .before in
+    let e = w .before .before .before in
     let a = e .before .before .before .before .before .args in
     let q = c .before .before .first2 .given in
     ends-shorter (a .«record» .now) (a .n) (ray (e .before)) (a .list .now) (no-cause e) zeros (q .0 .0) (walk-answer w _ (q .1)) (c .if4 .taken)
@@ -153,7 +151,7 @@ unfolding answerOf
 returns-5 c =
     let k = c .before .before in
     let w = k .before .before .before .before .before .before .before .before in
-    let e = w .before .before .before .before in
+    let e = w .before .before .before in
     let a = e .before .before .before .before .before .args in
     let q = k .before .before .before .before .before .first .given in
     let r = ends-listed (a .«record» .now) (a .n) (ray (e .before)) (a .list .now) (no-cause e) zeros (q .0 .0) (q .0 .1 .0) (walk-answer w _ (q .1)) (k .before .before .before .if3 .left) (aside w) (walk-aside w) in
@@ -167,17 +165,17 @@ unfolding answerOf
 returns-6 c =
     let k = c .before .before in
     let w = k .before .before .before .before .before .before .before in
-    let e = w .before .before .before .before in
+    let e = w .before .before .before in
     let a = e .before .before .before .before .before .args in
     let q = k .before .before .before .before .first2 .given in
     ends-again (a .«record» .now) (a .n) (ray (e .before)) (a .list .now) (no-cause e) zeros (q .0 .0) (walk-answer w _ (q .1)) (k .before .before .if4 .left)
-    _ (k .walk2 .ensures .0 ∙ ap (λ (b : Beam). walkOf (a .«record» .now) (a .n) b (length (a .list .now))) (beam (w .before .before))) _ (k .walk2 .ensures .1 ∙ ap (λ (b : Beam). metOf (a .«record» .now) (a .n) b (a .list .now)) (beam (w .before .before)))
+    _ (k .walk2 .ensures .0 ∙ ap (λ (r : Ray). walkOf (a .«record» .now) (a .n) (beamOf r) (length (a .list .now))) (e .before .before .new .ensures)) _ (k .walk2 .ensures .1 ∙ ap (λ (r : Ray). metOf (a .«record» .now) (a .n) (beamOf r) (a .list .now)) (e .before .before .new .ensures))
 
 returns-7 : tie.Need-returns-7
 unfolding answerOf
 returns-7 c =
     let w = c .before .before .before .before in
-    let e = w .before .before .before .before in
+    let e = w .before .before .before in
     let a = e .before .before .before .before .before .args in
     let q = c .before .first3 .given in
     ends-refused (a .«record» .now) (a .n) (ray (e .before)) (a .list .now) (no-cause e) zeros (q .0 .0) (walk-answer w _ (q .1))
@@ -190,7 +188,6 @@ any-hit-spec =
     entry-cause-requires
     returns
     returns-2
-    octant-requires
     slice-aggregate-walk
     walk-requires
     enum-known-first
