@@ -2,13 +2,19 @@
 use mathlib.Core.Path.{_≡_, refl}
 use mathlib.Core.Bool.{true, false}
 use mathlib.Core.List.{[], _∷_}
+use lib.Count.{leadingZeros}
 use lib.ListN.{take, drop}
-use lib.Ieee.{ofInt, ofBits, toBits, round, add, sub, mul, div, lt, le}
+use lib.Ieee.{binary32, ofInt, ofBits, toBits, round, add, sub, mul, div, lt, le, eq, isNan}
+use Rattle.words.specs.Fields.{field}
+use Rattle.words.specs.Le.{leAt, sumOf}
+use Rattle.words.specs.Ones.{onesBelow}
+use Rattle.words.specs.Ors.{orOf}
+use Rattle.lists.specs.Splice.{splice}
 use Rattle.lists.specs.Below.{allBelow}
 use Rattle.lists.specs.Counts.{same, count}
-use Rattle.float.specs.Compare.{maxOf, inBounds}
+use Rattle.float.specs.Compare.{minOf, maxOf, inBounds}
 use Rattle.float.specs.PowerOfTwo.{scaleOf, nextPower}
-use Rattle.ray.specs.Ray.{boundedVec}
+use Rattle.ray.specs.Ray.{safeInverse, octantOf, rayOf, boundedVec, acceptedRay}
 use Rattle.aabb.specs.Aabb.{halfArea, centerOf, acceptedBox}
 use Rattle.aabb.specs.Aabb as aabb
 use Rattle.quantization.specs.Exponent.{extentScale, exponentOf}
@@ -21,13 +27,22 @@ use Rattle.order.specs.Lists.{keep, some}
 use Rattle.order.specs.Assign.{rowPairs, pairs, partner, openPairs, leastPair, assigned}
 use Rattle.order.specs.Order.{signOf, directionOf, dotOf, directionCost, costTable, inOrder, slotsOf}
 use Rattle.wide_tree.specs.WideTree.{slotsFrom, childrenOf, wideOf}
-use Rattle.node.specs.Node.{slotOffset, headBytes, putSlot, putSlots, nodeBytes}
+use Rattle.node.specs.Node.{slotOffset, slotFrom, nodeFrom, childIndex, headBytes, putSlot, putSlots, nodeBytes}
+use Rattle.faststack.specs.Stack.{pushed, topOf}
+use Rattle.rule.specs.Rule.{pointOk, exponentOk, headOk, childrenOk, leafTop, slotOk, slotsOk, nodeRule}
+use Rattle.slot.specs.Slot.{nearLimit, adjustedInverse, adjustedOrigin, planeAt, nearOf, farOf, passes}
+use Rattle.slot.specs.Mask.{hitBits, slotHit, hitMask}
+use Rattle.walk.specs.WordStep.{stepWords, advanceWords, reportWords, visitWords, popWords}
+use Rattle.walk.specs.WordQueries.{queryWords}
+use Rattle.walk_record.specs.Walk.{queryAt, anyHitAt}
+use Rattle.query.specs.Entry.{entryCause}
+use Rattle.any_hit.specs.AnyHit.{listed, fitted, walked, walkOf, anyHitOf, listFor, listAfter}
 use Rattle.wide.specs.Shape.{nodeAt}
 use Rattle.record.specs.Record.{metas, innerMask, gridBox, gridBoxes, nodeOf, joined, recordBytes}
 use Rattle.tables.specs.Tables.{recordSize, hasRoom, prepareCause}
 use Rattle.bvh2_to_cwbvh.specs.Conversion.{converted, refused, recordOf, nodesOf, levelOf, positionsOf, listOf, levelCause, conversionCause, answerFor, conversionOf}
 use Rattle.samples.specs.TreeT.{wordsT, indicesT, bytesT}
-use Rattle.samples.specs.Samples.{number, nextAbove, extentByte, convert, Samples}
+use Rattle.samples.specs.Samples.{number, nextAbove, extentByte, convert, rayAlong, Samples}
 
 exponents-of-T : (extentByte (number 3) ≡ 121) × (extentByte (number 1) ≡ 120)
 unfolding exponentOf extentScale nextPower maxOf ofInt round sub mul div lt le
@@ -81,6 +96,14 @@ extent-0 : extentByte (number 0) ≡ 53
 unfolding exponentOf extentScale nextPower maxOf ofInt round sub mul div lt le
 extent-0 = refl
 
+any-hits :
+    (anyHitOf bytesT 2 (rayAlong (number 0)) 2 ≡ listed 2 1)
+    × (listAfter bytesT 2 (rayAlong (number 0)) (7 ∷ 7 ∷ 7 ∷ []) ≡ 1 ∷ 0 ∷ 7 ∷ [])
+    × (anyHitOf bytesT 2 (rayAlong (ofBits binary32 0x8000_0000)) 2 ≡ listed 0 1)
+    × (anyHitOf [] 0 (rayAlong (number 0)) 0 ≡ listed 0 0)
+unfolding anyHitOf listAfter listFor splice entryCause walkOf walked fitted anyHitAt queryAt queryWords stepWords advanceWords reportWords visitWords popWords rayOf octantOf hitMask slotHit hitBits orOf passes nearOf farOf maxOf minOf planeAt adjustedInverse adjustedOrigin nearLimit scaleOf nodeFrom leAt sumOf slotFrom slotOffset nodeRule headOk childrenOk slotsOk slotOk leafTop pointOk exponentOk inBounds onesBelow field childIndex topOf pushed leadingZeros safeInverse boundedVec acceptedRay round ofBits ofInt add sub mul div lt le eq isNan
+any-hits = (refl, refl, refl, refl)
+
 pub samples : Samples
 samples = record {
   exponents-of-T = exponents-of-T;
@@ -96,4 +119,8 @@ samples = record {
   extent-261120 = extent-261120;
   extent-above-261120 = extent-above-261120;
   extent-0 = extent-0;
+  any-hit-T = any-hits .0;
+  any-hit-T-list = any-hits .1;
+  any-hit-zero = any-hits .2;
+  any-hit-nothing = any-hits .3;
 }

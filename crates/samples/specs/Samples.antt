@@ -5,9 +5,12 @@ use mathlib.Core.List.{List, [], _∷_}
 use Prim.Native.Nat.{ℕ, suc}
 use lib.IntN.{pos}
 use lib.ListN.{take, drop, replicate}
-use lib.Ieee.{Float, binary32, ofInt, ofBits, toBits}
+use lib.Ieee.{Float, binary32, inf, ofInt, ofBits, toBits}
+use Rattle.ray.specs.declared.Ray.{Ray}
+use Rattle.ray.specs.Ray.{rayOf}
 use Rattle.quantization.specs.Exponent.{exponentOf}
 use Rattle.bvh2_to_cwbvh.specs.Conversion.{Answer, converted, refused, recordOf, listOf, conversionOf}
+use Rattle.any_hit.specs.AnyHit.{listed, anyHitOf, listAfter}
 use Rattle.samples.specs.TreeT.{wordsT, indicesT, bytesT}
 
 -- a whole number as an f32, and the next f32 above a positive one
@@ -25,6 +28,12 @@ extentByte x = exponentOf (number 0) x
 unfoldable pub convert : List ℕ → List ℕ → ℕ → Answer
 unfolding conversionOf
 convert ws indices limit = conversionOf ws indices limit false (replicate 21 0) (replicate 21 (number 0)) (replicate 80 0) (replicate 2 0) .answer
+
+-- the ray from (−1, 0.5, 0.5) along (1, y, 0), its reach without end
+abbrev pub rayAlong : Float → Ray
+rayAlong y =
+    let half = ofBits binary32 0x3f00_0000 in
+    rayOf (record { x = ofBits binary32 0xbf80_0000; y = half; z = half }) (record { x = number 1; y = y; z = number 0 }) (number 0) (inf false)
 
 pub record Samples : Type 0 where
   -- T's root has extents 3, 1 and 1
@@ -49,3 +58,10 @@ pub record Samples : Type 0 where
   pub extent-above-261120 : extentByte (nextAbove (number 261120)) ≡ 138
   -- an extent of 0 counts as 1e-20
   pub extent-0 : extentByte (number 0) ≡ 53
+  -- any-hit along (1, 0, 0): position 1, then 0, by one test
+  pub any-hit-T : anyHitOf bytesT 2 (rayAlong (number 0)) 2 ≡ listed 2 1
+  pub any-hit-T-list : listAfter bytesT 2 (rayAlong (number 0)) (7 ∷ 7 ∷ 7 ∷ []) ≡ 1 ∷ 0 ∷ 7 ∷ []
+  -- along (1, −0.0, 0) nothing is met, by one test
+  pub any-hit-zero : anyHitOf bytesT 2 (rayAlong (ofBits binary32 0x8000_0000)) 2 ≡ listed 0 1
+  -- without nodes nothing is met, without a test
+  pub any-hit-nothing : anyHitOf [] 0 (rayAlong (number 0)) 0 ≡ listed 0 0
