@@ -83,7 +83,7 @@ fn emit_node(
         indices,
         decisions,
         out,
-        slots,
+        &slots,
         v,
         next.nodes,
         next.positions,
