@@ -11,6 +11,22 @@ unsafe extern "C" {
         out_len: usize,
     ) -> u32;
     fn funnelcress_validate(record: *const u8, record_len: usize, n: usize, work: *mut u32, work_len: usize) -> u64;
+    fn funnelcress_bvh2_to_cwbvh(
+        words: *const u32,
+        words_len: usize,
+        indices: *const u32,
+        indices_len: usize,
+        limit: u32,
+        order: u32,
+        decisions: *mut u32,
+        decisions_len: usize,
+        costs: *mut f32,
+        costs_len: usize,
+        record: *mut u8,
+        record_len: usize,
+        list: *mut u32,
+        list_len: usize,
+    ) -> u64;
     fn measured_hit_masks(
         record: *const u8,
         record_len: usize,
@@ -52,6 +68,35 @@ pub fn entry_distances(boxes: &[f32], ray: &[f32], out: &mut [f32]) -> u32 {
 
 pub fn validate(record: &[u8], n: usize, work: &mut [u32]) -> u64 {
     unsafe { funnelcress_validate(record.as_ptr(), record.len(), n, work.as_mut_ptr(), work.len()) }
+}
+
+/// What conversion is lent: the tables of a tree's decisions and costs, a record and its index list.
+pub struct Slices {
+    pub decisions: Vec<u32>,
+    pub costs: Vec<f32>,
+    pub record: Vec<u8>,
+    pub list: Vec<u32>,
+}
+
+pub fn bvh2_to_cwbvh(words: &[u32], indices: &[u32], limit: u32, order: bool, s: &mut Slices) -> u64 {
+    unsafe {
+        funnelcress_bvh2_to_cwbvh(
+            words.as_ptr(),
+            words.len(),
+            indices.as_ptr(),
+            indices.len(),
+            limit,
+            order as u32,
+            s.decisions.as_mut_ptr(),
+            s.decisions.len(),
+            s.costs.as_mut_ptr(),
+            s.costs.len(),
+            s.record.as_mut_ptr(),
+            s.record.len(),
+            s.list.as_mut_ptr(),
+            s.list.len(),
+        )
+    }
 }
 
 pub fn hit_masks(record: &[u8], ray: &[f32], out: &mut [u32]) -> usize {

@@ -2,6 +2,7 @@
 //! module, and trees and records come from the oracle's generator and the published conversion.
 mod boxes;
 mod calls;
+mod conversions;
 mod nodes;
 mod records;
 mod timing;
@@ -24,5 +25,6 @@ fn main() {
     boxes::rows();
     nodes::rows();
     trees::rows();
+    conversions::rows();
     records::rows();
 }

@@ -40,8 +40,8 @@ fn enough(once: f64) -> usize {
 }
 
 /// Runs both in turn and prints the row: the time of ours over the Rust's, and the best time of each for one of the `items`
-/// that a call works on.
-pub fn row(name: &str, items: usize, ours: &mut dyn FnMut(), rust: &mut dyn FnMut()) {
+/// that a call works on, which it also returns.
+pub fn row(name: &str, items: usize, ours: &mut dyn FnMut(), rust: &mut dyn FnMut()) -> (f64, f64) {
     let calls = enough(time(5, ours).max(time(5, rust)) / 5.0);
     let mut ratios = vec![];
     let (mut a, mut b) = (f64::MAX, f64::MAX);
@@ -58,19 +58,21 @@ pub fn row(name: &str, items: usize, ours: &mut dyn FnMut(), rust: &mut dyn FnMu
     }
     ratios.sort_by(f64::total_cmp);
     let (least, middle, greatest) = (ratios[0], ratios[RUNS / 2], ratios[RUNS - 1]);
-    let each = |t: f64| shown(t / (calls * items) as f64);
+    let [a, b] = [a, b].map(|t| t / (calls * items) as f64);
     println!(
         "{name:<48} ours / Rust: {middle:.2} (least {least:.2}, greatest {greatest:.2}); best times {} and {}",
-        each(a),
-        each(b)
+        shown(a),
+        shown(b)
     );
+    (a, b)
 }
 
 /// The same of ours alone, where the Rust has nothing to measure it by.
-pub fn alone(name: &str, items: usize, ours: &mut dyn FnMut()) {
+pub fn alone(name: &str, items: usize, ours: &mut dyn FnMut()) -> f64 {
     let calls = enough(time(5, ours) / 5.0);
     let mut times: Vec<f64> = (0..RUNS).map(|_| time(calls, ours) / (calls * items) as f64).collect();
     times.sort_by(f64::total_cmp);
     let [least, middle, greatest] = [0, RUNS / 2, RUNS - 1].map(|k| shown(times[k]));
     println!("{name:<48} ours: {middle} (least {least}, greatest {greatest}); nothing in the Rust");
+    times[0]
 }

@@ -1,4 +1,4 @@
-//! What conversion does to a tree: acceptance, cost tables, ordering.
+//! What conversion does to a tree, part by part: acceptance, cost tables, ordering.
 use crate::calls;
 use crate::convert::convert;
 use crate::generate::{Boxes, Shape, tree};
@@ -19,11 +19,11 @@ pub fn large_tree(shuffled: bool) -> Tree {
     (0..).map(some).find(|t| (t.link(0) != 1) == shuffled).unwrap()
 }
 
-fn acceptance(name: &str, t: &Tree) {
+pub fn acceptance(name: &str, t: &Tree) -> f64 {
     let mut marks = vec![0; 3 * LEAVES];
     alone(&format!("acceptance, 65,536 leaves {name}"), 1, &mut || {
         assert_eq!(calls::accept(black_box(&t.nodes), LEAVES, &mut marks), 0)
-    });
+    })
 }
 
 fn cost_tables(name: &str, t: &Tree, bvh2: &Bvh2) {
@@ -85,8 +85,6 @@ fn ordering(t: &Tree, bvh2: &Bvh2) {
 pub fn rows() {
     let (ordered, shuffled) = (large_tree(false), large_tree(true));
     let (ordered_bvh2, shuffled_bvh2) = (ordered.bvh2(), shuffled.bvh2());
-    acceptance("in order", &ordered);
-    acceptance("shuffled", &shuffled);
     cost_tables("in order", &ordered, &ordered_bvh2);
     cost_tables("shuffled", &shuffled, &shuffled_bvh2);
     ordering(&ordered, &ordered_bvh2);

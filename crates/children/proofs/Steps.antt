@@ -2,7 +2,6 @@
 use mathlib.Core.Path.{_≡_, refl, sym, ap, ap₂, _∙_}
 use mathlib.Core.List.{List, [], _∷_, _++_, map, map-append}
 use Prim.Native.Nat.{ℕ, _+_, _*_, _-_, _/_, _%_, _^_, _≤_, _<_}
-use native.Mathlib.Nat.{add-zero}
 use native.Mathlib.Decide.{ℕ-discrete}
 use native.Mathlib.Omega.{arith}
 use lib.ListN.{length, getD, set, length-append, length-map}
@@ -17,7 +16,7 @@ use Rattle.cost.specs.Table.{Kind, LEAF, INTERNAL, DISTRIBUTE, Decision, code, 
 use Rattle.cost.specs.Rows.{Holds}
 use Rattle.cost.proofs.Splits.{leaf-kind, splits-few, word-fields}
 use Rattle.children.specs.Gather.{opened, gather, part}
-use Rattle.children.specs.Tabled.{Tabled, Opens, Gathered}
+use Rattle.children.specs.Tabled.{Tabled, Opens, Divides, Gathered}
 use Rattle.children.proofs.Gather.{one-child, gather-width}
 
 -- ---- at a node
@@ -172,22 +171,32 @@ distributed LEAF t g h = absurd (omega arith)
 distributed INTERNAL t g h = absurd (omega arith)
 distributed DISTRIBUTE t g h = refl
 
-pub down : {ws ds : List ℕ} {e v i count w : ℕ} → Opens ws ds e v i count → getD ds (v * 7 + i) 0 / 0x4000_0000 ≡ 2 → w ≡ wordAt ws v 6
-    → Down ws ds e v (w % 0x4000_0000) (getD ds (v * 7 + i) 0 / 256 % 256) (getD ds (v * 7 + i) 0 % 256) count (λ limit. part limit (treeAt ws e v) i)
-down {ws} {ds} {e} {v} {i} {count} o z q =
+-- a node that distributes is opened, and contributes what it opens into
+pub divides : {ws ds : List ℕ} {e v i count : ℕ} → Opens ws ds e v i count → getD ds (v * 7 + i) 0 / 0x4000_0000 ≡ 2 → Divides ws ds e v i count
+divides {ws} {ds} {e} {v} {i} {count} o z =
     let h = o .tabled in
-    let p = at-inner (h .tree) (kind-inner h i (o .entry) z) in
-    rw q (halves h (wordAt ws v 6 % 0x4000_0000) p i count (o .entry) (λ limit. part limit (treeAt ws e v) i)
-    (λ limit k. distributed (table limit (treeAt ws e v) i .kind) (treeAt ws e v) (gather limit (treeAt ws e v) i) (sym (says h limit k i (o .entry) .kind) ∙ z)
-    ∙ gather-inner limit (treeAt ws e v) v (boxAt ws v) _ _ i (p .tree)) (o .slots))
+    let g = distributed (table (h .limit) (treeAt ws e v) i .kind) (treeAt ws e v) (gather (h .limit) (treeAt ws e v) i) (sym (says h (h .limit) (h .holds) i (o .entry) .kind) ∙ z) in
+    record { tabled = h; entry = o .entry; inner = kind-inner h i (o .entry) z; slots = omega (arith, o .slots, ap length g) }
 
-pub root-down : {ws ds : List ℕ} {e v w : ℕ} → Tabled ws ds e v → w ≡ wordAt ws v 6 → w / 0x4000_0000 ≡ 0
-    → Down ws ds e v (w % 0x4000_0000) (getD ds (v * 7) 0 / 256 % 256) (getD ds (v * 7) 0 % 256) 0 (λ limit. gather limit (treeAt ws e v) 0)
-root-down {ws} {ds} {e} {v} h q z =
-    let p = at-inner (h .tree) (rw q at z) in
+pub contributes : {ws ds : List ℕ} {e v i count : ℕ} → Opens ws ds e v i count → getD ds (v * 7 + i) 0 / 0x4000_0000 ≡ 2 → (before after : List ℕ) (r : ℕ)
+    → ((limit : ℕ) → Holds (wordOf limit) 0 ds (treeAt ws e v) → Gathered (gather limit (treeAt ws e v) i) count before after r)
+    → (limit : ℕ) → Holds (wordOf limit) 0 ds (treeAt ws e v) → Gathered (part limit (treeAt ws e v) i) count before after r
+contributes {ws} {e = e} {v = v} {i = i} o z before after r G limit k =
+    rw (distributed (table limit (treeAt ws e v) i .kind) (treeAt ws e v) (gather limit (treeAt ws e v) i) (sym (says (o .tabled) limit k i (o .entry) .kind) ∙ z)) (G limit k)
+
+pub down : {ws ds : List ℕ} {e v i count w : ℕ} → Divides ws ds e v i count → w ≡ wordAt ws v 6
+    → Down ws ds e v (w % 0x4000_0000) (getD ds (v * 7 + i) 0 / 256 % 256) (getD ds (v * 7 + i) 0 % 256) count (λ limit. gather limit (treeAt ws e v) i)
+down {ws} {ds} {e} {v} {i} {count} o q =
+    let h = o .tabled in
+    let p = at-inner (h .tree) (o .inner) in
+    rw q (halves h (wordAt ws v 6 % 0x4000_0000) p i count (o .entry) (λ limit. gather limit (treeAt ws e v) i)
+    (λ limit k. gather-inner limit (treeAt ws e v) v (boxAt ws v) _ _ i (p .tree)) (o .slots))
+
+-- the node whose children are gathered
+pub root-divides : {ws ds : List ℕ} {e v w : ℕ} → Tabled ws ds e v → w ≡ wordAt ws v 6 → w / 0x4000_0000 ≡ 0 → Divides ws ds e v 0 0
+root-divides {ws} {ds} {e} {v} h q z =
     let s : length (gather (h .limit) (treeAt ws e v) 0) ≤ 8 = gather-width (h .limit) (treeAt ws e v) (h .tree .boxes) (omega (arith, subtree-leaves (h .tree), h .tree .few)) in
-    rw q (rw (add-zero (v * 7)) at (halves h (wordAt ws v 6 % 0x4000_0000) p 0 0 (omega arith) (λ limit. gather limit (treeAt ws e v) 0)
-    (λ limit k. gather-inner limit (treeAt ws e v) v (boxAt ws v) _ _ 0 (p .tree)) (omega arith)))
+    record { tabled = h; entry = omega arith; inner = rw q at z; slots = omega arith }
 
 pub root-leaf : {ws ds : List ℕ} {e v w : ℕ} → Tabled ws ds e v → w ≡ wordAt ws v 6 → (w / 0x4000_0000 ≡ 0 → ⊥) → (before : List ℕ) → 8 ≤ length before
     → (limit : ℕ) → Gathered (gather limit (treeAt ws e v) 0) 0 before (set before 0 v) 1

@@ -5,9 +5,9 @@ ghost use Rattle.bvh2.specs.Words.{treeAt};
 ghost use Rattle.cost.specs.Table.{wordOf};
 ghost use Rattle.cost.specs.Rows.{Holds};
 ghost use Rattle.children.specs.Gather.{gather, part};
-ghost use Rattle.children.specs.Tabled.{Tabled, Opens, Gathered};
+ghost use Rattle.children.specs.Tabled.{Tabled, Opens, Divides, Gathered};
 
-// Writes what node v contributes at an entry behind `count` children: itself, or where its decision is DISTRIBUTE, what its two children contribute.
+// Writes what node v contributes at an entry behind `count` children: itself, or where its decision is DISTRIBUTE, what it opens into.
 // Returns the count after them.
 fn open_child(
     words: &[u32],
@@ -27,6 +27,25 @@ fn open_child(
         children[count] = v as u32;
         return count + 1;
     }
+    open_node(words, decisions, v, entry, depth, children, count)
+}
+
+// Writes what the inner node v opens into at an entry behind `count` children: what its two children contribute, each at the entry that the decision
+// says. Only a child that is opened itself is called for. Returns the count after them.
+fn open_node(
+    words: &[u32],
+    decisions: &[u32],
+    v: usize,
+    entry: usize,
+    depth: u32,
+    children: &mut [u32],
+    count: usize,
+) -> usize
+    requires { ⌜ 8 ≤ length (now children) ⌝ }
+    requires { ⌜ Divides (now words) (now decisions) depth v entry count ⌝ }
+    ensures { λ r. ⌜ ((limit : ℕ) → Holds (wordOf limit) 0 (now (decisions .entry)) (treeAt (now (words .entry)) depth v) → Gathered (gather limit (treeAt (now (words .entry)) depth v) entry) count (now (children .entry)) (now (children .exit)) r) ⌝ }
+{
+    let word = decisions[v * 7 + entry];
     let left = (word / 256 % 256) as usize;
     let right = (word % 256) as usize;
     let first = (bvh2::link_word(words, v) % 0x4000_0000) as usize;
@@ -60,18 +79,5 @@ pub fn get_children(
         children[0] = v as u32;
         return 1;
     }
-    let first = (link % 0x4000_0000) as usize;
-    let word = decisions[v * 7];
-    let left = (word / 256 % 256) as usize;
-    let right = (word % 256) as usize;
-    let half = open_child(words, decisions, first, left, depth - 1, children, 0);
-    open_child(
-        words,
-        decisions,
-        first + 1,
-        right,
-        depth - 1,
-        children,
-        half,
-    )
+    open_node(words, decisions, v, 0, depth, children, 0)
 }

@@ -2,7 +2,7 @@
 use mathlib.Core.Path.{_≡_, refl, sym, ap, ap₂, subst, _∙_}
 use mathlib.Core.Bool.{Bool, true, false, not}
 use mathlib.Core.List.{List}
-use Prim.Native.Nat.{ℕ, zero, suc, _+_, _*_, _/_, _^_, _≤_, _<_}
+use Prim.Native.Nat.{ℕ, zero, suc, _+_, _-_, _*_, _/_, _^_, _≤_, _<_}
 use native.Mathlib.Nat.{pow-succ'}
 use lib.Pow.{pow-mono}
 use lib.Dec.{T}
@@ -11,16 +11,21 @@ use Rattle.float.proofs.Magnitude.{atmost-no-nan}
 use Rattle.aabb.specs.Aabb.{acceptedBox}
 use Rattle.aabb.proofs.Bounds.{accepted}
 use Rattle.aabb.specs.declared.Aabb.{Aabb}
-use Rattle.emit.specs.declared.Own.{Own}
 use native.Mathlib.Omega.{arith}
 use lib.ListN.{getD}
 use borrow.Author.Tests.{eq-eqb, ne-eqb}
+use Rattle.lists.specs.Splice.{splice}
+use Rattle.bvh2.specs.Tree.{Tree, leaves, positions}
 use Rattle.bvh2.specs.Words.{boxAt, treeAt}
+use Rattle.wide.specs.Layout.{wordsAt}
+use Rattle.record.specs.Record.{leafMeta, gridBox}
+use Rattle.node.specs.declared.Slot.{Slot}
 use Rattle.node.specs.declared.Node.{Node}
 use Rattle.emit.specs.declared.Grid.{Grid}
+use Rattle.emit.specs.declared.Held.{Held}
 use Rattle.emit.specs.Grid.{gridOf}
 use Rattle.emit.specs.Leaves.{LeavesReady}
-use Rattle.emit.specs.Own.{Cell, none, asLeaf, asNode, cellBy, cellOf, CellReady, SlotReady, State, withChild, firstSlots, nodeBuilt}
+use Rattle.emit.specs.Own.{Cell, none, asLeaf, asNode, cellBy, cellOf, CellReady, SlotReady, Own, State, made, heldIn, listWith, withHeld, withChild, firstSlots, nodeBuilt}
 
 pub cell-none : (ws decisions : List ℕ) (depth v : ℕ) → v ≡ 0xffff_ffff → cellOf ws decisions depth v ≡ none
 unfolding cellOf
@@ -50,11 +55,23 @@ module _ (ws decisions : List ℕ) (depth v : ℕ) (child : v ≡ 0xffff_ffff �
       let k : CellReady m start at (asLeaf (boxAt ws v) (treeAt ws depth v)) = rw (cell-leaf e) at (r .cell) in
       (record { tree = r .tree child; room = k .0 }, k)
 
+-- ---- what the slot of a leaf child holds
+pub leaf-held : (b c : Aabb) (start i at next meta : ℕ) (t : Tree ℕ) (x : Slot) (cell : Cell) → cell ≡ asLeaf c t → next ≡ at + leaves t → meta ≡ leafMeta (next - at) (at - start) → x ≡ gridBox b c
+    → record { meta = meta; corners = x; bit = 0; inner = 0; at = next } ≡ heldIn b start i at cell
+unfolding heldIn
+leaf-held b c start i at next meta t x cell e n m g =
+    let d : next - at ≡ leaves t = omega arith in
+    rw (e, m, d, n, g)
+
+pub leaf-listed : (indices list after : List ℕ) (at : ℕ) (c : Aabb) (t : Tree ℕ) (cell : Cell) → cell ≡ asLeaf c t → after ≡ splice list at (wordsAt indices (positions t)) → after ≡ listWith indices at cell list
+unfolding listWith
+leaf-listed indices list after at c t cell e w = rw e w
+
 -- ---- the first k slots
 module _ (indices : List ℕ) (b : Aabb) (start : ℕ) (cell : ℕ → Cell) (list : List ℕ) where
   one-bounds : (k : ℕ) (c : Cell) (s : State) → s .own .imask < 2 ^ k → s .own .inner ≤ k
       → (withChild indices b start k c s .own .imask < 2 ^ suc k) × (withChild indices b start k c s .own .inner ≤ suc k)
-  unfolding withChild
+  unfolding withChild heldIn
   one-bounds k none s h l = let e = pow-succ' 2 k in (omega arith, omega arith)
   one-bounds k (asLeaf d t) s h l = let e = pow-succ' 2 k in (omega arith, omega arith)
   one-bounds k (asNode d) s h l = let e = pow-succ' 2 k in (omega arith, omega arith)
@@ -64,15 +81,17 @@ module _ (indices : List ℕ) (b : Aabb) (start : ℕ) (cell : ℕ → Cell) (li
   first-bounds zero = (omega arith, omega arith)
   first-bounds (suc k) = let h = first-bounds k in one-bounds k (cell k) (firstSlots indices b start cell k list) (h .0) (h .1)
 
-  pub first-next : (k : ℕ) → withChild indices b start k (cell k) (firstSlots indices b start cell k list) ≡ firstSlots indices b start cell (suc k) list
-  unfolding firstSlots
-  first-next k = refl
+  pub first-next : (k : ℕ) (o : Own) (l l₁ : List ℕ) (h : Held) → made o l ≡ firstSlots indices b start cell k list → h ≡ heldIn b start k (o .at) (cell k) → l₁ ≡ listWith indices (o .at) (cell k) l
+      → made (withHeld k h o) l₁ ≡ firstSlots indices b start cell (suc k) list
+  unfolding firstSlots withChild
+  first-next k o l l₁ h e f g =
+      ap₂ (λ (x : Held) (y : List ℕ). made (withHeld k x o) y) f g ∙ ap (withChild indices b start k (cell k)) e
 
-  -- what the code asks of slot k: its bit fits the mask
-  pub bit-fits : (k : ℕ) (o : Own) → k < 8 → o ≡ firstSlots indices b start cell k list .own → (o .imask + 2 ^ k < 2 ^ 32) × (o .inner < 8)
-  bit-fits k o h e =
+  -- the mask fits a byte
+  pub few-bits : (k : ℕ) (o : Own) → k ≤ 8 → o ≡ firstSlots indices b start cell k list .own → (o .imask < 256) × (o .inner ≤ 8)
+  few-bits k o h e =
       let p = first-bounds k in
-      let q : 2 ^ k ≤ 2 ^ 7 = pow-mono {i = k} {j = 7} (omega arith) in
+      let q : 2 ^ k ≤ 2 ^ 8 = pow-mono {i = k} {j = 8} h in
       let x = ap (λ (w : Own). w .imask) e in
       let y = ap (λ (w : Own). w .inner) e in
       (omega arith, omega arith)

@@ -20,7 +20,7 @@ use Rattle.record.specs.Record.{metas, innerMask, gridBoxes, leafMeta, innerMet
 use Rattle.record.specs.Children.{Child, childAt, childMeta, childBytes, childBit, childPositions, childInner, bitsBefore, positionsBefore}
 use Rattle.record.proofs.Children.{metas-length, boxes-length, meta-at, bytes-at, mask-all, bits-next, positions-all, positions-next, own-next, inner-next, own-all, inner-all, own-first, before-length}
 use Rattle.wide.specs.Layout.{wordsAt}
-use Rattle.emit.specs.Own.{Cell, none, asLeaf, asNode, State, begin, withChild, firstSlots, Matches}
+use Rattle.emit.specs.Own.{Cell, none, asLeaf, asNode, State, begin, heldIn, listWith, withChild, firstSlots, Matches}
 use Rattle.emit.proofs.LeafSteps.{positions-length, words-length}
 
 -- ---- lists of eight filled from the front
@@ -51,17 +51,6 @@ module _ {A : Type 0} (z : A) (f : ℕ → A) where
       at i (inl q) = ap (λ (j : ℕ). getD (set x k v) j z) q ∙ getD-set-same x k v z (omega (arith, h .size)) ∙ e ∙ ap f (sym q)
       at i (inr q) = getD-set-other x k i v z (λ p. omega (arith, p)) ∙ h .before i q
 
-  filled-skip : (k : ℕ) (x : List A) → z ≡ f k → Filled z f k x → Filled z f (suc k) x
-  filled-skip k x e h = record {
-    size = h .size;
-    before = λ i j. at i (eq-or-lt-of-le (le-of-suc-le-suc j));
-    after = λ i j. h .after i (omega arith);
-  }
-    where
-      at : (i : ℕ) → (i ≡ k) ⊎ (i < k) → getD x i z ≡ f i
-      at i (inl q) = h .after i (omega (arith, q)) ∙ e ∙ ap f (sym q)
-      at i (inr q) = h .before i q
-
   filled-all : (x y : List A) → length y ≡ 8 → ((i : ℕ) → i < 8 → getD y i z ≡ f i) → Filled z f 8 x → x ≡ y
   filled-all x y e g h = ext-getD z x y (h .size ∙ sym e) (λ i l. let j : i < 8 = omega (arith, h .size) in h .before i j ∙ sym (g i j))
 
@@ -87,10 +76,10 @@ module _ (indices : List ℕ) (b : Aabb) (start : ℕ) (s : Slots 8) (before : L
   }
 
   step : (k : ℕ) (c : Cell) (z : State) → k < 8 → Matches c (childAt s k) → Upto indices b start s before k z → Upto indices b start s before (suc k) (withChild indices b start k c z)
-  unfolding withChild Matches childMeta childBytes childBit childPositions childInner
+  unfolding withChild heldIn listWith Matches childMeta childBytes childBit childPositions childInner
   step k none z l m h = record {
-    metas = filled-skip 0 (λ i. childMeta (childAt s i) i (ownBefore s i)) k (z .own .metas) (ap (λ (d : Child). childMeta d k (ownBefore s k)) (sym m)) (h .metas);
-    boxes = filled-skip noSlot (λ i. childBytes b (childAt s i)) k (z .own .boxes) (ap (childBytes b) (sym m)) (h .boxes);
+    metas = filled-set 0 (λ i. childMeta (childAt s i) i (ownBefore s i)) k (z .own .metas) 0 l (ap (λ (d : Child). childMeta d k (ownBefore s k)) (sym m)) (h .metas);
+    boxes = filled-set noSlot (λ i. childBytes b (childAt s i)) k (z .own .boxes) noSlot l (ap (childBytes b) (sym m)) (h .boxes);
     mask = omega (arith, h .mask, bits-next s 0 k, ap (λ (d : Child). childBit d (0 + k)) m);
     inner = omega (arith, h .inner, inner-next s k, ap childInner m);
     at = omega (arith, h .at, own-next s k, ap (λ (d : Child). length (childPositions d)) m);

@@ -15,11 +15,12 @@ use Rattle.bvh2.specs.Words.{boxAt, treeAt}
 use Rattle.bvh2.specs.Decoded.{Subtree}
 use Rattle.node.specs.Node.{noSlot}
 use Rattle.record.specs.Record.{leafMeta, innerMeta, gridBox}
+use Rattle.node.specs.declared.Slot.{Slot}
 use Rattle.node.specs.declared.Node.{Node}
 use Rattle.wide.specs.Wide.{Slots}
 use Rattle.record.specs.Children.{Child, leafChild, innerChild}
 use Rattle.record.specs.Children as R
-use Rattle.emit.specs.declared.Own.{Own}
+use Rattle.emit.specs.declared.Held.{Held}
 use Rattle.emit.specs.declared.Built.{Built}
 use Rattle.wide.specs.Layout.{wordsAt}
 
@@ -39,6 +40,40 @@ cellBy false (suc kind) b t = asNode b
 unfoldable pub cellOf : List ℕ → List ℕ → ℕ → ℕ → Cell
 cellOf ws decisions depth v = cellBy (eqb v 0xffff_ffff) (getD decisions (v * 7) 0 / 0x4000_0000) (boxAt ws v) (treeAt ws depth v)
 
+-- what slot i of a node of box b holds, whose own positions start at `start` and are written up to `at`
+unfoldable pub heldIn : Aabb → (start i at : ℕ) → Cell → Held
+heldIn b start i at none = record { meta = 0; corners = noSlot; bit = 0; inner = 0; at = at }
+heldIn b start i at (asLeaf c t) = record { meta = leafMeta (leaves t) (at - start); corners = gridBox b c; bit = 0; inner = 0; at = at + leaves t }
+heldIn b start i at (asNode c) = record { meta = innerMeta i; corners = gridBox b c; bit = 2 ^ i; inner = 1; at = at }
+
+-- the index list with a leaf child's words from `at` on
+unfoldable pub listWith : List ℕ → ℕ → Cell → List ℕ → List ℕ
+listWith indices at none list = list
+listWith indices at (asLeaf c t) list = splice list at (wordsAt indices (positions t))
+listWith indices at (asNode c) list = list
+
+-- a node's own slots so far: meta bytes, boxes on the grid, the mask of inner children and how many they are, and the next free position
+pub record Own : Type 0 where
+  pub metas : List ℕ
+  pub boxes : List Slot
+  pub imask : ℕ
+  pub inner : ℕ
+  pub at : ℕ
+
+-- nothing yet
+abbrev pub begin : ℕ → Own
+begin at = record { metas = replicate 8 0; boxes = replicate 8 noSlot; imask = 0; inner = 0; at = at }
+
+-- slot i more
+abbrev pub withHeld : ℕ → Held → Own → Own
+withHeld i h o = record {
+  metas = set (o .metas) i (h .meta);
+  boxes = set (o .boxes) i (h .corners);
+  imask = o .imask + h .bit;
+  inner = o .inner + h .inner;
+  at = h .at;
+}
+
 -- the slots so far, and the index list
 pub record State : Type 0 where
   pub own : Own
@@ -47,38 +82,14 @@ pub record State : Type 0 where
 abbrev pub made : Own → List ℕ → State
 made o l = record { own = o; list = l }
 
--- nothing yet, with the next place in the index list
-abbrev pub begin : ℕ → Own
-begin at = record { metas = replicate 8 0; boxes = replicate 8 noSlot; imask = 0; inner = 0; at = at }
-
--- slot i of a node of box b whose own positions start at `start`
 unfoldable pub withChild : List ℕ → Aabb → (start i : ℕ) → Cell → State → State
-withChild indices b start i none s = s
-withChild indices b start i (asLeaf c t) s = record {
-  own = record {
-    metas = set (s .own .metas) i (leafMeta (leaves t) (s .own .at - start));
-    boxes = set (s .own .boxes) i (gridBox b c);
-    imask = s .own .imask;
-    inner = s .own .inner;
-    at = s .own .at + leaves t;
-  };
-  list = splice (s .list) (s .own .at) (wordsAt indices (positions t));
-}
-withChild indices b start i (asNode c) s = record {
-  own = record {
-    metas = set (s .own .metas) i (innerMeta i);
-    boxes = set (s .own .boxes) i (gridBox b c);
-    imask = s .own .imask + 2 ^ i;
-    inner = s .own .inner + 1;
-    at = s .own .at;
-  };
-  list = s .list;
-}
+unfolding heldIn listWith
+withChild indices b start i c s = made (withHeld i (heldIn b start i (s .own .at) c) (s .own)) (listWith indices (s .own .at) c (s .list))
 
 -- the first k slots
 unfoldable pub firstSlots : List ℕ → Aabb → ℕ → (ℕ → Cell) → ℕ → List ℕ → State
 unfolding withChild
-firstSlots indices b start cell zero list = record { own = begin start; list = list }
+firstSlots indices b start cell zero list = made (begin start) list
 firstSlots indices b start cell (suc k) list = withChild indices b start k (cell k) (firstSlots indices b start cell k list)
 
 -- what working on a slot asks: a child is a subtree, and a leaf's words have room

@@ -9,7 +9,7 @@ ghost use Rattle.bvh2.specs.Words.{boxAt, treeAt};
 ghost use Rattle.record.specs.Record.{leafMeta};
 ghost use Rattle.emit.specs.Leaves.{LeavesReady, LeavesWritten};
 ghost use Rattle.emit.specs.Grid.{gridOf, boxOn};
-ghost use Rattle.emit.specs.Own.{SlotReady, OwnReady, made, withChild, allSlots, BuiltAs, cellOf};
+ghost use Rattle.emit.specs.Own.{SlotReady, OwnReady, heldIn, listWith, allSlots, BuiltAs, cellOf};
 use aabb::Aabb;
 use node::Node;
 use node::Slot;
@@ -107,16 +107,16 @@ fn leaf_meta(count: usize, before: usize) -> u8
     224 + before as u8
 }
 
-// A node's own slots so far: meta bytes, boxes on the grid, the mask of inner children and how many they are, and the next free position.
-pub struct Own {
-    pub metas: [u8; 8],
-    pub boxes: [Slot; 8],
-    pub imask: u32,
+// What a slot of a node holds: its meta byte and its box on the grid, its bit in the mask of inner children, 1 if its child is one, and the next free position.
+pub struct Held {
+    pub meta: u8,
+    pub corners: Slot,
+    pub bit: u32,
     pub inner: usize,
     pub at: usize,
 }
 
-// One slot of a node whose own positions start at a place: nothing, a leaf child whose index words are written, or an inner child.
+// One slot of a node whose own positions start at a place: nothing, a leaf child whose index words are written from `at` on, or an inner child.
 fn own_slot(
     words: &[u32],
     indices: &[u32],
@@ -127,37 +127,39 @@ fn own_slot(
     start: usize,
     grid: Grid,
     depth: u32,
-    own: Own,
-) -> Own
-    requires { ⌜ (i < 8) × (own .imask + 2 ^ i < 2 ^ 32) × (own .inner < 8) × SlotReady (now words) (now decisions) (length (now indices)) (length (now out)) depth v start (own .at) ⌝ }
-    ensures { λ r. ⌜ ((b : Aabb) → grid ≡ gridOf b → made r (now (out .exit)) ≡ withChild (now (indices .entry)) b start i (cellOf (now (words .entry)) (now (decisions .entry)) depth v) (made own (now (out .entry)))) ⌝ }
+    at: usize,
+) -> Held
+    requires { ⌜ (i < 8) × SlotReady (now words) (now decisions) (length (now indices)) (length (now out)) depth v start at ⌝ }
+    ensures { λ r. ⌜ ((b : Aabb) → grid ≡ gridOf b → r ≡ heldIn b start i at (cellOf (now (words .entry)) (now (decisions .entry)) depth v)) ⌝ }
+    ensures { λ _. ⌜ now (out .exit) ≡ listWith (now (indices .entry)) at (cellOf (now (words .entry)) (now (decisions .entry)) depth v) (now (out .entry)) ⌝ }
 {
     if v == 0xffff_ffff {
-        return own;
+        return Held {
+            meta: 0,
+            corners: NO_SLOT,
+            bit: 0,
+            inner: 0,
+            at,
+        };
     }
     let child = v as usize;
-    let mut metas = own.metas;
-    let mut boxes = own.boxes;
-    let at = own.at;
     let b = bvh2::node_box(words, child);
-    boxes[i] = grid_box(grid, b);
+    let corners = grid_box(grid, b);
     if decisions[child * 7] / 0x4000_0000 == 0 {
         let next = write_leaves(words, indices, out, child, at, depth);
-        metas[i] = leaf_meta(next - at, at - start);
-        return Own {
-            metas,
-            boxes,
-            imask: own.imask,
-            inner: own.inner,
+        return Held {
+            meta: leaf_meta(next - at, at - start),
+            corners,
+            bit: 0,
+            inner: 0,
             at: next,
         };
     }
-    metas[i] = 56 + i as u8;
-    Own {
-        metas,
-        boxes,
-        imask: own.imask + (1u32 << (i as u32)),
-        inner: own.inner + 1,
+    Held {
+        meta: 56 + i as u8,
+        corners,
+        bit: 1u32 << (i as u32),
+        inner: 1,
         at,
     }
 }
@@ -176,43 +178,44 @@ pub fn build_node(
     indices: &[u32],
     decisions: &[u32],
     out: &mut [u32],
-    slots: [u32; 8],
+    slots: &[u32; 8],
     v: usize,
     count: usize,
     start: usize,
     depth: u32,
 ) -> Built
-    requires { ⌜ (v * 7 + 6 < length (now words)) × (acceptedBox (boxAt (now words) v) ≡ true) × (count < 2 ^ 32) × (start < 2 ^ 32) × OwnReady (now words) (now decisions) (now indices) slots (boxAt (now words) v) (length (now out)) depth start (now out) ⌝ }
-    ensures { λ r. ⌜ BuiltAs (now (words .entry)) v count start (allSlots (now (words .entry)) (now (decisions .entry)) (now (indices .entry)) slots v start depth (now (out .entry))) r (now (out .exit)) ⌝ }
+    requires { ⌜ (v * 7 + 6 < length (now words)) × (acceptedBox (boxAt (now words) v) ≡ true) × (count < 2 ^ 32) × (start < 2 ^ 32) × OwnReady (now words) (now decisions) (now indices) (now slots) (boxAt (now words) v) (length (now out)) depth start (now out) ⌝ }
+    ensures { λ r. ⌜ BuiltAs (now (words .entry)) v count start (allSlots (now (words .entry)) (now (decisions .entry)) (now (indices .entry)) (now (slots .entry)) v start depth (now (out .entry))) r (now (out .exit)) ⌝ }
 {
     let b = bvh2::node_box(words, v);
     let grid = grid_of(b);
-    let mut own = Own {
-        metas: [0; 8],
-        boxes: [NO_SLOT; 8],
-        imask: 0,
-        inner: 0,
-        at: start,
-    };
+    let mut metas = [0u8; 8];
+    let mut boxes = [NO_SLOT; 8];
+    let mut imask = 0u32;
+    let mut inner = 0usize;
+    let mut at = start;
     let mut i = 0usize;
     while i < 8 {
-        let child = slots[i];
-        own = own_slot(
+        let held = own_slot(
             words,
             indices,
             decisions,
             out,
-            child,
+            slots[i],
             i,
             start,
             grid,
             depth,
-            own,
+            at,
         );
+        metas[i] = held.meta;
+        let corners = held.corners;
+        boxes[i] = corners;
+        imask += held.bit;
+        inner += held.inner;
+        at = held.at;
         i += 1;
     }
-    let metas = own.metas;
-    let boxes = own.boxes;
     let node = Node {
         px: f32::to_bits(b.min.x),
         py: f32::to_bits(b.min.y),
@@ -220,15 +223,11 @@ pub fn build_node(
         ex: grid.ex,
         ey: grid.ey,
         ez: grid.ez,
-        imask: own.imask as u8,
+        imask: imask as u8,
         child_base_idx: count as u32,
         primitive_base_idx: start as u32,
         child_meta: metas,
         slots: boxes,
     };
-    Built {
-        node,
-        inner: own.inner,
-        at: own.at,
-    }
+    Built { node, inner, at }
 }

@@ -1,6 +1,6 @@
 -- From the children that were gathered to a node's slots.
 use mathlib.Core.Path.{_≡_, refl, sym, ap, ap₂, _∙_}
-use mathlib.Core.Bool.{Bool}
+use mathlib.Core.Bool.{Bool, true, false}
 use mathlib.Core.List.{List, [], _∷_, map}
 use Prim.Native.Nat.{ℕ, zero, suc, _+_, _-_, _*_, _≤_, _<_}
 use native.Mathlib.Nat.{zero-add, le-of-suc-le-suc, not-suc-le-zero}
@@ -21,7 +21,8 @@ use Rattle.children.specs.Tabled.{Tabled, Gathered}
 use Rattle.children.proofs.Gather.{gather-width}
 use Rattle.children.proofs.Reread.{Reread, gather-here}
 use Rattle.order.specs.Lists.{padded}
-use Rattle.order.specs.Order.{slotsOf, placed}
+use Rattle.order.specs.Assign.{partner}
+use Rattle.order.specs.Order.{inOrder, slotsOf, placed}
 use Rattle.emit_tree.specs.Emission.{slotWords}
 
 -- the boxes of gathered nodes, read by their numbers, and that they can be read
@@ -37,8 +38,22 @@ rows-read ws ds n limit d [] h i l = absurd (not-suc-le-zero l)
 rows-read ws ds n limit d (t ∷ g) h zero l = let k = node (h .0 .subtree) in omega (arith, k .room)
 rows-read ws ds n limit d (t ∷ g) h (suc i) l = rows-read ws ds n limit d g (h .1) i (le-of-suc-le-suc l)
 
+-- up to eight children in their order, and z behind them, are the children placed in order
+in-order-placed : {A : Type 0} (z : A) (xs : List A) → length xs ≤ 8 → splice (replicate 8 z) 0 xs ≡ placed z (inOrder (length xs)) xs
+unfolding splice placed inOrder partner
+in-order-placed z [] h = refl
+in-order-placed z (a ∷ []) h = refl
+in-order-placed z (a ∷ b ∷ []) h = refl
+in-order-placed z (a ∷ b ∷ c ∷ []) h = refl
+in-order-placed z (a ∷ b ∷ c ∷ d ∷ []) h = refl
+in-order-placed z (a ∷ b ∷ c ∷ d ∷ e ∷ []) h = refl
+in-order-placed z (a ∷ b ∷ c ∷ d ∷ e ∷ f ∷ []) h = refl
+in-order-placed z (a ∷ b ∷ c ∷ d ∷ e ∷ f ∷ g ∷ []) h = refl
+in-order-placed z (a ∷ b ∷ c ∷ d ∷ e ∷ f ∷ g ∷ i ∷ []) h = refl
+in-order-placed z (a ∷ b ∷ c ∷ d ∷ e ∷ f ∷ g ∷ i ∷ j ∷ xs) h = absurd (omega arith)
+
 module _ {ws ds : List ℕ} {d v r : ℕ} {found : List ℕ} (h : Tabled ws ds d v)
-    (k : (limit : ℕ) → Holds (wordOf limit) 0 ds (treeAt ws d v) → Gathered (gather limit (treeAt ws d v) 0) 0 (replicate 8 0) found r)
+    (k : (limit : ℕ) → Holds (wordOf limit) 0 ds (treeAt ws d v) → Gathered (gather limit (treeAt ws d v) 0) 0 (replicate 8 0xffff_ffff) found r)
   where
     -- as many as there are, and their numbers
     number : (limit : ℕ) → Holds (wordOf limit) 0 ds (treeAt ws d v) → length (map labelOf (gather limit (treeAt ws d v) 0)) ≡ r
@@ -48,7 +63,7 @@ module _ {ws ds : List ℕ} {d v r : ℕ} {found : List ℕ} (h : Tabled ws ds d
     unfolding splice
     numbers limit z =
         let g = gather limit (treeAt ws d v) 0 in
-        ap (take r) (k limit z .written) ∙ take-at (map labelOf g) (drop (0 + length (map labelOf g)) (replicate 8 0)) r (number limit z)
+        ap (take r) (k limit z .written) ∙ take-at (map labelOf g) (drop (0 + length (map labelOf g)) (replicate 8 0xffff_ffff)) r (number limit z)
 
     pub found-few : r ≤ 8
     found-few =
@@ -66,15 +81,27 @@ module _ {ws ds : List ℕ} {d v r : ℕ} {found : List ℕ} (h : Tabled ws ds d
         let q = rows-read ws ds (h .n) (h .limit) d g (gather-here ws ds (h .n) (h .limit) d v (h .tree) (h .holds) 0) i (omega (arith, number (h .limit) (h .holds))) in
         rw e q
 
-    pub found-slots : (ordered : Bool) (p : Aabb) (bs : List Aabb) → p ≡ boxAt ws v → bs ≡ padded p (map (boxAt ws) (take r found))
+    -- with ordering
+    pub found-slots : (ordered : Bool) → ordered ≡ true → (p : Aabb) (bs : List Aabb) → p ≡ boxAt ws v → bs ≡ padded p (map (boxAt ws) (take r found))
         → (limit : ℕ) → Holds (wordOf limit) 0 ds (treeAt ws d v)
-        → placed 0xffff_ffff (slotsOf ordered p (take r bs)) (take r found) ≡ slotWords ordered limit (treeAt ws d v)
+        → placed 0xffff_ffff (slotsOf true p (take r bs)) (take r found) ≡ slotWords ordered limit (treeAt ws d v)
     unfolding slotWords padded
-    found-slots ordered p bs e f limit z =
+    found-slots ordered o p bs e f limit z =
         let g = gather limit (treeAt ws d v) 0 in
         let l = map labelOf g in
         let b : take r bs ≡ map boxOf g =
         ap (take r) (f ∙ ap (λ (xs : List ℕ). padded p (map (boxAt ws) xs)) (numbers limit z))
         ∙ take-at (map (boxAt ws) l) (replicate (8 - length (map (boxAt ws) l)) p) r (length-map l (boxAt ws) ∙ number limit z)
         ∙ boxes-read ws ds (h .n) limit d g (gather-here ws ds (h .n) limit d v (h .tree) z 0) in
-        rw (numbers limit z, b, e, ← (box-is ws d v)) refl
+        rw (numbers limit z, b, e, ← (box-is ws d v), o) refl
+
+    -- without
+    pub found-in-order : (ordered : Bool) → ordered ≡ false → (limit : ℕ) → Holds (wordOf limit) 0 ds (treeAt ws d v) → found ≡ slotWords ordered limit (treeAt ws d v)
+    unfolding slotWords slotsOf
+    found-in-order ordered o limit z =
+        let g = gather limit (treeAt ws d v) 0 in
+        let n : length (map labelOf g) ≡ length (map boxOf g) = length-map g labelOf ∙ sym (length-map g boxOf) in
+        rw o
+        (k limit z .written
+        ∙ in-order-placed 0xffff_ffff (map labelOf g) (omega (arith, number limit z, found-few))
+        ∙ ap (λ (m : ℕ). placed 0xffff_ffff (inOrder m) (map labelOf g)) n)

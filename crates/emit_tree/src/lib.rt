@@ -46,16 +46,19 @@ fn child_boxes(words: &[u32], parent: Aabb, found: [u32; 8], count: usize) -> [A
     boxes
 }
 
-// The children of the wide node that node v becomes, by slots: all ones in a slot without a child.
+// The children of the wide node that node v becomes, by slots: all ones in a slot without a child. Without ordering they stay as they were gathered.
 pub fn slots_of(words: &[u32], decisions: &[u32], v: usize, depth: u32, ordered: bool) -> [u32; 8]
     requires { ⌜ Tabled (now words) (now decisions) depth v ⌝ }
     ensures { λ r. ⌜ ((limit : ℕ) → Holds (wordOf limit) 0 (now (decisions .entry)) (treeAt (now (words .entry)) depth v) → r ≡ slotWords ordered limit (treeAt (now (words .entry)) depth v)) ⌝ }
 {
-    let mut found = [0u32; 8];
+    let mut found = [0xffff_ffffu32; 8];
     let count = children::get_children(words, decisions, v, depth, &mut found);
+    if !ordered {
+        return found;
+    }
     let parent = bvh2::node_box(words, v);
     let boxes = child_boxes(words, parent, found, count);
-    order::order_children(ordered, parent, boxes, found, count)
+    order::order_children(true, parent, boxes, found, count)
 }
 
 // Writes node `number`, which node v becomes, with all below it; the next free node and position after it.
@@ -80,7 +83,7 @@ fn emit_node(
         indices,
         decisions,
         out,
-        slots,
+        &slots,
         v,
         next.nodes,
         next.positions,

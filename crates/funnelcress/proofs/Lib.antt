@@ -1,3 +1,5 @@
 pub mod Answers
 pub mod Filled
 pub mod Numbers
+pub mod Converted
+pub mod ConvertedNumbers

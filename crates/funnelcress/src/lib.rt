@@ -1,14 +1,17 @@
 // The library for C and Rust: each function is exported under its name. Numbers that are returned are those of
-// refusals, 0 for none, but the record check's, which also says what a record is; a refused call writes nothing.
+// refusals, 0 for none, but the record check's and conversion's, which also hold what they answer.
 ghost use mathlib.Core.Path.{_≡_};
 ghost use Prim.Native.Nat.{_+_, _*_, _/_, _≤_, _<_};
 ghost use lib.ListN.{length};
 ghost use Rattle.aabb.specs.Aabb.{halfArea, entryDistance};
 ghost use Rattle.record_shape.specs.Check.{checkOf, wordsAfter};
 ghost use Rattle.validate.specs.Validity.{answerOf};
+ghost use Rattle.bvh2_to_cwbvh.specs.Answer.{answerOf as conversionAnswer};
 ghost use Rattle.funnelcress.specs.Answers.{answerNumber};
+ghost use Rattle.funnelcress.specs.Converted.{conversionBy, conversionNumber};
 ghost use Rattle.funnelcress.specs.Lists.{vecAt, boxAt, rayAt, filled, areaAt, entryAt, refusal, rayRefusal, answered};
 use aabb::Aabb;
+use bvh2_to_cwbvh::Conversion;
 use ray::Ray;
 use ray::Vec3;
 use validate::Validity;
@@ -109,6 +112,13 @@ pub extern "C" fn funnelcress_entry_distances(boxes: &[f32], ray: &[f32], out: &
     number
 }
 
+// The number of an answer that is the refusal of this number.
+fn refusal_number(number: u32) -> u64
+    ensures { λ r. ⌜ r ≡ 0x2_0000_0000 + number ⌝ }
+{
+    0x2_0000_0000 + number as u64
+}
+
 // The record check's answer as a number.
 fn answer_number(v: Validity) -> u64
     ensures { λ r. ⌜ r ≡ answerNumber (answerOf v) ⌝ }
@@ -121,7 +131,7 @@ fn answer_number(v: Validity) -> u64
             return 0x1_0000_0000;
         }
         Validity::Refused(number) => {
-            return 0x2_0000_0000 + number as u64;
+            return refusal_number(number);
         }
     }
 }
@@ -133,4 +143,57 @@ pub extern "C" fn funnelcress_validate(record: &[u8], n: usize, work: &mut [u32]
     ensures { λ _. ⌜ now (work .exit) ≡ wordsAfter (now («record» .entry)) n (now (work .entry)) ⌝ }
 {
     answer_number(validate::validate(record, n, work))
+}
+
+// Conversion's answer as a number.
+fn conversion_number(c: Conversion) -> u64
+    ensures { λ r. ⌜ r ≡ conversionNumber (conversionAnswer c) ⌝ }
+{
+    match c {
+        Conversion::Converted(nodes, level) => {
+            return level as u64 * 65536 + nodes as u64;
+        }
+        Conversion::Refused(number) => {
+            return refusal_number(number);
+        }
+    }
+}
+
+// Conversion with ordering off for order 0 and on for 1, any other order being refused: its answer, and below 2^32 the deepest level and the sixteen bits of
+// the node count, or the number of a refusal. The tables of the tree's decisions and costs are left in the working slices.
+#[no_mangle]
+pub extern "C" fn funnelcress_bvh2_to_cwbvh(
+    words: &[u32],
+    indices: &[u32],
+    limit: u32,
+    order: u32,
+    decisions: &mut [u32],
+    costs: &mut [f32],
+    record: &mut [u8],
+    list: &mut [u32],
+) -> u64
+    ensures { λ r. ⌜ r ≡ conversionNumber (conversionBy (now (words .entry)) (now (indices .entry)) limit order (now (decisions .entry)) (now (costs .entry)) (now («record» .entry)) (now (list .entry)) .answer) ⌝ }
+    ensures { λ _. ⌜ now (decisions .exit) ≡ conversionBy (now (words .entry)) (now (indices .entry)) limit order (now (decisions .entry)) (now (costs .entry)) (now («record» .entry)) (now (list .entry)) .decisions ⌝ }
+    ensures { λ _. ⌜ now (costs .exit) ≡ conversionBy (now (words .entry)) (now (indices .entry)) limit order (now (decisions .entry)) (now (costs .entry)) (now («record» .entry)) (now (list .entry)) .costs ⌝ }
+    ensures { λ _. ⌜ now («record» .exit) ≡ conversionBy (now (words .entry)) (now (indices .entry)) limit order (now (decisions .entry)) (now (costs .entry)) (now («record» .entry)) (now (list .entry)) .bytes ⌝ }
+    ensures { λ _. ⌜ now (list .exit) ≡ conversionBy (now (words .entry)) (now (indices .entry)) limit order (now (decisions .entry)) (now (costs .entry)) (now («record» .entry)) (now (list .entry)) .list ⌝ }
+{
+    if order > 1 {
+        let cause = bvh2_check::sizes(words, indices.len());
+        if cause != 0 {
+            return conversion_number(Conversion::Refused(cause));
+        }
+        return conversion_number(Conversion::Refused(3));
+    }
+    let ordered = order == 1;
+    conversion_number(bvh2_to_cwbvh::bvh2_to_cwbvh(
+        words,
+        indices,
+        limit,
+        ordered,
+        decisions,
+        costs,
+        record,
+        list,
+    ))
 }

@@ -24,6 +24,7 @@ pub fn print_name(kind: u32) {
             b"unsound records that `validate` lets through",
         ),
         26 => io::write_all(STDOUT_FILENO, b"records checked by lengths"),
+        32 => io::write_all(STDOUT_FILENO, b"records queried"),
         40 => io::write_all(STDOUT_FILENO, b"records shown"),
         41 => io::write_all(STDOUT_FILENO, b"lines of checkrecord"),
         _ => io::write_all(STDOUT_FILENO, b"unknown"),

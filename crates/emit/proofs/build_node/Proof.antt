@@ -1,23 +1,61 @@
 use mathlib.Core.Path.{_≡_, refl, ap, _∙_}
-use Prim.Native.Nat.{ℕ, _-_, _≤_}
+use mathlib.Core.List.{List}
+use Prim.Native.Nat.{ℕ, suc, _-_, _≤_, _<_}
 use native.Mathlib.Numerals.{add-one}
 use native.Mathlib.Omega.{arith}
 use borrow.Author.Needs.{needs}
 use lib.ListN.{length, getD}
 use Rattle.bvh2.specs.Words.{boxAt}
 use Rattle.emit.specs.Grid.{gridOf}
-use Rattle.emit.specs.Own.{made, cellOf, firstSlots, allSlots, State}
-use Rattle.emit.proofs.OwnSteps.{first-bounds, first-next, bit-fits, corner-numbers, built}
+use Rattle.emit.specs.Own.{Cell, Own, State, made, withHeld, cellOf, firstSlots}
+use Rattle.emit.proofs.OwnSteps.{first-next, few-bits, corner-numbers, built}
 use Rattle.emit.proofs.build_node.Statement.{statement}
 use Rattle.emit.proofs.build_node.Tie as tie
 
 abbrev Inv-loop : tie.InvT-loop
-Inv-loop words indices decisions out₀ v count start depth slots b grid own₀ i₀ out own i =
+Inv-loop words indices decisions out₀ slots v count start depth b grid metas₀ boxes₀ imask₀ inner₀ at₀ i₀ out metas boxes imask inner at i =
     (i ≤ 8) × (length out ≡ length out₀)
-    × (made own out ≡ firstSlots indices (boxAt words v) start (λ j. cellOf words decisions depth (getD slots j 0)) i out₀)
+    × (made (record { metas = metas; boxes = boxes; imask = imask; inner = inner; at = at }) out ≡ firstSlots indices (boxAt words v) start (λ j. cellOf words decisions depth (getD slots j 0)) i out₀)
 
 abbrev μ-loop : tie.MeasureT-loop
-μ-loop words indices decisions out₀ v count start depth slots b grid own₀ i₀ out own i = 8 - i
+μ-loop words indices decisions out₀ slots v count start depth b grid metas₀ boxes₀ imask₀ inner₀ at₀ i₀ out metas boxes imask inner at i = 8 - i
+
+-- the places: the entry, at the loop's test, after a slot was worked on
+abbrev S : Type 0
+S = tie.Start Inv-loop μ-loop
+
+abbrev L : Type 0
+L = tie.At-loop Inv-loop μ-loop
+
+abbrev H : Type 0
+H = tie.After-own-slot Inv-loop μ-loop
+
+abbrev start : L → S
+start l = l .before .before .before .before .before .before .before
+
+abbrev own : L → Own
+own l = record { metas = l .loop .metas; boxes = l .loop .boxes; imask = l .loop .imask; inner = l .loop .inner; at = l .loop .at }
+
+abbrev cells : S → ℕ → Cell
+cells s j = cellOf (s .args .words .now) (s .args .decisions .now) (s .args .depth) (getD (s .args .slots .now) j 0)
+
+abbrev slotsUpto : S → ℕ → State
+slotsUpto s k = firstSlots (s .args .indices .now) (boxAt (s .args .words .now) (s .args .v)) (s .args .start) (cells s) k (s .args .out .now)
+
+-- the slots with one more
+next : (h : H) → let l = h .before .before .before .before in made (withHeld (l .loop .i) (h .own-slot .result) (own l)) (h .own-slot .last .1 .1 .1 .0) ≡ slotsUpto (start l) (suc (l .loop .i))
+next h =
+    let l = h .before .before .before .before in
+    let s = start l in
+    let g = l .before in
+    first-next (s .args .indices .now) (boxAt (s .args .words .now) (s .args .v)) (s .args .start) (cells s) (s .args .out .now) (l .loop .i) (own l) (l .loop .out) _ _ (l .loop .inv .2)
+    (h .own-slot .ensures .0 (boxAt (s .args .words .now) (s .args .v)) (g .grid-of .ensures ∙ ap gridOf (g .before .node-box .ensures))) (h .own-slot .ensures .1)
+
+few : (s : S) (k : ℕ) (o : Own) (l : List ℕ) → k ≤ 8 → made o l ≡ slotsUpto s k → (o .imask < 256) × (o .inner ≤ 8)
+few s k o l h e = few-bits (s .args .indices .now) (boxAt (s .args .words .now) (s .args .v)) (s .args .start) (cells s) (s .args .out .now) k o h (ap (λ (x : State). x .own) e)
+
+bits : (l : L) → (l .loop .imask < 256) × (l .loop .inner ≤ 8)
+bits l = few (start l) (l .loop .i) (own l) (l .loop .out) (l .loop .inv .0) (l .loop .inv .2)
 
 node-box-requires : tie.Need-node-box-requires Inv-loop μ-loop
 node-box-requires c κs = omega arith
@@ -29,21 +67,34 @@ loop-holds : tie.Need-loop-holds Inv-loop μ-loop
 unfolding firstSlots
 loop-holds c = (omega arith, refl, refl)
 
-mul-child : tie.Need-mul-child Inv-loop μ-loop
-mul-child c = omega arith
+mul-own-slot : tie.Need-mul-own-slot Inv-loop μ-loop
+mul-own-slot c = omega arith
 
-array-read-child : tie.Need-array-read-child Inv-loop μ-loop
-array-read-child c = omega arith
+element-copy-out-own-slot : tie.Need-element-copy-out-own-slot Inv-loop μ-loop
+element-copy-out-own-slot c = omega arith
 
 own-slot-requires : tie.Need-own-slot-requires Inv-loop μ-loop
 own-slot-requires c κs =
-    let l = c .before .before in
-    let s = l .before .before .before .before .before .before .before in
-    let i = l .loop .i in
-    let f = firstSlots (s .args .indices .now) (boxAt (s .args .words .now) (s .args .v)) (s .args .start) (λ j. cellOf (s .args .words .now) (s .args .decisions .now) (s .args .depth) (getD (s .args .t5) j 0)) i (s .args .out .now) in
-    let e : l .loop .own ≡ f .own = ap (λ (x : State). x .own) (l .loop .inv .2) in
-    let b = bit-fits (s .args .indices .now) (boxAt (s .args .words .now) (s .args .v)) (s .args .start) (λ j. cellOf (s .args .words .now) (s .args .decisions .now) (s .args .depth) (getD (s .args .t5) j 0)) (s .args .out .now) i (l .loop .own) (c .before .loop-test .taken) e in
-    (c .before .loop-test .taken, b .0, b .1, rw (l .loop .inv .1, e) (s .pre .4 .each i (c .before .loop-test .taken)))
+    let t = c .before .before in
+    let l = t .before in
+    let s = start l in
+    let e = ap (λ (x : State). x .own .at) (l .loop .inv .2) in
+    (t .loop-test .taken, rw (l .loop .inv .1, e) (s .pre .4 .each (l .loop .i) (t .loop-test .taken)))
+
+array-write-metas : tie.Need-array-write-metas Inv-loop μ-loop
+array-write-metas c = omega arith
+
+mul-boxes : tie.Need-mul-boxes Inv-loop μ-loop
+mul-boxes c = omega arith
+
+array-set-from-boxes : tie.Need-array-set-from-boxes Inv-loop μ-loop
+array-set-from-boxes c = omega arith
+
+add-imask : tie.Need-add-imask Inv-loop μ-loop
+add-imask c = let h = c .before .before .before .before in let l = h .before .before .before .before in omega (arith, few (start l) (suc (l .loop .i)) _ _ (omega arith) (next h) .0)
+
+add-inner : tie.Need-add-inner Inv-loop μ-loop
+add-inner c = let h = c .before .before .before .before .before in let l = h .before .before .before .before in omega (arith, few (start l) (suc (l .loop .i)) _ _ (omega arith) (next h) .1)
 
 add-i : tie.Need-add-i Inv-loop μ-loop
 add-i c = omega arith
@@ -53,68 +104,46 @@ loop-less c = omega arith
 
 loop-again : tie.Need-loop-again Inv-loop μ-loop
 loop-again c =
-    let o = c .before .before in
-    let l = o .before .before .before in
-    let g = l .before in
-    let s = g .before .before .before .before .before .before in (
-      omega arith,
-      o .own-slot .kept .1 .1 .1 .0 ∙ l .loop .inv .1,
-      o .own-slot .ensures (boxAt (s .args .words .now) (s .args .v)) (g .grid-of .ensures ∙ ap gridOf (g .before .node-box .ensures))
-          ∙ rw (l .loop .inv .2, add-one) (first-next (s .args .indices .now) (boxAt (s .args .words .now) (s .args .v)) (s .args .start) (λ j. cellOf (s .args .words .now) (s .args .decisions .now) (s .args .depth) (getD (s .args .t5) j 0)) (s .args .out .now) (l .loop .i)),
-    )
+    let h = c .before .before .before .before .before in
+    let l = h .before .before .before .before in
+    (omega arith, h .own-slot .kept .1 .1 .1 .0 ∙ l .loop .inv .1, rw add-one (next h))
 
 -- the box is an accepted one
-float-to-bits-t29 : tie.Need-float-to-bits-t29 Inv-loop μ-loop
-float-to-bits-t29 c = let n = c .before .before .before .before .before .before in rw (n .node-box .ensures) (corner-numbers (boxAt _ _) (n .before .before .before .before .before .pre .1) .0)
+float-to-bits-t33 : tie.Need-float-to-bits-t33 Inv-loop μ-loop
+float-to-bits-t33 c = let n = c .before .before .before .before in rw (n .node-box .ensures) (corner-numbers (boxAt _ _) (n .before .before .before .before .before .pre .1) .0)
 
-float-to-bits-t30 : tie.Need-float-to-bits-t30 Inv-loop μ-loop
-float-to-bits-t30 c = let n = c .before .before .before .before .before .before .before in rw (n .node-box .ensures) (corner-numbers (boxAt _ _) (n .before .before .before .before .before .pre .1) .1)
+float-to-bits-t34 : tie.Need-float-to-bits-t34 Inv-loop μ-loop
+float-to-bits-t34 c = let n = c .before .before .before .before .before in rw (n .node-box .ensures) (corner-numbers (boxAt _ _) (n .before .before .before .before .before .pre .1) .1)
 
-float-to-bits-t31 : tie.Need-float-to-bits-t31 Inv-loop μ-loop
-float-to-bits-t31 c = let n = c .before .before .before .before .before .before .before .before in rw (n .node-box .ensures) (corner-numbers (boxAt _ _) (n .before .before .before .before .before .pre .1) .2)
+float-to-bits-t35 : tie.Need-float-to-bits-t35 Inv-loop μ-loop
+float-to-bits-t35 c = let n = c .before .before .before .before .before .before in rw (n .node-box .ensures) (corner-numbers (boxAt _ _) (n .before .before .before .before .before .pre .1) .2)
 
--- after the loop all eight slots are there
-abbrev looped : tie.After-struct-known4 Inv-loop μ-loop → tie.At-loop Inv-loop μ-loop
-looped c = c .before .before .before .before .before .before .before
+cast-t36 : tie.Need-cast-t36 Inv-loop μ-loop
+cast-t36 c = omega (arith, bits (c .before .before .before .before) .0)
 
-abbrev entry : tie.After-struct-known4 Inv-loop μ-loop → tie.Start Inv-loop μ-loop
-entry c = looped c .before .before .before .before .before .before .before
+cast-t37 : tie.Need-cast-t37 Inv-loop μ-loop
+cast-t37 c = omega (arith, bits (c .before .before .before .before) .1)
 
-all : (c : tie.After-struct-known4 Inv-loop μ-loop) → made (looped c .loop .own) (looped c .loop .out) ≡ allSlots (entry c .args .words .now) (entry c .args .decisions .now) (entry c .args .indices .now) (entry c .args .t5) (entry c .args .v) (entry c .args .start) (entry c .args .depth) (entry c .args .out .now)
-all c =
-    let l = looped c in
-    let s = entry c in
-    let e : l .loop .i ≡ 8 = let h = l .loop .inv .0 in let g = c .before .before .before .before .before .before .loop-test .left in omega arith in
-    l .loop .inv .2 ∙ ap (λ (k : ℕ). firstSlots (s .args .indices .now) (boxAt (s .args .words .now) (s .args .v)) (s .args .start) (λ j. cellOf (s .args .words .now) (s .args .decisions .now) (s .args .depth) (getD (s .args .t5) j 0)) k (s .args .out .now)) e
-
-cast-t32 : tie.Need-cast-t32 Inv-loop μ-loop
-cast-t32 c =
-    let s = entry c in
-    let b = first-bounds (s .args .indices .now) (boxAt (s .args .words .now) (s .args .v)) (s .args .start) (λ j. cellOf (s .args .words .now) (s .args .decisions .now) (s .args .depth) (getD (s .args .t5) j 0)) (s .args .out .now) 8 in
-    let e = ap (λ (x : State). x .own .imask) (all c) in
-    omega (arith, b .0)
-
-cast-t33 : tie.Need-cast-t33 Inv-loop μ-loop
-cast-t33 c = omega arith
-
-cast-t34 : tie.Need-cast-t34 Inv-loop μ-loop
-cast-t34 c = omega arith
+cast-t38 : tie.Need-cast-t38 Inv-loop μ-loop
+cast-t38 c = omega arith
 
 same-length : tie.Need-same-length Inv-loop μ-loop
-same-length c = looped c .loop .inv .1
+same-length c = c .before .before .before .before .loop .inv .1
 
 returns : tie.Need-returns Inv-loop μ-loop
 returns c =
-    let l = looped c in
+    let l = c .before .before .before .before in
+    let s = start l in
     let g = l .before in
-    let e = all c in
+    let e : l .loop .i ≡ 8 = let h = l .loop .inv .0 in let k = c .before .before .before .loop-test .left in omega arith in
+    let a = l .loop .inv .2 ∙ ap (slotsUpto s) e in
     record {
       node =
-          (built (entry c .args .words .now) (entry c .args .v) (entry c .args .count) (entry c .args .start) (g .before .node-box .result) (g .grid-of .result) (l .loop .own) _ (g .before .node-box .ensures)
-          (g .grid-of .ensures ∙ ap gridOf (g .before .node-box .ensures)) (ap (λ (x : State). x .own) e));
-      inner = ap (λ (x : State). x .own .inner) e;
-      at = ap (λ (x : State). x .own .at) e;
-      list = ap (λ (x : State). x .list) e;
+          (built (s .args .words .now) (s .args .v) (s .args .count) (s .args .start) (g .before .node-box .result) (g .grid-of .result) (own l) _ (g .before .node-box .ensures)
+          (g .grid-of .ensures ∙ ap gridOf (g .before .node-box .ensures)) (ap (λ (x : State). x .own) a));
+      inner = ap (λ (x : State). x .own .inner) a;
+      at = ap (λ (x : State). x .own .at) a;
+      list = ap (λ (x : State). x .list) a;
     }
 
 pub build-node-spec : {M : Type 1} → statement M
@@ -126,17 +155,22 @@ build-node-spec =
     node-box-requires
     grid-of-requires
     loop-holds
-    mul-child
-    array-read-child
+    mul-own-slot
+    element-copy-out-own-slot
     own-slot-requires
+    array-write-metas
+    mul-boxes
+    array-set-from-boxes
+    add-imask
+    add-inner
     add-i
     loop-less
     loop-again
-    float-to-bits-t29
-    float-to-bits-t30
-    float-to-bits-t31
-    cast-t32
-    cast-t33
-    cast-t34
+    float-to-bits-t33
+    float-to-bits-t34
+    float-to-bits-t35
+    cast-t36
+    cast-t37
+    cast-t38
     same-length
     returns)

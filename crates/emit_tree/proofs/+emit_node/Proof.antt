@@ -78,7 +78,7 @@ abbrev start : (t : ℕ) → X t → S t
 start t x = x .before .before .before .before .before .before
 
 abbrev slots : (t : ℕ) → B t → X t
-slots t b = b .before .before
+slots t b = b .before .before .before
 
 abbrev built : (t : ℕ) → W t → B t
 built t w = w .before .before .before .before .before
@@ -107,7 +107,7 @@ emit-node-slots-of-requires t c κs =
 
 emit-node-build-node-requires : (t : ℕ) → lts.Need-build-node-requires (given t) (emit-node-at t) emit-node.Post Inv μ
 emit-node-build-node-requires t c κs =
-    let x = c .before in
+    let x = c .before .before in
     let s = start t x in
     let a = build-asks (s .args .words .now) (s .args .decisions .now) (s .args .indices .now) (s .args .bytes .now) (s .args .out .now) (x .slots-of .result) (s .args .depth) (s .args .v) (s .args .number) (s .args .ordered) (s .args .next) (s .pre .1) (words-are t x (s .pre .1 .at)) in
     (a .0, a .1, a .2, a .3, own-ready (s .args .words .now) (s .args .decisions .now) (s .args .indices .now) (s .args .bytes .now) (s .args .out .now) (x .slots-of .result) (s .args .depth) (s .args .v) (s .args .number) (s .args .ordered) (s .args .next) (s .pre .1) (words-are t x (s .pre .1 .at)))
@@ -118,8 +118,8 @@ emit-node-write-node-requires t c κs =
     let s = start t x in
     node-room (s .args .words .now) (s .args .decisions .now) (s .args .indices .now) (s .args .bytes .now) (s .args .out .now) (x .slots-of .result) (s .args .depth) (s .args .v) (s .args .number) (s .args .ordered) (s .args .next) (s .pre .1) (words-are t x (s .pre .1 .at))
 
-emit-node-add-t24 : (t : ℕ) → lts.Need-add-t24 (given t) (emit-node-at t) emit-node.Post Inv μ
-emit-node-add-t24 t c =
+emit-node-add-t25 : (t : ℕ) → lts.Need-add-t25 (given t) (emit-node-at t) emit-node.Post Inv μ
+emit-node-add-t25 t c =
     let w = c .before .before .before .before in
     let b = built t w in
     let x = slots t b in
@@ -247,7 +247,7 @@ pub +emit-node-spec : {M : Type 1} → statement M
     (emit-node-slots-of-requires t)
     (emit-node-build-node-requires t)
     (emit-node-write-node-requires t)
-    (emit-node-add-t24 t)
+    (emit-node-add-t25 t)
     (emit-node-loop-holds t)
     (emit-node-mul-w t)
     (emit-node-array-read-w t)

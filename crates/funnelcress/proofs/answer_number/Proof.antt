@@ -1,3 +1,4 @@
+use mathlib.Core.Path.{_∙_}
 use Rattle.funnelcress.proofs.Numbers.{number-sound, number-unsound, number-refused}
 use borrow.Author.Needs.{needs}
 use Rattle.funnelcress.proofs.answer_number.Statement.{statement}
@@ -21,14 +22,11 @@ returns-2 c = number-unsound _ (c .enum-told .given .1)
 enum-known-v-2 : tie.Need-enum-known-v-2
 enum-known-v-2 c = search needs
 
-cast-result-2 : tie.Need-cast-result-2
-cast-result-2 c = search needs
-
-add-result : tie.Need-add-result
-add-result c = search needs
+refusal-number-requires : tie.Need-refusal-number-requires
+refusal-number-requires c κs = search needs
 
 returns-3 : tie.Need-returns-3
-returns-3 c = number-refused _ _ (c .before .v2 .given .1)
+returns-3 c = c .refusal-number .ensures ∙ number-refused _ _ (c .before .before .v2 .given .1)
 
 pub answer-number-spec : {M : Type 1} → statement M
 answer-number-spec =
@@ -40,6 +38,5 @@ answer-number-spec =
     enum-told
     returns-2
     enum-known-v-2
-    cast-result-2
-    add-result
+    refusal-number-requires
     returns-3)

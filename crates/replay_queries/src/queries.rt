@@ -1,0 +1,73 @@
+// The stored cases of queries: a record, and rays with their answers.
+ghost use Prim.Native.Nat.{_+_, _≤_};
+use crate::any;
+use crate::steps;
+use stored::word;
+
+// Where a part that starts with its count at word `at` ends.
+fn past(ray: &[u8], at: usize) -> usize
+    requires { ⌜ at ≤ 1099511627776 ⌝ }
+    ensures { λ r. ⌜ r ≤ at + 4294967296 ⌝ }
+{
+    at + 1 + word(ray, at) as usize
+}
+
+// The words of a ray, if any-hit and its steps are as stored; else 0. The answers of closest and miss, before the told distances, are passed over.
+fn ray_words(ray: &[u8], record: &[u8], n: usize) -> usize
+    ensures { λ r. ⌜ r ≤ 1099511627776 ⌝ }
+{
+    let closest = past(ray, 10);
+    let miss = past(ray, closest + 2);
+    let distances = past(ray, miss + 2);
+    let walk = past(ray, distances);
+    let end = past(ray, walk);
+    if !any::same_any_hit(ray, record, n) {
+        return 0;
+    }
+    if steps::same_steps(ray, distances, walk, record, n) {
+        return end;
+    }
+    0
+}
+
+// Whether all of so many rays are answered as stored from word `from` on, where the case ends with them.
+fn same_rays(case: &[u8], from: usize, rays: u32, record: &[u8], n: usize) -> bool
+    requires { ⌜ from ≤ 1099511627776 ⌝ }
+{
+    let words = case.len() / 4;
+    let mut at = from;
+    let mut i: u32 = 0;
+    while i < rays {
+        if at >= words {
+            return false;
+        }
+        let long = ray_words(&case[at * 4..], record, n);
+        if long == 0 {
+            return false;
+        }
+        at += long;
+        i += 1;
+    }
+    at == words
+}
+
+// Bytes of the record, n, words of panes, rays; record, list, panes, and the words of each ray.
+fn queried(case: &[u8]) -> bool {
+    let bytes = word(case, 0) as usize;
+    let n = word(case, 1) as usize;
+    let panes = word(case, 2) as usize;
+    let end = 16 + bytes;
+    if end > case.len() {
+        return false;
+    }
+    let from = 4 + (bytes + 3) / 4 + n + panes;
+    same_rays(case, from, word(case, 3), &case[16..end], n)
+}
+
+// Whether the library agrees with a case.
+pub fn agrees(kind: u32, case: &[u8]) -> bool {
+    match kind {
+        32 => queried(case),
+        _ => false,
+    }
+}
