@@ -1,11 +1,12 @@
 -- Closest and miss (01, "Walking"; "Causes of refusal", 6 and 10): a walk over panes that are boxes of six floats, a position's pane being the one that
 -- its index word names.
-use mathlib.Core.Bool.{Bool, true, false}
+use mathlib.Core.Bool.{Bool, cond}
 use mathlib.Core.List.{List}
 use Prim.Native.Nat.{ℕ, zero, suc, _+_, _*_, _/_, _%_}
 use lib.Dec.{eqb, ltb}
 use lib.ListN.{length, getD}
 use lib.Ieee.{Float, nan, lt}
+use Rattle.ray.specs.declared.Vec3.{Vec3}
 use Rattle.ray.specs.declared.Ray.{Ray}
 use Rattle.aabb.specs.declared.Aabb.{Aabb}
 use Rattle.aabb.specs.Aabb.{acceptedBox, entryDistance}
@@ -15,28 +16,30 @@ use Rattle.walk.specs.WordQueries.{OutcomeWords}
 use Rattle.walk_record.specs.Beam.{Beam, beamOf, beams}
 use Rattle.walk_record.specs.Walk.{queryAt}
 use Rattle.query.specs.Entry.{entryCause}
-use Rattle.closest.specs.declared.Closest.{Closest}
-use Rattle.closest.specs.declared.Closest.the-variants as C
-use Rattle.closest.specs.declared.Miss.{Miss}
-use Rattle.closest.specs.declared.Miss.the-variants as M
+use Rattle.closest.specs.declared.ClosestHit.{ClosestHit}
+use Rattle.closest.specs.declared.ClosestHit.the-variants as C
+use Rattle.closest.specs.declared.Occlusion.{Occlusion}
+use Rattle.closest.specs.declared.Occlusion.the-variants as M
+use Rattle.closest.specs.declared.ClosestFound.{ClosestFound}
+use Rattle.closest.specs.declared.MissFound.{MissFound}
+use Rattle.closest.specs.declared.Met.{Met}
+use Rattle.closest.specs.declared.Met.the-variants as P
 
 -- ---- panes
 
+-- x, y, z, from a place on
+abbrev pub cornerAt : List Float → ℕ → Vec3
+cornerAt panes at = record { x = getD panes at nan; y = getD panes (at + 1) nan; z = getD panes (at + 2) nan }
+
 -- pane k: min x, y, z, then max x, y, z
 unfoldable pub paneBox : List Float → ℕ → Aabb
-paneBox panes k = record {
-  min = record { x = getD panes (k * 6) nan; y = getD panes (k * 6 + 1) nan; z = getD panes (k * 6 + 2) nan };
-  max = record { x = getD panes (k * 6 + 3) nan; y = getD panes (k * 6 + 4) nan; z = getD panes (k * 6 + 5) nan };
-}
+paneBox panes k = record { min = cornerAt panes (k * 6); max = cornerAt panes (k * 6 + 3) }
 
 -- pane k as a ray meets it: one that is not there is cause 10, and one whose box is not accepted is cause 6
 unfoldable pub paneMet : List Float → ℕ → Ray → Pane Float
 unfolding paneBox
 paneMet panes k r =
-    elim (ltb k (length panes / 6)) [
-      | false ↦ faulty 10
-      | true ↦ elim (acceptedBox (paneBox panes k)) [ false ↦ faulty 6 | true ↦ distance (entryDistance (paneBox panes k) r) ]
-    ]
+    cond (ltb k (length panes / 6)) (cond (acceptedBox (paneBox panes k)) (distance (entryDistance (paneBox panes k) r)) (faulty 6)) (faulty 10)
 
 -- the pane of a position
 unfoldable pub paneOf : List ℕ → List Float → ℕ → Beam → Pane Float
@@ -84,6 +87,11 @@ walked refuse found o (S.position p) = found (o .noted) (o .walker .tests)
 walked refuse found o S.done = found (o .noted) (o .walker .tests)
 walked refuse found o (S.refused k) = record { answer = refuse k; tests = 0 }
 
+-- refused on entry, or what the walk gives
+unfoldable pub entered : {A : Type 0} → (ℕ → A) → (cause : ℕ) → Result A → Result A
+entered refuse zero w = w
+entered refuse (suc k) w = record { answer = refuse (suc k); tests = 0 }
+
 -- ---- the queries
 
 module _ (bytes indices : List ℕ) (panes : List Float) (r : Ray) where
@@ -100,28 +108,41 @@ module _ (bytes indices : List ℕ) (panes : List Float) (r : Ray) where
   unfolding paneOf queryAt
   missWalk = queryAt bytes beams (miss (paneOf indices panes) nearer) none (length indices) (beamOf r)
 
+  -- what these give
+  abbrev pub closestWalked : Result ClosestAnswer
+  closestWalked = walked refusedClosest closestFound closestWalk (closestWalk .ended)
+
+  abbrev pub missWalked : Result MissAnswer
+  missWalked = walked refusedMiss missFound missWalk (missWalk .ended)
+
   unfoldable pub closestOf : Result ClosestAnswer
-  unfolding entryCause walked closestFound closestWalk
-  closestOf = elim paneCause [
-    | suc k ↦ record { answer = refusedClosest (suc k); tests = 0 }
-    | zero ↦ walked refusedClosest closestFound closestWalk (closestWalk .ended)
-  ]
+  unfolding entryCause walked closestFound closestWalk entered
+  closestOf = entered refusedClosest paneCause closestWalked
 
   unfoldable pub missOf : Result MissAnswer
-  unfolding entryCause walked missFound missWalk
-  missOf = elim paneCause [
-    | suc k ↦ record { answer = refusedMiss (suc k); tests = 0 }
-    | zero ↦ walked refusedMiss missFound missWalk (missWalk .ended)
-  ]
+  unfolding entryCause walked missFound missWalk entered
+  missOf = entered refusedMiss paneCause missWalked
 
 -- ---- the cases of the results in the requirements' terms
 
-unfoldable pub closestAnswer : Closest → ClosestAnswer
+unfoldable pub closestAnswer : ClosestHit → ClosestAnswer
 closestAnswer (C.Hit p t) = hitAt p t
 closestAnswer C.NoHit = noHit
 closestAnswer (C.Refused k) = refusedClosest k
 
-unfoldable pub missAnswer : Miss → MissAnswer
+unfoldable pub missAnswer : Occlusion → MissAnswer
 missAnswer M.Missed = missed
 missAnswer M.Blocked = blocked
 missAnswer (M.Refused k) = refusedMiss k
+
+-- the results with their tests
+abbrev pub closestResult : ClosestFound → Result ClosestAnswer
+closestResult r = record { answer = closestAnswer (r .answer); tests = r .tests }
+
+abbrev pub missResult : MissFound → Result MissAnswer
+missResult r = record { answer = missAnswer (r .answer); tests = r .tests }
+
+-- a pane as it was met
+unfoldable pub paneOfMet : Met → Pane Float
+paneOfMet (P.At t) = distance t
+paneOfMet (P.Faulty k) = faulty k

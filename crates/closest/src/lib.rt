@@ -1,14 +1,27 @@
 // Closest and miss over a record and its panes (cwbvh/mod.rs, ray_traverse and ray_traverse_miss).
+ghost use mathlib.Core.Path.{_≡_};
+ghost use mathlib.Core.Bool.{false};
+ghost use Prim.Native.Nat.{_+_, _*_, _≤_, _<_};
+ghost use lib.ListN.{length, getD};
+ghost use Rattle.ray.specs.Ray.{rayOf};
+ghost use Rattle.walk_record.specs.Beam.{beamOf, forgedBeam};
+ghost use Rattle.query.specs.Walk.{Sized};
+ghost use Rattle.closest.specs.Panes.{cornerAt, paneBox, paneMet, paneOfMet, closestWalked, missWalked, closestOf, missOf, closestResult, missResult};
+use aabb::Aabb;
+use advance::Answer;
+use query::Walk;
+use ray::Ray;
+use ray::Vec3;
 
 // How closest ends: a hit with its position and distance, no hit, or refused for the cause of this number.
-pub enum Closest {
+pub enum ClosestHit {
     Hit(u32, f32),
     NoHit,
     Refused(u32),
 }
 
 // How miss ends: no pane is nearer than the reach, or one is, or refused for the cause of this number.
-pub enum Miss {
+pub enum Occlusion {
     Missed,
     Blocked,
     Refused(u32),
@@ -16,12 +29,135 @@ pub enum Miss {
 
 // Closest's answer with its node tests, 0 beside a refusal.
 pub struct ClosestFound {
-    pub answer: Closest,
+    pub answer: ClosestHit,
     pub tests: u32,
 }
 
 // Miss's answer with its node tests, 0 beside a refusal.
 pub struct MissFound {
-    pub answer: Miss,
+    pub answer: Occlusion,
     pub tests: u32,
+}
+
+// A pane as a ray meets it: at a distance, or refused for the cause of this number.
+enum Met {
+    At(f32),
+    Faulty(u32),
+}
+
+// Three floats, from a place on.
+fn corner_at(panes: &[f32], at: usize) -> Vec3
+    requires { ⌜ at + 3 ≤ length (now panes) ⌝ }
+    ensures { λ r. ⌜ r ≡ cornerAt (now (panes .entry)) at ⌝ }
+{
+    Vec3 {
+        x: panes[at],
+        y: panes[at + 1],
+        z: panes[at + 2],
+    }
+}
+
+// The box of pane k.
+fn pane_box(panes: &[f32], k: usize) -> Aabb
+    requires { ⌜ k * 6 + 6 ≤ length (now panes) ⌝ }
+    ensures { λ r. ⌜ r ≡ paneBox (now (panes .entry)) k ⌝ }
+{
+    let min = corner_at(panes, k * 6);
+    let max = corner_at(panes, k * 6 + 3);
+    Aabb { min, max }
+}
+
+// Pane k as a ray meets it: whether it is there comes before whether its box is accepted.
+fn pane_met(panes: &[f32], k: usize, ray: Ray) -> Met
+    ensures { λ r. ⌜ paneOfMet r ≡ paneMet (now (panes .entry)) k ray ⌝ }
+{
+    if k >= panes.len() / 6 {
+        return Met::Faulty(10);
+    }
+    let bounds = pane_box(panes, k);
+    if !bounds.accepted() {
+        return Met::Faulty(6);
+    }
+    Met::At(bounds.intersect_ray(ray))
+}
+
+// The pane of position p.
+fn position_met(indices: &[u32], panes: &[f32], p: u32, ray: Ray) -> Met
+    requires { ⌜ p < length (now indices) ⌝ }
+    ensures { λ r. ⌜ paneOfMet r ≡ paneMet (now (panes .entry)) (getD (now (indices .entry)) p 0) ray ⌝ }
+{
+    let k = indices[p as usize];
+    pane_met(panes, k as usize, ray)
+}
+
+fn refused_closest(cause: u32) -> ClosestFound
+    ensures { λ r. ⌜ r ≡ record { answer = ClosestHit.Refused cause; tests = 0 } ⌝ }
+{
+    let answer = ClosestHit::Refused(cause);
+    ClosestFound { answer, tests: 0 }
+}
+
+// Closest's walk over a record with nodes, where nothing refuses it on entry.
+fn walk_closest(bytes: &[u8], indices: &[u32], panes: &[f32], start: Ray) -> ClosestFound
+    requires { ⌜ Sized (now bytes) (length (now indices)) × (forgedBeam (beamOf start) ≡ false) ⌝ }
+    ensures { λ r. ⌜ closestResult r ≡ closestWalked (now (bytes .entry)) (now (indices .entry)) (now (panes .entry)) start ⌝ }
+{
+    let n = indices.len();
+    let octant = ray::octant(start.direction);
+    let mut ray = start;
+    let mut walk = Walk::begin();
+    let mut stack = [0u64; 32];
+    let mut answer = ClosestHit::NoHit;
+    loop {
+        let turn = walk.turn(ray, octant, &mut stack, bytes, n);
+        let reply = turn.answer;
+        match reply {
+            Answer::Tested(_) => {
+                walk = walk.tested(turn);
+            }
+            Answer::Position(p) => {
+                walk = walk.reported(turn);
+                let met = position_met(indices, panes, p, ray);
+                match met {
+                    Met::At(t) => {
+                        if t < ray.tmax {
+                            answer = ClosestHit::Hit(p, t);
+                            ray = Ray { tmax: t, ..ray };
+                        }
+                    }
+                    Met::Faulty(cause) => return refused_closest(cause),
+                }
+            }
+            Answer::Done => {
+                let tests = walk.tests;
+                return ClosestFound { answer, tests };
+            }
+            Answer::Refused(cause) => return refused_closest(cause),
+        }
+    }
+}
+
+// The first of the panes along a ray: of those that the walk reports, the nearest that is nearer than the reach, the first met of equal ones.
+pub fn closest(
+    record: &[u8],
+    indices: &[u32],
+    panes: &[f32],
+    origin: Vec3,
+    direction: Vec3,
+    tmin: f32,
+    tmax: f32,
+) -> ClosestFound
+    ensures { λ r. ⌜ closestResult r ≡ closestOf (now («record» .entry)) (now (indices .entry)) (now (panes .entry)) (rayOf origin direction tmin tmax) ⌝ }
+{
+    let ray = Ray::new(origin, direction, tmin, tmax);
+    let fits = panes.len() % 6 == 0;
+    let cause = query::entry_cause(fits, record.len(), indices.len(), ray);
+    if cause > 0 {
+        return refused_closest(cause);
+    }
+    if record.len() == 0 {
+        let answer = ClosestHit::NoHit;
+        return ClosestFound { answer, tests: 0 };
+    }
+    walk_closest(record, indices, panes, ray)
 }

@@ -1,1 +1,4 @@
 pub mod Entry
+pub mod Turns
+pub mod Leads
+pub mod Begins

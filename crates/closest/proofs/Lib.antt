@@ -1,0 +1,3 @@
+pub mod Panes
+pub mod Queries
+pub mod Starts

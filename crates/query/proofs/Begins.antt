@@ -1,0 +1,81 @@
+-- A query where its walk begins, and one over a record without nodes.
+use mathlib.Core.Bool.{false}
+use mathlib.Core.List.{List}
+use mathlib.Core.Path.{_≡_, refl, sym, ap, _∙_, subst}
+use Prim.Native.Nat.{ℕ, zero, suc, _*_, _≤_}
+use native.Mathlib.Omega.{arith}
+use lib.Ieee.{Float}
+use lib.ListN.{replicate}
+use borrow.Author.Tests.{le-leb}
+use Rattle.words.specs.Fields.{field}
+use Rattle.words.specs.Ones.{onesBelow}
+use Rattle.faststack.specs.Stack.{capacity}
+use Rattle.ray.specs.declared.Ray.{Ray}
+use Rattle.ray.specs.Ray.{octantOf}
+use Rattle.record_shape.specs.Record.{nodeCount, shapeAt}
+use Rattle.walk.specs.Tests.{Tests}
+use Rattle.walk.specs.Step.{fresh, done, stepOf}
+use Rattle.walk.specs.Queries.{Reaction, Outcome, query, stepsFor}
+use Rattle.walk.specs.Slots.{positionsOf, childrenOf, testsOf}
+use Rattle.walk.specs.WordStep.{Decodes}
+use Rattle.walk.specs.WordQueries.{OutcomeWords}
+use Rattle.walk.proofs.Masks.{masks-decode}
+use Rattle.walk.proofs.WordRuns.{fresh-range}
+use Rattle.walk.proofs.WordQueries.{fresh-query}
+use Rattle.walk_record.specs.Beam.{Beam, beamOf, forgedBeam, beams}
+use Rattle.walk_record.specs.Record.{FieldsFit, slotsAt, maskAt, nodeWordsAt}
+use Rattle.walk_record.specs.Walk.{queryAt}
+use Rattle.walk_record.proofs.Beam.{beam-laws}
+use Rattle.walk_record.proofs.Laws.{mask-laws}
+use Rattle.query.specs.declared.Walk.{Walk}
+use Rattle.query.specs.Walk.{walkerOf, begun}
+use Rattle.query.proofs.Leads.{Leads}
+
+-- no position is in hand
+no-ones : onesBelow 32 0 ≡ 0
+unfolding onesBelow field
+no-ones = refl
+
+-- on lists, without nodes a walker just begun is done
+empty-lists : {s d a : Type 0} (m : ℕ) → m ≡ 0 → (T : Tests s d) (react : ℕ → s → a → Reaction d a) (k n : ℕ) (ray : s) (x : a) → n ≤ 65536 → T .forged ray ≡ false
+    → query m T react (suc k) n (fresh ray) x ≡ record { walker = fresh ray; noted = x; ended = done }
+unfolding query stepOf
+empty-lists zero e T react k n ray x h f = rw (le-leb n 65536 h, f)
+empty-lists (suc m) e T react k n ray x h f = absurd (omega arith)
+
+module _ {a : Type 0} (bytes : List ℕ) (n : ℕ) (fit : FieldsFit bytes) (react : ℕ → Beam → a → Reaction Float a) (x : a) (ray : Ray) (accepted : forgedBeam (beamOf ray) ≡ false) where
+  decodes : Decodes (nodeCount bytes) (nodeWordsAt bytes beams) (positionsOf (slotsAt bytes beams n)) (childrenOf (slotsAt bytes beams n))
+  unfolding shapeAt
+  decodes = masks-decode (slotsAt bytes beams n) (maskAt bytes beams) (mask-laws bytes beams beam-laws n fit)
+
+  -- the walk that a loop begins with leads to the query's outcome
+  pub leads-begun : (octant : ℕ) → octant ≡ octantOf (ray .direction) → (v : Walk) → v ≡ begun
+      → Leads bytes n react (queryAt bytes beams react x n (beamOf ray)) (walkerOf ray octant v (replicate capacity 0)) x
+  unfolding queryAt
+  leads-begun octant e v f =
+      subst (λ (z : Walk). Leads bytes n react (queryAt bytes beams react x n (beamOf ray)) (walkerOf ray octant z (replicate capacity 0)) x) (sym f)
+      (subst (λ (o : ℕ). Leads bytes n react (queryAt bytes beams react x n (beamOf ray)) (walkerOf ray o begun (replicate capacity 0)) x) (sym e) (record {
+        way = record {
+          accepted = accepted;
+          tests = omega arith;
+          deep = omega arith;
+          range = fresh-range (nodeCount bytes) (nodeWordsAt bytes beams) (positionsOf (slotsAt bytes beams n)) (childrenOf (slotsAt bytes beams n)) decodes (beamOf ray);
+        };
+        steps = stepsFor (nodeCount bytes);
+        enough = omega (arith, no-ones);
+        rest = refl;
+      }))
+
+  -- without nodes nothing is noted or tested
+  pub record Empty (o : OutcomeWords Beam a) : Type 0 where
+    pub noted : o .noted ≡ x
+    pub tests : o .walker .tests ≡ 0
+    pub ended : o .ended ≡ done
+
+  pub query-empty : nodeCount bytes ≡ 0 → n ≤ 65536 → Empty (queryAt bytes beams react x n (beamOf ray))
+  unfolding queryAt
+  query-empty z h =
+      let e =
+      fresh-query (nodeCount bytes) (nodeWordsAt bytes beams) (positionsOf (slotsAt bytes beams n)) (childrenOf (slotsAt bytes beams n)) decodes react (stepsFor (nodeCount bytes)) n (beamOf ray) x accepted
+      ∙ empty-lists (nodeCount bytes) z (testsOf (slotsAt bytes beams n)) react (25 * nodeCount bytes) n (beamOf ray) x h accepted in
+      record { noted = ap (λ (o : Outcome Beam a). o .noted) e; tests = ap (λ (o : Outcome Beam a). o .walker .tests) e; ended = ap (λ (o : Outcome Beam a). o .ended) e }
