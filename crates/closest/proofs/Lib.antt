@@ -1,3 +1,4 @@
 pub mod Panes
 pub mod Queries
 pub mod Starts
+pub mod Samples

@@ -1,4 +1,4 @@
--- Queries that are refused on entry, that find no nodes, and what holds of the others.
+-- Where a query starts: refused on entry, or without nodes, or with a walk.
 use mathlib.Core.Bool.{false, true}
 use mathlib.Core.List.{List}
 use mathlib.Core.Path.{_≡_, refl, sym, ap, _∙_, subst}
@@ -15,50 +15,57 @@ use Rattle.walk_record.specs.Beam.{Beam, beamOf, forgedBeam, beams}
 use Rattle.walk_record.specs.Record.{FieldsFit}
 use Rattle.walk_record.specs.Walk.{queryAt}
 use Rattle.walk_record.proofs.Beam.{begun-accepted}
-use Rattle.query.specs.Entry.{entryCause}
 use Rattle.query.specs.Walk.{Sized}
 use Rattle.query.proofs.Entry
 use Rattle.query.proofs.Begins.{query-empty}
-use Rattle.closest.specs.Panes.{Result, walked, entered}
+use Rattle.closest.specs.Panes.{Result, walked, entered, paneCause}
 
--- ---- by the cause that the code finds on entry
+-- the ray that the code makes of its arguments, and the cause that it finds
+pub record Starting (bytes indices : List ℕ) (panes : List Float) (o d : Vec3) (near far : Float) (ray : Ray) (cause : ℕ) : Type 0 where
+  pub ray-is : ray ≡ rayOf o d near far
+  pub cause-is : cause ≡ paneCause bytes indices panes ray
 
-module _ {A : Type 0} (refuse : ℕ → A) (cause c : ℕ) (e : cause ≡ c) (w : Result A) where
-  pub entry-refused : 0 < cause → record { answer = refuse cause; tests = 0 } ≡ entered refuse c w
-  unfolding entered
-  entry-refused h = go c e
-    where
-      go : (c : ℕ) → cause ≡ c → record { answer = refuse cause; tests = 0 } ≡ entered refuse c w
-      go zero q = absurd (omega arith)
-      go (suc k) q = ap (λ (j : ℕ). record { answer = refuse j; tests = 0 }) q
+by-cause : {A : Type 0} (refuse : ℕ → A) (k c : ℕ) (w : Result A) → k ≡ c → 0 < k → record { answer = refuse k; tests = 0 } ≡ entered refuse c w
+unfolding entered
+by-cause refuse k zero w e h = absurd (omega arith)
+by-cause refuse k (suc c) w e h = ap (λ (j : ℕ). record { answer = refuse j; tests = 0 }) e
 
-  pub entry-passed : cause ≤ 0 → w ≡ entered refuse c w
-  unfolding entered
-  entry-passed h = go c e
-    where
-      go : (c : ℕ) → cause ≡ c → w ≡ entered refuse c w
-      go zero q = refl
-      go (suc k) q = absurd (omega arith)
+without-cause : {A : Type 0} (refuse : ℕ → A) (k c : ℕ) (w : Result A) → k ≡ c → k ≤ 0 → w ≡ entered refuse c w
+unfolding entered
+without-cause refuse k zero w e h = refl
+without-cause refuse k (suc c) w e h = absurd (omega arith)
 
--- ---- where there is none
+module _ {bytes indices : List ℕ} {panes : List Float} {o d : Vec3} {near far : Float} {ray : Ray} {cause : ℕ} (s : Starting bytes indices panes o d near far ray cause) where
+  module _ {A : Type 0} (refuse : ℕ → A) (walk : Ray → Result A) where
+    as-asked : entered refuse (paneCause bytes indices panes ray) (walk ray) ≡ entered refuse (paneCause bytes indices panes (rayOf o d near far)) (walk (rayOf o d near far))
+    as-asked = ap (λ (r : Ray). entered refuse (paneCause bytes indices panes r) (walk r)) (s .ray-is)
 
-module _ (bytes indices : List ℕ) (panes : List Float) (o d : Vec3) (near far : Float) (ray : Ray) (is : ray ≡ rayOf o d near far) (cause : ℕ)
-    (e : cause ≡ entryCause (eqb (length panes % 6) 0) (length bytes) (length indices) ray) (h : cause ≤ 0) where
-  holds : Entry.Entered (eqb (length panes % 6) 0) (length bytes) (length indices) ray
-  holds = Entry.entered _ _ _ _ (sym e ∙ omega arith)
+    -- a cause found on entry is the answer
+    pub start-refused : 0 < cause → record { answer = refuse cause; tests = 0 } ≡ entered refuse (paneCause bytes indices panes (rayOf o d near far)) (walk (rayOf o d near far))
+    start-refused h = by-cause refuse cause (paneCause bytes indices panes ray) (walk ray) (s .cause-is) h ∙ as-asked
 
-  pub passes : forgedBeam (beamOf ray) ≡ false
-  passes = subst (λ (r : Ray). forgedBeam (beamOf r) ≡ false) (sym is) (begun-accepted o d near far (subst (λ (r : Ray). acceptedRay r ≡ true) is (holds .accepted)))
+    -- without one the walk's answer is
+    pub start-walked : cause ≤ 0 → walk ray ≡ entered refuse (paneCause bytes indices panes (rayOf o d near far)) (walk (rayOf o d near far))
+    start-walked h = without-cause refuse cause (paneCause bytes indices panes ray) (walk ray) (s .cause-is) h ∙ as-asked
 
-  -- a walk may begin
-  pub walks : 0 < length bytes → Sized bytes (length indices)
-  walks g = let q = holds in record { whole = q .whole; some = omega (arith, q .whole); nodes = q .small; positions = q .few }
+  module _ (h : cause ≤ 0) where
+    holds : Entry.Entered (eqb (length panes % 6) 0) (length bytes) (length indices) ray
+    holds = Entry.entered _ _ _ _ (sym (s .cause-is) ∙ omega arith)
 
-  -- and where there are no nodes it is done
-  pub walk-empty : {A : Type 0} → length bytes ≡ 0 → FieldsFit bytes → (react : ℕ → Beam → Found Float → Reaction Float (Found Float)) (refuse : ℕ → A) (found : Found Float → ℕ → Result A)
-      → let w = queryAt bytes beams react none (length indices) (beamOf ray) in found none 0 ≡ walked refuse found w (w .ended)
-  unfolding walked
-  walk-empty z fit react refuse found =
-      let q = query-empty bytes (length indices) fit react none ray passes (omega arith) (holds .few) in
-      let w = queryAt bytes beams react none (length indices) (beamOf ray) in
-      ap (λ (x : Found Float). found x 0) (sym (q .noted)) ∙ ap (found (w .noted)) (sym (q .tests)) ∙ ap (walked refuse found w) (sym (q .ended))
+    -- the walk may begin,
+    pub start-accepted : forgedBeam (beamOf ray) ≡ false
+    start-accepted =
+        subst (λ (r : Ray). forgedBeam (beamOf r) ≡ false) (sym (s .ray-is))
+        (begun-accepted o d near far (subst (λ (r : Ray). acceptedRay r ≡ true) (s .ray-is) (holds .accepted)))
+
+    pub start-sized : 0 < length bytes → Sized bytes (length indices)
+    start-sized g = let q = holds in record { whole = q .whole; some = omega (arith, q .whole); nodes = q .small; positions = q .few }
+
+    -- and without nodes it is done
+    pub start-empty : {A : Type 0} → length bytes ≡ 0 → FieldsFit bytes → (react : ℕ → Beam → Found Float → Reaction Float (Found Float)) (refuse : ℕ → A) (found : Found Float → ℕ → Result A)
+        → let w = queryAt bytes beams react none (length indices) (beamOf ray) in found none 0 ≡ walked refuse found w (w .ended)
+    unfolding walked
+    start-empty z fit react refuse found =
+        let q = query-empty bytes (length indices) fit react none ray start-accepted (omega arith) (holds .few) in
+        let w = queryAt bytes beams react none (length indices) (beamOf ray) in
+        ap (λ (x : Found Float). found x 0) (sym (q .noted)) ∙ ap (found (w .noted)) (sym (q .tests)) ∙ ap (walked refuse found w) (sym (q .ended))

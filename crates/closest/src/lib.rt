@@ -112,9 +112,7 @@ fn walk_closest(bytes: &[u8], indices: &[u32], panes: &[f32], start: Ray) -> Clo
         let turn = walk.turn(ray, octant, &mut stack, bytes, n);
         let reply = turn.answer;
         match reply {
-            Answer::Tested(_) => {
-                walk = walk.tested(turn);
-            }
+            Answer::Tested(_) => walk = walk.tested(turn),
             Answer::Position(p) => {
                 walk = walk.reported(turn);
                 let met = position_met(indices, panes, p, ray);
@@ -160,4 +158,77 @@ pub fn closest(
         return ClosestFound { answer, tests: 0 };
     }
     walk_closest(record, indices, panes, ray)
+}
+
+fn refused_miss(cause: u32) -> MissFound
+    ensures { λ r. ⌜ r ≡ record { answer = Occlusion.Refused cause; tests = 0 } ⌝ }
+{
+    let answer = Occlusion::Refused(cause);
+    MissFound { answer, tests: 0 }
+}
+
+// Miss's walk over a record with nodes, where nothing refuses it on entry: the first pane nearer than the reach leaves both loops.
+fn walk_miss(bytes: &[u8], indices: &[u32], panes: &[f32], ray: Ray) -> MissFound
+    requires { ⌜ Sized (now bytes) (length (now indices)) × (forgedBeam (beamOf ray) ≡ false) ⌝ }
+    ensures { λ r. ⌜ missResult r ≡ missWalked (now (bytes .entry)) (now (indices .entry)) (now (panes .entry)) ray ⌝ }
+{
+    let n = indices.len();
+    let octant = ray::octant(ray.direction);
+    let mut walk = Walk::begin();
+    let mut stack = [0u64; 32];
+    let mut answer = Occlusion::Missed;
+    'walk: loop {
+        while walk.positions.bits > 0 {
+            let turn = walk.turn(ray, octant, &mut stack, bytes, n);
+            let reply = turn.answer;
+            let Answer::Position(p) = reply else {
+                return refused_miss(10);
+            };
+            walk = walk.reported(turn);
+            let met = position_met(indices, panes, p, ray);
+            match met {
+                Met::At(t) => {
+                    if t < ray.tmax {
+                        answer = Occlusion::Blocked;
+                        break 'walk;
+                    }
+                }
+                Met::Faulty(cause) => return refused_miss(cause),
+            }
+        }
+        let turn = walk.turn(ray, octant, &mut stack, bytes, n);
+        let reply = turn.answer;
+        match reply {
+            Answer::Tested(_) => walk = walk.tested(turn),
+            Answer::Done => break 'walk,
+            _ => return refused_miss(10),
+        }
+    }
+    let tests = walk.tests;
+    MissFound { answer, tests }
+}
+
+// Whether a ray meets no pane nearer than its reach: the walk ends at the first that is.
+pub fn miss(
+    record: &[u8],
+    indices: &[u32],
+    panes: &[f32],
+    origin: Vec3,
+    direction: Vec3,
+    tmin: f32,
+    tmax: f32,
+) -> MissFound
+    ensures { λ r. ⌜ missResult r ≡ missOf (now («record» .entry)) (now (indices .entry)) (now (panes .entry)) (rayOf origin direction tmin tmax) ⌝ }
+{
+    let ray = Ray::new(origin, direction, tmin, tmax);
+    let fits = panes.len() % 6 == 0;
+    let cause = query::entry_cause(fits, record.len(), indices.len(), ray);
+    if cause > 0 {
+        return refused_miss(cause);
+    }
+    if record.len() == 0 {
+        let answer = Occlusion::Missed;
+        return MissFound { answer, tests: 0 };
+    }
+    walk_miss(record, indices, panes, ray)
 }

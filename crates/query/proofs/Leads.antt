@@ -157,6 +157,32 @@ module _ {a : Type 0} {bytes : List ℕ} {n : ℕ} {react : ℕ → Beam → a �
   unfolding turned
   turn-refused k q = follows _ (by-answer (Refused k) q) .rest
 
+  refused-ten : (k : ℕ) → t .answer ≡ Refused k → record { walker = walkerOf ray octant v stack; noted = x; ended = S.refused 10 } ≡ goal
+  unfolding turned
+  refused-ten k q = ap (λ (j : ℕ). record { walker = walkerOf ray octant v stack; noted = x; ended = S.refused j }) (sym (shows (Refused k) q)) ∙ turn-refused k q
+
+  -- with positions in hand a turn that reports none is refused, and without any so is one that tests nothing and is not done
+  pub turn-unreported : 0 < v .positions .bits → ((p : ℕ) → t .answer ≡ Position p → ⊥) → record { walker = walkerOf ray octant v stack; noted = x; ended = S.refused 10 } ≡ goal
+  unfolding turned
+  turn-unreported h other = go (t .answer) refl
+    where
+      go : (b : Answer) → t .answer ≡ b → record { walker = walkerOf ray octant v stack; noted = x; ended = S.refused 10 } ≡ goal
+      go (Tested u) q = absurd (omega (arith, shows (Tested u) q .0))
+      go (Position p) q = absurd (other p q)
+      go Done q = absurd (omega (arith, shows Done q))
+      go (Refused k) q = refused-ten k q
+
+  pub turn-untested : v .positions .bits ≤ 0 → ((u : ℕ) → t .answer ≡ Tested u → ⊥) → (t .answer ≡ Done → ⊥)
+      → record { walker = walkerOf ray octant v stack; noted = x; ended = S.refused 10 } ≡ goal
+  unfolding turned
+  turn-untested h other undone = go (t .answer) refl
+    where
+      go : (b : Answer) → t .answer ≡ b → record { walker = walkerOf ray octant v stack; noted = x; ended = S.refused 10 } ≡ goal
+      go (Tested u) q = absurd (other u q)
+      go (Position p) q = absurd (omega (arith, shows (Position p) q .0))
+      go Done q = absurd (undone q)
+      go (Refused k) q = refused-ten k q
+
   -- the query goes on after a test
   pub turn-tested : (u : ℕ) → t .answer ≡ Tested u → (v₁ : Walk) → v₁ ≡ afterTest v t
       → Goes bytes n react goal (walkerOf ray octant v stack) (walkerOf ray octant v₁ stack₁) x

@@ -4,9 +4,15 @@ use borrow.Author.Needs.{needs}
 use Rattle.walk.specs.Queries.{closest}
 use Rattle.walk_record.proofs.Laws.{bytes-fit}
 use Rattle.closest.specs.Panes.{paneOf, nearer, refusedClosest, closestFound, closestWalk, closestWalked, closestOf, closestAnswer, closestResult}
-use Rattle.closest.proofs.Starts.{entry-refused, entry-passed, passes, walks, walk-empty}
+use Rattle.closest.proofs.Starts.{Starting, start-refused, start-walked, start-accepted, start-sized, start-empty}
 use Rattle.closest.proofs.closest.Statement.{statement}
 use Rattle.closest.proofs.closest.Tie as tie
+
+-- what is known once the cause on entry is found
+starting : (c : tie.After-entry-cause) →
+    let a = c .before .before .before .before .before .args in
+    Starting (a .«record» .now) (a .indices .now) (a .panes .now) (a .origin) (a .direction) (a .tmin) (a .tmax) (c .before .new .result) (c .entry-cause .result)
+starting c = record { ray-is = c .before .new .ensures; cause-is = c .entry-cause .ensures }
 
 new-requires : tie.Need-new-requires
 new-requires c κs = search needs
@@ -21,50 +27,29 @@ returns : tie.Need-returns
 unfolding closestOf closestAnswer
 returns c =
     let b = c .before .before in
-    let r = b .before .new in
     let a = b .before .before .before .before .before .args in
     ap closestResult (c .refused-closest .ensures)
-    ∙ entry-refused refusedClosest (b .entry-cause .result) _ (b .entry-cause .ensures) (closestWalked (a .«record» .now) (a .indices .now) (a .panes .now) (r .result)) (c .before .if1 .taken)
-    ∙ ap (closestOf (a .«record» .now) (a .indices .now) (a .panes .now)) (r .ensures)
+    ∙ start-refused (starting b) refusedClosest (closestWalked (a .«record» .now) (a .indices .now) (a .panes .now)) (c .before .if1 .taken)
 
 returns-2 : tie.Need-returns-2
 unfolding closestOf closestAnswer closestFound closestWalk
 returns-2 c =
     let b = c .before .before in
-    let r = b .before .new in
     let k = b .before .before .before .before in
     let a = k .before .args in
-    walk-empty (a .«record» .now) (a .indices .now) (a .panes .now) (a .origin) (a .direction) (a .tmin) (a .tmax) (r .result) (r .ensures) (b .entry-cause .result) (b .entry-cause .ensures) (c .before .if1 .left) (c .if2 .taken) (bytes-fit _ (λ j. k .shared-slice-known .given j .fits)) (closest (paneOf (a .indices .now) (a .panes .now)) nearer) refusedClosest closestFound
-    ∙ entry-passed refusedClosest (b .entry-cause .result) _ (b .entry-cause .ensures) (closestWalked (a .«record» .now) (a .indices .now) (a .panes .now) (r .result)) (c .before .if1 .left)
-    ∙ ap (closestOf (a .«record» .now) (a .indices .now) (a .panes .now)) (r .ensures)
+    start-empty (starting b) (c .before .if1 .left) (c .if2 .taken) (bytes-fit _ (λ j. k .shared-slice-known .given j .fits)) (closest (paneOf (a .indices .now) (a .panes .now)) nearer) refusedClosest closestFound
+    ∙ start-walked (starting b) refusedClosest (closestWalked (a .«record» .now) (a .indices .now) (a .panes .now)) (c .before .if1 .left)
 
 walk-closest-requires : tie.Need-walk-closest-requires
 walk-closest-requires c κs =
-    let b = c .before .before in
-    let r = b .before .new in
-    let a = b .before .before .before .before .before .args in (
-      walks (a .«record» .now) (a .indices .now) (a .panes .now) (a .origin) (a .direction) (a .tmin) (a .tmax) (r .result) (r .ensures) (b .entry-cause .result) (b .entry-cause .ensures) (c .before .if1 .left) (omega (arith, c .if2 .left)),
-      passes (a .«record» .now) (a .indices .now) (a .panes .now) (a .origin) (a .direction) (a .tmin) (a .tmax) (r .result) (r .ensures) (b .entry-cause .result) (b .entry-cause .ensures) (c .before .if1 .left),
-    )
+    let s = starting (c .before .before) in (start-sized s (c .before .if1 .left) (omega (arith, c .if2 .left)), start-accepted s (c .before .if1 .left))
 
 returns-3 : tie.Need-returns-3
 unfolding closestOf
 returns-3 c =
     let b = c .before .before .before in
-    let r = b .before .new in
     let a = b .before .before .before .before .before .args in
-    c .walk-closest .ensures
-    ∙ entry-passed refusedClosest (b .entry-cause .result) _ (b .entry-cause .ensures) (closestWalked (a .«record» .now) (a .indices .now) (a .panes .now) (r .result)) (c .before .before .if1 .left)
-    ∙ ap (closestOf (a .«record» .now) (a .indices .now) (a .panes .now)) (r .ensures)
+    c .walk-closest .ensures ∙ start-walked (starting b) refusedClosest (closestWalked (a .«record» .now) (a .indices .now) (a .panes .now)) (c .before .before .if1 .left)
 
 pub closest-spec : {M : Type 1} → statement M
-closest-spec =
-    tie.close
-    (tie.spec
-    new-requires
-    entry-cause-requires
-    refused-closest-requires
-    returns
-    returns-2
-    walk-closest-requires
-    returns-3)
+closest-spec = tie.close (tie.spec new-requires entry-cause-requires refused-closest-requires returns returns-2 walk-closest-requires returns-3)

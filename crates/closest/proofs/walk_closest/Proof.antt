@@ -6,10 +6,10 @@ use Rattle.walk.specs.Queries.{none, closest}
 use Rattle.walk.proofs.WordEnds.{stepsLeftWords}
 use Rattle.walk_record.proofs.Laws.{bytes-fit}
 use Rattle.query.specs.Walk.{walkerOf}
-use Rattle.query.proofs.Leads.{Leads, Turning, walkable, turn-below, turn-tested}
+use Rattle.query.proofs.Leads.{Leads, Turning, walkable, turn-below, turn-done, turn-refused, turn-tested}
 use Rattle.query.proofs.Begins.{leads-begun}
-use Rattle.closest.specs.Panes.{paneOf, nearer, closestWalk, closestAnswer, closestResult}
-use Rattle.closest.proofs.Queries.{foundBy, Held, closest-done, closest-refuses, closest-fails, closest-lowers, closest-passes}
+use Rattle.closest.specs.Panes.{paneOf, nearer, refusedClosest, closestFound, closestWalk, closestAnswer, closestResult}
+use Rattle.closest.proofs.Queries.{ends-done, ends-refused, foundBy, Held, closest-held, Reporting, closest-fails, closest-lowers, closest-passes}
 use Rattle.closest.proofs.walk_closest.Statement.{statement}
 use Rattle.closest.proofs.walk_closest.Tie as tie
 
@@ -31,6 +31,17 @@ turned c =
     let i = c .before .before .before in
     let k = i .before .before .before .before .before in
     record { sized = k .before .pre .0; fit = bytes-fit _ (λ j. k .shared-slice-known .given j .fits); leads = i .loop .inv .2; turn = c .before .turn .ensures }
+
+-- and once a position's pane is met
+reported : (c : tie.After-position-met Inv-loop μ-loop) →
+    let r = c .before .before .before .before .before in
+    let i = r .before .before .before in
+    let a = i .before .before .before .before .before .before .args in
+    Reporting (a .indices .now) (a .panes .now) (a .bytes .now) (length (a .indices .now)) (closest (paneOf (a .indices .now) (a .panes .now)) nearer) (closestWalk (a .bytes .now) (a .indices .now) (a .panes .now) (a .start))
+    (i .loop .ray) (i .before .before .octant .result) (i .loop .walk) (i .loop .stack) (foundBy (i .loop .answer)) (r .before .turn .result) (r .before .turn .last .1 .1 .1 .0)
+    (c .before .before .before .reply .given .0 .0) (c .position-met .result) (c .before .reported .result)
+reported c =
+    record { turning = turned (c .before .before .before .before .before); answer = c .before .before .before .reply .given .1; pane = c .position-met .ensures; walk = c .before .reported .ensures }
 
 octant-requires : tie.Need-octant-requires Inv-loop μ-loop
 octant-requires c κs = search needs
@@ -90,39 +101,29 @@ enum-known-met c = search needs
 
 loop-less-2 : tie.Need-loop-less-2 Inv-loop μ-loop
 loop-less-2 c =
-    let m = c .before .before .before .before .before .before .before .before in
-    let r = m .before .before .before .before .before in
-    let i = r .before .before .before in
-    let a = i .before .before .before .before .before .before .args in
-    let y = m .before .before .before .reply .given in
-    closest-lowers (a .indices .now) (a .panes .now) (turned r) (y .0 .0) (y .1) (m .position-met .result) (m .position-met .ensures) (c .before .before .before .before .before .before .met .given .0 .0) (c .before .before .before .before .before .before .met .given .1) (m .before .reported .result) (m .before .reported .ensures) (c .before .before .before .if1 .taken) .less
+    let m = c .before .before .before .before .before .before .before .before in closest-lowers (reported m) (c .before .before .before .before .before .before .met .given .0 .0) (c .before .before .before .before .before .before .met .given .1) (c .before .before .before .if1 .taken) .less
 
 loop-again-2 : tie.Need-loop-again-2 Inv-loop μ-loop
 loop-again-2 c =
     let m = c .before .before .before .before .before .before .before .before in
-    let r = m .before .before .before .before .before in
-    let i = r .before .before .before in
-    let a = i .before .before .before .before .before .before .args in
-    let y = m .before .before .before .reply .given in
-    (tt, r .before .turn .kept .1 .1 .1 .0 ∙ i .loop .inv .1, closest-lowers (a .indices .now) (a .panes .now) (turned r) (y .0 .0) (y .1) (m .position-met .result) (m .position-met .ensures) (c .before .before .before .before .before .before .met .given .0 .0) (c .before .before .before .before .before .before .met .given .1) (m .before .reported .result) (m .before .reported .ensures) (c .before .before .before .if1 .taken) .leads)
+    let r = m .before .before .before .before .before .before in (
+      tt,
+      r .turn .kept .1 .1 .1 .0 ∙ r .before .before .loop .inv .1,
+      closest-lowers (reported m) (c .before .before .before .before .before .before .met .given .0 .0) (c .before .before .before .before .before .before .met .given .1) (c .before .before .before .if1 .taken) .leads,
+    )
 
 loop-less-3 : tie.Need-loop-less-3 Inv-loop μ-loop
 loop-less-3 c =
-    let m = c .before .before .before .before .before in
-    let r = m .before .before .before .before .before in
-    let i = r .before .before .before in
-    let a = i .before .before .before .before .before .before .args in
-    let y = m .before .before .before .reply .given in
-    closest-passes (a .indices .now) (a .panes .now) (turned r) (y .0 .0) (y .1) (m .position-met .result) (m .position-met .ensures) (c .before .before .before .met .given .0 .0) (c .before .before .before .met .given .1) (m .before .reported .result) (m .before .reported .ensures) (c .if1 .left) .less
+    let m = c .before .before .before .before .before in closest-passes (reported m) (c .before .before .before .met .given .0 .0) (c .before .before .before .met .given .1) (c .if1 .left) .less
 
 loop-again-3 : tie.Need-loop-again-3 Inv-loop μ-loop
 loop-again-3 c =
     let m = c .before .before .before .before .before in
-    let r = m .before .before .before .before .before in
-    let i = r .before .before .before in
-    let a = i .before .before .before .before .before .before .args in
-    let y = m .before .before .before .reply .given in
-    (i .loop .inv .0, r .before .turn .kept .1 .1 .1 .0 ∙ i .loop .inv .1, closest-passes (a .indices .now) (a .panes .now) (turned r) (y .0 .0) (y .1) (m .position-met .result) (m .position-met .ensures) (c .before .before .before .met .given .0 .0) (c .before .before .before .met .given .1) (m .before .reported .result) (m .before .reported .ensures) (c .if1 .left) .leads)
+    let r = m .before .before .before .before .before .before in (
+      r .before .before .loop .inv .0,
+      r .turn .kept .1 .1 .1 .0 ∙ r .before .before .loop .inv .1,
+      closest-passes (reported m) (c .before .before .before .met .given .0 .0) (c .before .before .before .met .given .1) (c .if1 .left) .leads,
+    )
 
 enum-known-met-2 : tie.Need-enum-known-met-2 Inv-loop μ-loop
 enum-known-met-2 c = search needs
@@ -133,12 +134,7 @@ refused-closest-requires c κs = search needs
 returns : tie.Need-returns Inv-loop μ-loop
 unfolding closestAnswer
 returns c =
-    let m = c .before .before .before .before in
-    let r = m .before .before .before .before .before in
-    let i = r .before .before .before in
-    let a = i .before .before .before .before .before .before .args in
-    let y = m .before .before .before .reply .given in
-    ap closestResult (c .refused-closest .ensures) ∙ closest-fails (a .indices .now) (a .panes .now) (turned r) (y .0 .0) (y .1) (m .position-met .result) (m .position-met .ensures) (c .before .before .met2 .given .0 .0) (c .before .before .met2 .given .1)
+    ap closestResult (c .refused-closest .ensures) ∙ closest-fails (reported (c .before .before .before .before)) (c .before .before .met2 .given .0 .0) (c .before .before .met2 .given .1)
 
 enum-told-2 : tie.Need-enum-told-2 Inv-loop μ-loop
 enum-told-2 c = search needs
@@ -146,9 +142,8 @@ enum-told-2 c = search needs
 returns-2 : tie.Need-returns-2 Inv-loop μ-loop
 returns-2 c =
     let r = c .before .before in
-    let i = r .before .before .before in
-    let a = i .before .before .before .before .before .before .args in
-    closest-done (a .indices .now) (a .panes .now) (turned r) (c .enum-told2 .given .1) (i .loop .answer) (i .loop .inv .0) refl
+    let i = r .before .before .before .loop in
+    closest-held (i .answer) (i .walk .tests) (i .inv .0) ∙ ends-done refusedClosest closestFound (turn-done (turned r) (c .enum-told2 .given .1))
 
 enum-known-reply-2 : tie.Need-enum-known-reply-2 Inv-loop μ-loop
 enum-known-reply-2 c = search needs
@@ -159,10 +154,8 @@ refused-closest-requires-2 c κs = search needs
 returns-3 : tie.Need-returns-3 Inv-loop μ-loop
 unfolding closestAnswer
 returns-3 c =
-    let r = c .before .before .before .before in
-    let a = r .before .before .before .before .before .before .before .before .before .args in
     let y = c .before .before .reply2 .given in
-    ap closestResult (c .refused-closest2 .ensures) ∙ closest-refuses (a .indices .now) (a .panes .now) (turned r) (y .0 .0) (y .1)
+    ap closestResult (c .refused-closest2 .ensures) ∙ ends-refused refusedClosest closestFound (turn-refused (turned (c .before .before .before .before)) (y .0 .0) (y .1))
 
 pub walk-closest-spec : {M : Type 1} → statement M
 walk-closest-spec =
