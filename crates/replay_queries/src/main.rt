@@ -1,4 +1,4 @@
-// Runs any-hit, closest and walkers on stored records and rays, and compares each answer and each step with the stored one.
+// Runs any-hit, closest, miss and walkers on stored records and rays, and compares each answer and each step with the stored one.
 // Its argument names a file of answers; how these are made and laid out is said in oracle/README.md.
 mod any;
 mod head;

@@ -21,7 +21,7 @@ fn past(ray: &[u8], at: usize) -> usize
     at + 1 + word(ray, at) as usize
 }
 
-// The words of a ray, if any-hit, closest and its steps are as stored; else 0. The answer of miss, before the told distances, is passed over.
+// The words of a ray, if the answers of any-hit, closest and miss and a walker's steps are as stored; else 0.
 fn ray_words(ray: &[u8], record: &[u8], list: &[u32], panes: &[f32]) -> usize
     ensures { λ r. ⌜ r ≤ 1099511627776 ⌝ }
 {
@@ -34,6 +34,9 @@ fn ray_words(ray: &[u8], record: &[u8], list: &[u32], panes: &[f32]) -> usize
         return 0;
     }
     if !nearest::same_closest(ray, closest, record, list, panes) {
+        return 0;
+    }
+    if !nearest::same_miss(ray, miss, record, list, panes) {
         return 0;
     }
     if steps::same_steps(ray, distances, walk, record, list.len()) {
