@@ -1,4 +1,5 @@
-// Any-hit on a stored ray. A ray's words are its eight floats, then its answers: number, node tests, how many words it found, and these.
+// Any-hit on a stored ray. Its answer stands after the ray's eight floats.
+use crate::head::same_head;
 use any_hit::AnyHit;
 use stored::all_are;
 use stored::real;
@@ -9,17 +10,6 @@ use stored::word;
 const MOST_POSITIONS: usize = 64;
 
 const BEFORE: u32 = 0xdead_beef;
-
-// Whether the stored answer has this number, so many tests, and so many words.
-fn same_head(ray: &[u8], number: u32, tests: u32, count: u32) -> bool {
-    if word(ray, 8) != number {
-        return false;
-    }
-    if word(ray, 9) != tests {
-        return false;
-    }
-    word(ray, 10) == count
-}
 
 // Whether these are the words that the stored answer found.
 fn same_found(ray: &[u8], found: &[u32]) -> bool {
@@ -57,18 +47,18 @@ fn answers(ray: &[u8], record: &[u8], n: usize, list: &mut [u32]) -> bool {
     );
     match answer {
         AnyHit::Listed(count, tests) => {
-            if same_head(ray, 0, tests, count) {
+            if same_head(ray, 8, 0, tests, count) {
                 return same_list(ray, list, count as usize);
             }
             false
         }
         AnyHit::Short(needed) => {
-            if same_head(ray, 11, 0, 1) {
+            if same_head(ray, 8, 11, 0, 1) {
                 return word(ray, 11) == needed && all_are(list, BEFORE);
             }
             false
         }
-        AnyHit::Refused(number) => same_head(ray, number, 0, 0) && all_are(list, BEFORE),
+        AnyHit::Refused(number) => same_head(ray, 8, number, 0, 0) && all_are(list, BEFORE),
     }
 }
 

@@ -1,6 +1,8 @@
-// Runs any-hit and walkers on stored records and rays, and compares each answer and each step with the stored one.
+// Runs any-hit, closest, miss and walkers on stored records and rays, and compares each answer and each step with the stored one.
 // Its argument names a file of answers; how these are made and laid out is said in oracle/README.md.
 mod any;
+mod head;
+mod nearest;
 mod queries;
 mod steps;
 

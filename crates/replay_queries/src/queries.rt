@@ -1,8 +1,17 @@
 // The stored cases of queries: a record, and rays with their answers.
 ghost use Prim.Native.Nat.{_+_, _≤_};
 use crate::any;
+use crate::nearest;
 use crate::steps;
+use stored::copy_words;
 use stored::word;
+
+// The most bytes of a record, and room for its positions and the floats of its panes.
+const MOST_BYTES: usize = 65536;
+
+const MOST_POSITIONS: usize = 64;
+
+const MOST_CORNERS: usize = 512;
 
 // Where a part that starts with its count at word `at` ends.
 fn past(ray: &[u8], at: usize) -> usize
@@ -12,8 +21,8 @@ fn past(ray: &[u8], at: usize) -> usize
     at + 1 + word(ray, at) as usize
 }
 
-// The words of a ray, if any-hit and its steps are as stored; else 0. The answers of closest and miss, before the told distances, are passed over.
-fn ray_words(ray: &[u8], record: &[u8], n: usize) -> usize
+// The words of a ray, if the answers of any-hit, closest and miss and a walker's steps are as stored; else 0.
+fn ray_words(ray: &[u8], record: &[u8], list: &[u32], panes: &[f32]) -> usize
     ensures { λ r. ⌜ r ≤ 1099511627776 ⌝ }
 {
     let closest = past(ray, 10);
@@ -21,19 +30,30 @@ fn ray_words(ray: &[u8], record: &[u8], n: usize) -> usize
     let distances = past(ray, miss + 2);
     let walk = past(ray, distances);
     let end = past(ray, walk);
-    if !any::same_any_hit(ray, record, n) {
+    if !any::same_any_hit(ray, record, list.len()) {
         return 0;
     }
-    if steps::same_steps(ray, distances, walk, record, n) {
+    if !nearest::same_closest(ray, closest, record, list, panes) {
+        return 0;
+    }
+    if !nearest::same_miss(ray, miss, record, list, panes) {
+        return 0;
+    }
+    if steps::same_steps(ray, distances, walk, record, list.len()) {
         return end;
     }
     0
 }
 
 // Whether all of so many rays are answered as stored from word `from` on, where the case ends with them.
-fn same_rays(case: &[u8], from: usize, rays: u32, record: &[u8], n: usize) -> bool
-    requires { ⌜ from ≤ 1099511627776 ⌝ }
-{
+fn same_rays(
+    case: &[u8],
+    from: usize,
+    rays: u32,
+    record: &[u8],
+    list: &[u32],
+    panes: &[f32],
+) -> bool {
     let words = case.len() / 4;
     let mut at = from;
     let mut i: u32 = 0;
@@ -41,7 +61,7 @@ fn same_rays(case: &[u8], from: usize, rays: u32, record: &[u8], n: usize) -> bo
         if at >= words {
             return false;
         }
-        let long = ray_words(&case[at * 4..], record, n);
+        let long = ray_words(&case[at * 4..], record, list, panes);
         if long == 0 {
             return false;
         }
@@ -55,13 +75,29 @@ fn same_rays(case: &[u8], from: usize, rays: u32, record: &[u8], n: usize) -> bo
 fn queried(case: &[u8]) -> bool {
     let bytes = word(case, 0) as usize;
     let n = word(case, 1) as usize;
-    let panes = word(case, 2) as usize;
+    let corners = word(case, 2) as usize;
     let end = 16 + bytes;
     if end > case.len() {
         return false;
     }
-    let from = 4 + (bytes + 3) / 4 + n + panes;
-    same_rays(case, from, word(case, 3), &case[16..end], n)
+    if bytes > MOST_BYTES {
+        return false;
+    }
+    if n > MOST_POSITIONS {
+        return false;
+    }
+    if corners > MOST_CORNERS {
+        return false;
+    }
+    let from = 4 + (bytes + 3) / 4;
+    let mut list_space = [0u32; MOST_POSITIONS];
+    let mut pane_space = [0.0f32; MOST_CORNERS];
+    let list: &mut [u32] = &mut list_space[..n];
+    let panes: &mut [f32] = &mut pane_space[..corners];
+    copy_words(case, from, list);
+    nearest::copy_reals(case, from + n, panes);
+    let rays = word(case, 3);
+    same_rays(case, from + n + corners, rays, &case[16..end], list, panes)
 }
 
 // Whether the library agrees with a case.

@@ -5,10 +5,10 @@ use Rattle.replay_queries.proofs.queries.same_rays.Statement.{statement
 use Rattle.replay_queries.proofs.queries.same_rays.Tie as tie
 
 abbrev Inv-loop : tie.InvT-loop
-Inv-loop case from rays «record» n words at₀ i₀ at i = Unit {0}
+Inv-loop case from rays «record» list panes words at₀ i₀ at i = Unit {0}
 
 abbrev μ-loop : tie.MeasureT-loop
-μ-loop case from rays «record» n words at₀ i₀ at i = rays - i
+μ-loop case from rays «record» list panes words at₀ i₀ at i = rays - i
 
 loop-holds : tie.Need-loop-holds Inv-loop μ-loop
 loop-holds c = search needs
