@@ -12,7 +12,7 @@ use Rattle.words.specs.Ors.{orOf}
 use Rattle.lists.specs.Splice.{splice}
 use Rattle.lists.specs.Below.{allBelow}
 use Rattle.lists.specs.Counts.{same, count}
-use Rattle.float.specs.Compare.{minOf, maxOf, inBounds}
+use Rattle.float.specs.Compare.{minOf, maxOf, unsignedZero, inBounds}
 use Rattle.float.specs.PowerOfTwo.{scaleOf, nextPower}
 use Rattle.ray.specs.Ray.{safeInverse, octantOf, rayOf, boundedVec, acceptedRay}
 use Rattle.aabb.specs.Aabb.{halfArea, centerOf, acceptedBox}
@@ -36,13 +36,15 @@ use Rattle.walk.specs.WordStep.{stepWords, advanceWords, reportWords, visitWord
 use Rattle.walk.specs.WordQueries.{queryWords}
 use Rattle.walk_record.specs.Walk.{queryAt, anyHitAt}
 use Rattle.query.specs.Entry.{entryCause}
+use Rattle.closest.specs.Panes.{paneBox, paneMet, paneOf, hitAt, closestFound, closestWalk, closestOf}
+use Rattle.closest.specs.Panes as closest
 use Rattle.any_hit.specs.AnyHit.{listed, fitted, walked, walkOf, anyHitOf, listFor, listAfter}
 use Rattle.wide.specs.Shape.{nodeAt}
 use Rattle.record.specs.Record.{metas, innerMask, gridBox, gridBoxes, nodeOf, joined, recordBytes}
 use Rattle.tables.specs.Tables.{recordSize, hasRoom, prepareCause}
 use Rattle.bvh2_to_cwbvh.specs.Conversion.{converted, refused, recordOf, nodesOf, levelOf, positionsOf, listOf, levelCause, conversionCause, answerFor, conversionOf}
 use Rattle.samples.specs.TreeT.{wordsT, indicesT, bytesT}
-use Rattle.samples.specs.Samples.{number, nextAbove, extentByte, convert, rayAlong, Samples}
+use Rattle.samples.specs.Samples.{number, nextAbove, extentByte, convert, rayAlong, panesT, Samples}
 
 exponents-of-T : (extentByte (number 3) ≡ 121) × (extentByte (number 1) ≡ 120)
 unfolding exponentOf extentScale nextPower maxOf ofInt round sub mul div lt le
@@ -104,6 +106,10 @@ any-hits :
 unfolding anyHitOf listAfter listFor splice entryCause walkOf walked fitted anyHitAt queryAt queryWords stepWords advanceWords reportWords visitWords popWords rayOf octantOf hitMask slotHit hitBits orOf passes nearOf farOf maxOf minOf planeAt adjustedInverse adjustedOrigin nearLimit scaleOf nodeFrom leAt sumOf slotFrom slotOffset nodeRule headOk childrenOk slotsOk slotOk leafTop pointOk exponentOk inBounds onesBelow field childIndex topOf pushed leadingZeros safeInverse boundedVec acceptedRay round ofBits ofInt add sub mul div lt le eq isNan
 any-hits = (refl, refl, refl, refl)
 
+closest-T : closestOf bytesT indicesT panesT (rayAlong (number 0)) ≡ record { answer = hitAt 0 (number 1); tests = 1 }
+unfolding closestOf closestWalk closestFound closest.walked closest.entered entryCause paneOf paneMet paneBox queryAt queryWords stepWords advanceWords reportWords visitWords popWords rayOf octantOf hitMask slotHit hitBits orOf passes nearOf farOf maxOf minOf planeAt adjustedInverse adjustedOrigin nearLimit scaleOf nodeFrom leAt sumOf slotFrom slotOffset nodeRule headOk childrenOk slotsOk slotOk leafTop pointOk exponentOk inBounds onesBelow field childIndex topOf pushed leadingZeros safeInverse boundedVec acceptedRay acceptedBox aabb.inOrder aabb.entryDistance aabb.boxNear aabb.boxFar aabb.slabNear aabb.slabFar unsignedZero round ofBits ofInt add sub mul div lt le eq isNan
+closest-T = refl
+
 pub samples : Samples
 samples = record {
   exponents-of-T = exponents-of-T;
@@ -121,6 +127,7 @@ samples = record {
   extent-0 = extent-0;
   any-hit-T = any-hits .0;
   any-hit-T-list = any-hits .1;
+  closest-T = closest-T;
   any-hit-zero = any-hits .2;
   any-hit-nothing = any-hits .3;
 }

@@ -10,6 +10,7 @@ use Rattle.ray.specs.declared.Ray.{Ray}
 use Rattle.ray.specs.Ray.{rayOf}
 use Rattle.quantization.specs.Exponent.{exponentOf}
 use Rattle.bvh2_to_cwbvh.specs.Conversion.{Answer, converted, refused, recordOf, listOf, conversionOf}
+use Rattle.closest.specs.Panes.{hitAt, closestOf}
 use Rattle.any_hit.specs.AnyHit.{listed, anyHitOf, listAfter}
 use Rattle.samples.specs.TreeT.{wordsT, indicesT, bytesT}
 
@@ -34,6 +35,10 @@ abbrev pub rayAlong : Float → Ray
 rayAlong y =
     let half = ofBits binary32 0x3f00_0000 in
     rayOf (record { x = ofBits binary32 0xbf80_0000; y = half; z = half }) (record { x = number 1; y = y; z = number 0 }) (number 0) (inf false)
+
+-- the boxes of A and B as panes
+abbrev pub panesT : List Float
+panesT = number 0 ∷ number 0 ∷ number 0 ∷ number 1 ∷ number 1 ∷ number 1 ∷ number 2 ∷ number 0 ∷ number 0 ∷ number 3 ∷ number 1 ∷ number 1 ∷ []
 
 pub record Samples : Type 0 where
   -- T's root has extents 3, 1 and 1
@@ -61,6 +66,8 @@ pub record Samples : Type 0 where
   -- any-hit along (1, 0, 0): position 1, then 0, by one test
   pub any-hit-T : anyHitOf bytesT 2 (rayAlong (number 0)) 2 ≡ listed 2 1
   pub any-hit-T-list : listAfter bytesT 2 (rayAlong (number 0)) (7 ∷ 7 ∷ 7 ∷ []) ≡ 1 ∷ 0 ∷ 7 ∷ []
+  -- closest along (1, 0, 0), panes 0 and 1 being the boxes of A and B: position 0 at 1.0, by one test
+  pub closest-T : closestOf bytesT indicesT panesT (rayAlong (number 0)) ≡ record { answer = hitAt 0 (number 1); tests = 1 }
   -- along (1, −0.0, 0) nothing is met, by one test
   pub any-hit-zero : anyHitOf bytesT 2 (rayAlong (ofBits binary32 0x8000_0000)) 2 ≡ listed 0 1
   -- without nodes nothing is met, without a test
