@@ -60,7 +60,7 @@ pub fn row(name: &str, items: usize, ours: &mut dyn FnMut(), rust: &mut dyn FnMu
     let (least, middle, greatest) = (ratios[0], ratios[RUNS / 2], ratios[RUNS - 1]);
     let [a, b] = [a, b].map(|t| t / (calls * items) as f64);
     println!(
-        "{name:<48} ours / Rust: {middle:.2} (least {least:.2}, greatest {greatest:.2}); best times {} and {}",
+        "{name:<56} ours / Rust: {middle:.2} (least {least:.2}, greatest {greatest:.2}); best times {} and {}",
         shown(a),
         shown(b)
     );
@@ -73,6 +73,6 @@ pub fn alone(name: &str, items: usize, ours: &mut dyn FnMut()) -> f64 {
     let mut times: Vec<f64> = (0..RUNS).map(|_| time(calls, ours) / (calls * items) as f64).collect();
     times.sort_by(f64::total_cmp);
     let [least, middle, greatest] = [0, RUNS / 2, RUNS - 1].map(|k| shown(times[k]));
-    println!("{name:<48} ours: {middle} (least {least}, greatest {greatest}); nothing in the Rust");
+    println!("{name:<56} ours: {middle} (least {least}, greatest {greatest}); nothing in the Rust");
     times[0]
 }
