@@ -91,7 +91,7 @@ module _ {s d : Type 0} (m : ℕ) (T : Tests s d) (narrow : Narrow m T) where
 -- ---- a query is its list of calls
 
 module _ {s d a : Type 0} (m : ℕ) (T : Tests s d) (react : ℕ → s → a → Reaction d a) where
-  tell-run : (l : List d) (k : List (Op d)) (w : Walker s) → runOps m T (tellings l ++ k) w ≡ runOps m T k (toldAll T l w)
+  pub tell-run : (l : List d) (k : List (Op d)) (w : Walker s) → runOps m T (tellings l ++ k) w ≡ runOps m T k (toldAll T l w)
   unfolding runOps
   tell-run [] k w = refl
   tell-run (x ∷ l) k w = tell-run l k (tellOf T x w)

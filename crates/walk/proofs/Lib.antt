@@ -21,3 +21,5 @@ pub mod WordQueries
 pub mod WordDemands
 pub mod WordKept
 pub mod WordEnds
+pub mod Reports
+pub mod Nearest

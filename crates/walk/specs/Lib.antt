@@ -9,3 +9,4 @@ pub mod Words
 pub mod WordStep
 pub mod Masks
 pub mod WordQueries
+pub mod Reports

@@ -1,0 +1,147 @@
+-- What a query has noted are its reactions to the positions that its steps reported. And miss reports what closest does, up to the first that stops it.
+use mathlib.Core.Bool.{Bool, true, false, cond}
+use mathlib.Core.List.{List, [], _∷_, _++_}
+use mathlib.Core.Path.{_≡_, refl, sym, ap, subst, _∙_}
+use Prim.Native.Nat.{ℕ, zero, suc, _+_, _<_}
+use native.Mathlib.Omega.{arith}
+use lib.ListN.{length, length-append}
+use Rattle.walk.specs.Tests.{Tests}
+use Rattle.walk.specs.Step.{Walker, Answer, tested, position, done, refused, Stepped, stepOf, tellOf}
+use Rattle.walk.specs.Calls.{All, Op, step, tell, Run, runOps, reportOf, reported}
+use Rattle.walk.specs.Queries.{Reaction, Outcome, toldAll, follow, query, callsAfter, calls, Pane, distance, faulty, Found, none, hit, closest, miss, lower, lowerAt, blockAt}
+use Rattle.walk.specs.Reports.{testOf, testedNodes, toldRay, reports, Notes, upTo}
+use Rattle.walk.proofs.Cases.{step-cases}
+use Rattle.walk.proofs.Ends.{tell-run}
+
+module _ {s d : Type 0} (m : ℕ) (T : Tests s d) where
+  -- a step leaves the ray as it was
+  step-ray : (n : ℕ) (w : Walker s) → stepOf m T n w .walker .ray ≡ w .ray
+  step-ray n w =
+      step-cases m T n w (λ (r : Stepped s). r .walker .ray ≡ w .ray)
+      (record { refuses = λ e c. refl; ends = λ f o. refl; reports = λ p ps h. refl; visits = λ c r st h. refl })
+
+  -- and reports positions that exist
+  abbrev Exists : ℕ → Answer → Type 0
+  Exists n (tested v) = Unit {0}
+  Exists n (position p) = p < n
+  Exists n done = Unit {0}
+  Exists n (refused e) = Unit {0}
+
+  step-exists : (n : ℕ) (w : Walker s) → Exists n (stepOf m T n w .answer)
+  step-exists n w =
+      step-cases m T n w (λ (r : Stepped s). Exists n (r .answer))
+      (record { refuses = λ e c. tt; ends = λ f o. tt; reports = λ p ps h. h .below; visits = λ c r st h. tt })
+
+  -- the tests that a walker counts are the nodes that its calls tested
+  step-tests : (n : ℕ) (w : Walker s) → stepOf m T n w .walker .tests ≡ w .tests + length (testOf (stepOf m T n w .answer))
+  step-tests n w =
+      step-cases m T n w (λ (r : Stepped s). r .walker .tests ≡ w .tests + length (testOf (r .answer)))
+      (record { refuses = λ e c. omega arith; ends = λ f o. omega arith; reports = λ p ps h. omega arith; visits = λ c r st h. omega arith })
+
+  pub run-tests : (l : List (Op d)) (w : Walker s) → runOps m T l w .walker .tests ≡ w .tests + length (testedNodes (runOps m T l w .answers))
+  unfolding runOps
+  run-tests [] w = omega arith
+  run-tests (step n ∷ l) w =
+      let e = length-append (testOf (stepOf m T n w .answer)) (testedNodes (runOps m T l (stepOf m T n w .walker) .answers)) in
+      omega (arith, run-tests l (stepOf m T n w .walker), step-tests n w)
+  run-tests (tell x ∷ l) w = run-tests l (tellOf T x w)
+
+  told-ray : (l : List d) (w : Walker s) → toldAll T l w .ray ≡ toldRay T l (w .ray)
+  told-ray [] w = refl
+  told-ray (x ∷ l) w = told-ray l (tellOf T x w)
+
+  module _ {a : Type 0} (react : ℕ → s → a → Reaction d a) where
+    -- ---- any query
+
+    -- what is reported after a reaction
+    abbrev rest : ℕ → ℕ → Walker s → Reaction d a → List ℕ
+    rest f n v r = let u = toldAll T (r .tells) v in reported (runOps m T (cond (r .stop) [] (calls m T react f n u (r .noted))) u .answers)
+
+    after-position : (f n p : ℕ) (v : Walker s) (x : a)
+        → reported (runOps m T (callsAfter m T react (position p) v x (calls m T react f n)) v .answers) ≡ rest f n v (react p (v .ray) x)
+    after-position f n p v x = ap (λ (r : Run s). reported (r .answers)) (tell-run m T react (react p (v .ray) x .tells) _ v)
+
+    -- ---- what is noted
+
+    pub query-notes : (f n : ℕ) (w : Walker s) (x : a) → Notes m T react (w .ray) x (reports m T react f n w x) (query m T react f n w x .noted)
+    unfolding runOps query calls
+    query-notes zero n w x = refl
+    query-notes (suc f) n w x = go (stepOf m T n w .answer) (stepOf m T n w .walker) (step-ray n w) (query-notes f n)
+      where
+        go : (b : Answer) (v : Walker s) → v .ray ≡ w .ray
+            → ((u : Walker s) (y : a) → Notes m T react (u .ray) y (reports m T react f n u y) (query m T react f n u y .noted))
+            → Notes m T react (w .ray) x (reportOf b ++ reported (runOps m T (callsAfter m T react b v x (calls m T react f n)) v .answers)) (follow m T react b v x (query m T react f n) .noted)
+        go (tested c) v e h = subst (λ (r : s). Notes m T react r x (reports m T react f n v x) (query m T react f n v x .noted)) e (h v x)
+        go (position p) v e h =
+            subst (λ (r : s). Notes m T react r x (p ∷ reported (runOps m T (callsAfter m T react (position p) v x (calls m T react f n)) v .answers)) (follow m T react (position p) v x (query m T react f n) .noted)) e
+            (subst (λ (l : List ℕ). Notes m T react (v .ray) x (p ∷ l) (follow m T react (position p) v x (query m T react f n) .noted)) (sym (after-position f n p v x)) (by (react p (v .ray) x) (react p (v .ray) x .stop)))
+          where
+            by : (r : Reaction d a) (t : Bool) →
+                let u = toldAll T (r .tells) v in
+                let rest : List ℕ = reported (runOps m T (cond t [] (calls m T react f n u (r .noted))) u .answers) in
+                let y : a = cond t (record { walker = u; noted = r .noted; ended = position p }) (query m T react f n u (r .noted)) .noted in
+                elim t as (λ (b : Bool). Type 0) [ true ↦ (rest ≡ []) × (y ≡ r .noted) | false ↦ Notes m T react (toldRay T (r .tells) (v .ray)) (r .noted) rest y ]
+            by r true = (refl, refl)
+            by r false =
+                let u = toldAll T (r .tells) v in
+                subst (λ (q : s). Notes m T react q (r .noted) (reports m T react f n u (r .noted)) (query m T react f n u (r .noted) .noted)) (told-ray (r .tells) v) (h u (r .noted))
+        go done v e h = refl
+        go (refused k) v e h = refl
+
+    -- ---- every position reported exists
+
+    pub reports-exist : (f n : ℕ) (w : Walker s) (x : a) → All (λ p. p < n) (reports m T react f n w x)
+    unfolding runOps calls
+    reports-exist zero n w x = tt
+    reports-exist (suc f) n w x = go (stepOf m T n w .answer) (stepOf m T n w .walker) (step-exists n w) (reports-exist f n)
+      where
+        go : (b : Answer) (v : Walker s) → Exists n b → ((u : Walker s) (y : a) → All (λ p. p < n) (reports m T react f n u y))
+            → All (λ p. p < n) (reportOf b ++ reported (runOps m T (callsAfter m T react b v x (calls m T react f n)) v .answers))
+        go (tested c) v e h = h v x
+        go (position p) v e h = (e, subst (All (λ q. q < n)) (sym (after-position f n p v x)) (by (react p (v .ray) x) (react p (v .ray) x .stop)))
+          where
+            by : (r : Reaction d a) (t : Bool) → let u = toldAll T (r .tells) v in All (λ q. q < n) (reported (runOps m T (cond t [] (calls m T react f n u (r .noted))) u .answers))
+            by r true = tt
+            by r false = h (toldAll T (r .tells) v) (r .noted)
+        go done v e h = tt
+        go (refused k) v e h = tt
+
+  -- ---- miss reports what closest does, up to the first position that stops it, for any panes
+
+  module _ (pane : ℕ → s → Pane d) (nearer : d → s → Bool) where
+    abbrev near : ℕ → s → Found d → Reaction d (Found d)
+    near = closest pane nearer
+
+    abbrev block : ℕ → s → Found d → Reaction d (Found d)
+    block = miss pane nearer
+
+    pub miss-reports : (f n : ℕ) (w : Walker s) (x : Found d)
+        → reports m T block f n w none ≡ upTo (λ p. block p (w .ray) none .stop) (reports m T near f n w x)
+    unfolding runOps calls
+    miss-reports zero n w x = refl
+    miss-reports (suc f) n w x = go (stepOf m T n w .answer) (stepOf m T n w .walker) (step-ray n w) (miss-reports f n)
+      where
+        go : (b : Answer) (v : Walker s) → v .ray ≡ w .ray
+            → ((u : Walker s) (y : Found d) → reports m T block f n u none ≡ upTo (λ p. block p (u .ray) none .stop) (reports m T near f n u y))
+            → reportOf b ++ reported (runOps m T (callsAfter m T block b v none (calls m T block f n)) v .answers)
+            ≡ upTo (λ p. block p (w .ray) none .stop) (reportOf b ++ reported (runOps m T (callsAfter m T near b v x (calls m T near f n)) v .answers))
+        go (tested c) v e h = subst (λ (r : s). reports m T block f n v none ≡ upTo (λ p. block p r none .stop) (reports m T near f n v x)) e (h v x)
+        go (position p) v e h =
+            subst (λ (r : s). p ∷ reported (runOps m T (callsAfter m T block (position p) v none (calls m T block f n)) v .answers)
+            ≡ upTo (λ p. block p r none .stop) (p ∷ reported (runOps m T (callsAfter m T near (position p) v x (calls m T near f n)) v .answers))) e
+            (ap (p ∷_) (after-position block f n p v none ∙ at (pane p (v .ray)))
+            ∙ ap (λ (l : List ℕ). upTo (λ p. block p (v .ray) none .stop) (p ∷ l)) (sym (after-position near f n p v x)))
+          where
+            cut : List ℕ → List ℕ
+            cut = upTo (λ q. block q (v .ray) none .stop)
+
+            by : (t : d) (c : Bool)
+                → rest block f n v (record { noted = cond c (hit p t) none; tells = []; stop = c }) ≡ cond c [] (cut (rest near f n v (lower pane nearer c p t x)))
+            by t true = refl
+            by t false = h v x
+
+            at : (q : Pane d) → rest block f n v (blockAt pane nearer q p (v .ray) none) ≡ cond (blockAt pane nearer q p (v .ray) none .stop) [] (cut (rest near f n v (lowerAt pane nearer q p (v .ray) x)))
+            at (distance t) = by t (nearer t (v .ray))
+            at (faulty k) = refl
+        go done v e h = refl
+        go (refused k) v e h = refl
