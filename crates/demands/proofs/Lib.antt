@@ -11,3 +11,5 @@ pub mod Listed
 pub mod SoundWalks
 pub mod Walks
 pub mod Runs
+pub mod Reports
+pub mod SoundPanes

@@ -23,3 +23,4 @@ pub mod WordKept
 pub mod WordEnds
 pub mod Reports
 pub mod Nearest
+pub mod Noted

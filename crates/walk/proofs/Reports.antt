@@ -1,4 +1,4 @@
--- What a query has noted are its reactions to the positions that its steps reported. And miss reports what closest does, up to the first that stops it.
+-- What a query has noted are its reactions to the positions that its steps reported; miss reports what closest does, up to the first that stops it.
 use mathlib.Core.Bool.{Bool, true, false, cond}
 use mathlib.Core.List.{List, [], _∷_, _++_}
 use mathlib.Core.Path.{_≡_, refl, sym, ap, subst, _∙_}
@@ -8,7 +8,8 @@ use lib.ListN.{length, length-append}
 use Rattle.walk.specs.Tests.{Tests}
 use Rattle.walk.specs.Step.{Walker, Answer, tested, position, done, refused, Stepped, stepOf, tellOf}
 use Rattle.walk.specs.Calls.{All, Op, step, tell, Run, runOps, reportOf, reported}
-use Rattle.walk.specs.Queries.{Reaction, Outcome, toldAll, follow, query, callsAfter, calls, Pane, distance, faulty, Found, none, hit, closest, miss, lower, lowerAt, blockAt}
+use Rattle.walk.specs.Queries.{Reaction, Outcome, toldAll, follow, query, callsAfter, calls}
+use Rattle.walk.specs.Queries.{Pane, distance, faulty, Found, none, hit, closest, miss, lower, lowerAt, blockAt}
 use Rattle.walk.specs.Reports.{testOf, testedNodes, toldRay, reports, Notes, upTo}
 use Rattle.walk.proofs.Cases.{step-cases}
 use Rattle.walk.proofs.Ends.{tell-run}
@@ -51,42 +52,55 @@ module _ {s d : Type 0} (m : ℕ) (T : Tests s d) where
   told-ray (x ∷ l) w = told-ray l (tellOf T x w)
 
   module _ {a : Type 0} (react : ℕ → s → a → Reaction d a) where
-    -- ---- any query
+    -- ---- what a query reports from an answer on, and from a reaction on
 
-    -- what is reported after a reaction
-    abbrev rest : ℕ → ℕ → Walker s → Reaction d a → List ℕ
-    rest f n v r = let u = toldAll T (r .tells) v in reported (runOps m T (cond (r .stop) [] (calls m T react f n u (r .noted))) u .answers)
+    abbrev fromAnswer : ℕ → ℕ → Answer → Walker s → a → List ℕ
+    fromAnswer f n b v x = reportOf b ++ reported (runOps m T (callsAfter m T react b v x (calls m T react f n)) v .answers)
 
-    after-position : (f n p : ℕ) (v : Walker s) (x : a)
-        → reported (runOps m T (callsAfter m T react (position p) v x (calls m T react f n)) v .answers) ≡ rest f n v (react p (v .ray) x)
-    after-position f n p v x = ap (λ (r : Run s). reported (r .answers)) (tell-run m T react (react p (v .ray) x .tells) _ v)
+    abbrev fromReaction : ℕ → ℕ → Walker s → Reaction d a → List ℕ
+    fromReaction f n v r = let u = toldAll T (r .tells) v in reported (runOps m T (cond (r .stop) [] (calls m T react f n u (r .noted))) u .answers)
 
-    -- ---- what is noted
+    from-position : (f n p : ℕ) (v : Walker s) (x : a) → fromAnswer f n (position p) v x ≡ p ∷ fromReaction f n v (react p (v .ray) x)
+    from-position f n p v x = ap (λ (r : Run s). p ∷ reported (r .answers)) (tell-run m T react (react p (v .ray) x .tells) _ v)
+
+    -- ---- what it notes
+
+    abbrev NotesOn : ℕ → ℕ → Type 0
+    NotesOn f n = (u : Walker s) (y : a) → Notes m T react (u .ray) y (reports m T react f n u y) (query m T react f n u y .noted)
+
+    stops-or-notes : (f n p : ℕ) (v : Walker s) → NotesOn f n → (r : Reaction d a) (t : Bool) →
+        let u = toldAll T (r .tells) v in
+        let rest : List ℕ = reported (runOps m T (cond t [] (calls m T react f n u (r .noted))) u .answers) in
+        let y : a = cond t (record { walker = u; noted = r .noted; ended = position p }) (query m T react f n u (r .noted)) .noted in
+        elim t as (λ (b : Bool). Type 0) [
+          | true ↦ (rest ≡ []) × (y ≡ r .noted)
+          | false ↦ Notes m T react (toldRay T (r .tells) (v .ray)) (r .noted) rest y
+        ]
+    unfolding runOps
+    stops-or-notes f n p v h r true = (refl, refl)
+    stops-or-notes f n p v h r false =
+        let u = toldAll T (r .tells) v in
+        subst (λ (q : s). Notes m T react q (r .noted) (reports m T react f n u (r .noted)) (query m T react f n u (r .noted) .noted))
+        (told-ray (r .tells) v) (h u (r .noted))
 
     pub query-notes : (f n : ℕ) (w : Walker s) (x : a) → Notes m T react (w .ray) x (reports m T react f n w x) (query m T react f n w x .noted)
     unfolding runOps query calls
     query-notes zero n w x = refl
-    query-notes (suc f) n w x = go (stepOf m T n w .answer) (stepOf m T n w .walker) (step-ray n w) (query-notes f n)
+    query-notes (suc f) n w x =
+        let v = stepOf m T n w .walker in
+        let b = stepOf m T n w .answer in
+        subst (λ (r : s). Notes m T react r x (fromAnswer f n b v x) (follow m T react b v x (query m T react f n) .noted)) (step-ray n w)
+        (go b v (query-notes f n))
       where
-        go : (b : Answer) (v : Walker s) → v .ray ≡ w .ray
-            → ((u : Walker s) (y : a) → Notes m T react (u .ray) y (reports m T react f n u y) (query m T react f n u y .noted))
-            → Notes m T react (w .ray) x (reportOf b ++ reported (runOps m T (callsAfter m T react b v x (calls m T react f n)) v .answers)) (follow m T react b v x (query m T react f n) .noted)
-        go (tested c) v e h = subst (λ (r : s). Notes m T react r x (reports m T react f n v x) (query m T react f n v x .noted)) e (h v x)
-        go (position p) v e h =
-            subst (λ (r : s). Notes m T react r x (p ∷ reported (runOps m T (callsAfter m T react (position p) v x (calls m T react f n)) v .answers)) (follow m T react (position p) v x (query m T react f n) .noted)) e
-            (subst (λ (l : List ℕ). Notes m T react (v .ray) x (p ∷ l) (follow m T react (position p) v x (query m T react f n) .noted)) (sym (after-position f n p v x)) (by (react p (v .ray) x) (react p (v .ray) x .stop)))
-          where
-            by : (r : Reaction d a) (t : Bool) →
-                let u = toldAll T (r .tells) v in
-                let rest : List ℕ = reported (runOps m T (cond t [] (calls m T react f n u (r .noted))) u .answers) in
-                let y : a = cond t (record { walker = u; noted = r .noted; ended = position p }) (query m T react f n u (r .noted)) .noted in
-                elim t as (λ (b : Bool). Type 0) [ true ↦ (rest ≡ []) × (y ≡ r .noted) | false ↦ Notes m T react (toldRay T (r .tells) (v .ray)) (r .noted) rest y ]
-            by r true = (refl, refl)
-            by r false =
-                let u = toldAll T (r .tells) v in
-                subst (λ (q : s). Notes m T react q (r .noted) (reports m T react f n u (r .noted)) (query m T react f n u (r .noted) .noted)) (told-ray (r .tells) v) (h u (r .noted))
-        go done v e h = refl
-        go (refused k) v e h = refl
+        go : (b : Answer) (v : Walker s) → NotesOn f n
+            → Notes m T react (v .ray) x (fromAnswer f n b v x) (follow m T react b v x (query m T react f n) .noted)
+        go (tested c) v h = h v x
+        go (position p) v h =
+            let r : Reaction d a = react p (v .ray) x in
+            subst (λ (l : List ℕ). Notes m T react (v .ray) x l (follow m T react (position p) v x (query m T react f n) .noted))
+            (sym (from-position f n p v x)) (stops-or-notes f n p v h r (r .stop))
+        go done v h = refl
+        go (refused k) v h = refl
 
     -- ---- every position reported exists
 
@@ -95,14 +109,17 @@ module _ {s d : Type 0} (m : ℕ) (T : Tests s d) where
     reports-exist zero n w x = tt
     reports-exist (suc f) n w x = go (stepOf m T n w .answer) (stepOf m T n w .walker) (step-exists n w) (reports-exist f n)
       where
+        by : ((u : Walker s) (y : a) → All (λ p. p < n) (reports m T react f n u y)) → (r : Reaction d a) (t : Bool) (u : Walker s)
+            → All (λ q. q < n) (reported (runOps m T (cond t [] (calls m T react f n u (r .noted))) u .answers))
+        by h r true u = tt
+        by h r false u = h u (r .noted)
+
         go : (b : Answer) (v : Walker s) → Exists n b → ((u : Walker s) (y : a) → All (λ p. p < n) (reports m T react f n u y))
-            → All (λ p. p < n) (reportOf b ++ reported (runOps m T (callsAfter m T react b v x (calls m T react f n)) v .answers))
+            → All (λ p. p < n) (fromAnswer f n b v x)
         go (tested c) v e h = h v x
-        go (position p) v e h = (e, subst (All (λ q. q < n)) (sym (after-position f n p v x)) (by (react p (v .ray) x) (react p (v .ray) x .stop)))
-          where
-            by : (r : Reaction d a) (t : Bool) → let u = toldAll T (r .tells) v in All (λ q. q < n) (reported (runOps m T (cond t [] (calls m T react f n u (r .noted))) u .answers))
-            by r true = tt
-            by r false = h (toldAll T (r .tells) v) (r .noted)
+        go (position p) v e h =
+            let r : Reaction d a = react p (v .ray) x in
+            subst (All (λ q. q < n)) (sym (from-position f n p v x)) (e, by h r (r .stop) (toldAll T (r .tells) v))
         go done v e h = tt
         go (refused k) v e h = tt
 
@@ -115,33 +132,41 @@ module _ {s d : Type 0} (m : ℕ) (T : Tests s d) where
     abbrev block : ℕ → s → Found d → Reaction d (Found d)
     block = miss pane nearer
 
+    abbrev cut : s → List ℕ → List ℕ
+    cut r = upTo (λ p. block p r none .stop)
+
+    abbrev Cuts : ℕ → ℕ → Type 0
+    Cuts f n = (u : Walker s) (x : Found d) → reports m T block f n u none ≡ cut (u .ray) (reports m T near f n u x)
+
+    -- after a position whose pane is at a distance, nearer or not; and after any
+    cuts-at : (f n p : ℕ) (v : Walker s) (x : Found d) → Cuts f n → (t : d) (c : Bool)
+        → fromReaction block f n v (record { noted = cond c (hit p t) none; tells = []; stop = c })
+        ≡ cond c [] (cut (v .ray) (fromReaction near f n v (lower pane nearer c p t x)))
+    unfolding runOps
+    cuts-at f n p v x h t true = refl
+    cuts-at f n p v x h t false = h v x
+
+    cuts-pane : (f n p : ℕ) (v : Walker s) (x : Found d) → Cuts f n → (q : Pane d)
+        → fromReaction block f n v (blockAt pane nearer q p (v .ray) none)
+        ≡ cond (blockAt pane nearer q p (v .ray) none .stop) [] (cut (v .ray) (fromReaction near f n v (lowerAt pane nearer q p (v .ray) x)))
+    unfolding runOps
+    cuts-pane f n p v x h (distance t) = cuts-at f n p v x h t (nearer t (v .ray))
+    cuts-pane f n p v x h (faulty k) = refl
+
     pub miss-reports : (f n : ℕ) (w : Walker s) (x : Found d)
         → reports m T block f n w none ≡ upTo (λ p. block p (w .ray) none .stop) (reports m T near f n w x)
     unfolding runOps calls
     miss-reports zero n w x = refl
-    miss-reports (suc f) n w x = go (stepOf m T n w .answer) (stepOf m T n w .walker) (step-ray n w) (miss-reports f n)
+    miss-reports (suc f) n w x =
+        let v = stepOf m T n w .walker in
+        let b = stepOf m T n w .answer in
+        subst (λ (r : s). fromAnswer block f n b v none ≡ cut r (fromAnswer near f n b v x)) (step-ray n w) (go b v (miss-reports f n))
       where
-        go : (b : Answer) (v : Walker s) → v .ray ≡ w .ray
-            → ((u : Walker s) (y : Found d) → reports m T block f n u none ≡ upTo (λ p. block p (u .ray) none .stop) (reports m T near f n u y))
-            → reportOf b ++ reported (runOps m T (callsAfter m T block b v none (calls m T block f n)) v .answers)
-            ≡ upTo (λ p. block p (w .ray) none .stop) (reportOf b ++ reported (runOps m T (callsAfter m T near b v x (calls m T near f n)) v .answers))
-        go (tested c) v e h = subst (λ (r : s). reports m T block f n v none ≡ upTo (λ p. block p r none .stop) (reports m T near f n v x)) e (h v x)
-        go (position p) v e h =
-            subst (λ (r : s). p ∷ reported (runOps m T (callsAfter m T block (position p) v none (calls m T block f n)) v .answers)
-            ≡ upTo (λ p. block p r none .stop) (p ∷ reported (runOps m T (callsAfter m T near (position p) v x (calls m T near f n)) v .answers))) e
-            (ap (p ∷_) (after-position block f n p v none ∙ at (pane p (v .ray)))
-            ∙ ap (λ (l : List ℕ). upTo (λ p. block p (v .ray) none .stop) (p ∷ l)) (sym (after-position near f n p v x)))
-          where
-            cut : List ℕ → List ℕ
-            cut = upTo (λ q. block q (v .ray) none .stop)
-
-            by : (t : d) (c : Bool)
-                → rest block f n v (record { noted = cond c (hit p t) none; tells = []; stop = c }) ≡ cond c [] (cut (rest near f n v (lower pane nearer c p t x)))
-            by t true = refl
-            by t false = h v x
-
-            at : (q : Pane d) → rest block f n v (blockAt pane nearer q p (v .ray) none) ≡ cond (blockAt pane nearer q p (v .ray) none .stop) [] (cut (rest near f n v (lowerAt pane nearer q p (v .ray) x)))
-            at (distance t) = by t (nearer t (v .ray))
-            at (faulty k) = refl
-        go done v e h = refl
-        go (refused k) v e h = refl
+        go : (b : Answer) (v : Walker s) → Cuts f n → fromAnswer block f n b v none ≡ cut (v .ray) (fromAnswer near f n b v x)
+        go (tested c) v h = h v x
+        go (position p) v h =
+            from-position block f n p v none
+            ∙ ap (p ∷_) (cuts-pane f n p v x h (pane p (v .ray)))
+            ∙ ap (cut (v .ray)) (sym (from-position near f n p v x))
+        go done v h = refl
+        go (refused k) v h = refl

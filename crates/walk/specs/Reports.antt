@@ -1,4 +1,4 @@
--- What calls test, what a query reports and what it notes of that, and which of some positions is the nearest (01, "Walking"; "Corners of each file", cwbvh/mod.rs).
+-- What calls test, what a query reports and notes, and which of some positions is the nearest (01, "Walking"; "Corners of each file", cwbvh/mod.rs).
 use mathlib.Core.Bool.{Bool, true, false, cond}
 use mathlib.Core.List.{List, [], _∷_, _++_}
 use mathlib.Core.Path.{_≡_}
