@@ -13,3 +13,4 @@ pub mod Walks
 pub mod Runs
 pub mod Reports
 pub mod SoundPanes
+pub mod Panes

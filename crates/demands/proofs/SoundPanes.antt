@@ -39,7 +39,8 @@ use Rattle.demands.proofs.Sound.{Good}
 use Rattle.demands.proofs.SoundWalks.{query-not-refused}
 
 -- a walk that was not refused gives what it has found
-found-at-end : {A : Type 0} (refuse : ℕ → A) (found : Found Float → ℕ → Result A) (cause : ℕ) (o : OutcomeWords Beam (Found Float)) (b : S.Answer) → 0 ≡ cause → Ended b
+found-at-end : {A : Type 0} (refuse : ℕ → A) (found : Found Float → ℕ → Result A) (cause : ℕ) (o : OutcomeWords Beam (Found Float)) (b : S.Answer)
+    → 0 ≡ cause → Ended b
     → entered refuse cause (walked refuse found o b) ≡ found (o .noted) (o .walker .tests)
 unfolding entered walked
 found-at-end refuse found zero o (S.tested v) e h = absurd h
@@ -90,7 +91,8 @@ module _ (bytes indices : List ℕ) (panes : List Float) (d : ℕ) (good : Good 
   no-cause =
       entry-none (eqb (length panes % 6) 0) (length bytes) (length indices) ray (eq-eqb (length panes % 6) 0 (fine .whole)) (good .layout) (good .positions) (good .nodes) accepted
 
-  not-refused : (react : ℕ → Beam → Found Float → Reaction Float (Found Float)) → Ended (queryAt bytes beams react none (length indices) (beamOf ray) .ended)
+  not-refused : (react : ℕ → Beam → Found Float → Reaction Float (Found Float))
+      → Ended (queryAt bytes beams react none (length indices) (beamOf ray) .ended)
   not-refused react = query-not-refused bytes (length indices) d good fit origin direction tmin tmax accepted react none
 
   once : (react : ℕ → Beam → Found Float → Reaction Float (Found Float)) → List·Nodup (reported (answersOf bytes (length indices) ray react none))
@@ -136,7 +138,8 @@ module _ (bytes indices : List ℕ) (panes : List Float) (d : ℕ) (good : Good 
   unfolding closestFound
   closest-answers = go (closestWalk bytes indices panes ray .noted) (closestWalk bytes indices panes ray .walker .tests) closest-is closest-picked closest-tests
     where
-      go : (y : Found Float) (k : ℕ) → closestOf bytes indices panes ray ≡ closestFound y k → Picks lt far (ray .tmax) none y (closestReports bytes indices panes ray)
+      go : (y : Found Float) (k : ℕ) → closestOf bytes indices panes ray ≡ closestFound y k
+          → Picks lt far (ray .tmax) none y (closestReports bytes indices panes ray)
           → k ≡ length (testedNodes (closestSteps bytes indices panes ray)) → ClosestAnswers bytes indices panes ray
       go y k e (kept f h) t =
           let c = e ∙ ap (λ (z : Found Float). closestFound z k) f in
@@ -199,7 +202,8 @@ module _ (bytes indices : List ℕ) (panes : List Float) (d : ℕ) (good : Good 
   unfolding missFound
   miss-answers = go (missWalk bytes indices panes ray .noted) (missWalk bytes indices panes ray .walker .tests) miss-is miss-stopped miss-tests
     where
-      go : (y : Found Float) (k : ℕ) → missOf bytes indices panes ray ≡ missFound y k → Stops lt far (ray .tmax) none y (missReports bytes indices panes ray)
+      go : (y : Found Float) (k : ℕ) → missOf bytes indices panes ray ≡ missFound y k
+          → Stops lt far (ray .tmax) none y (missReports bytes indices panes ray)
           → k ≡ length (testedNodes (missSteps bytes indices panes ray)) → MissAnswers bytes indices panes ray
       go y k e (N.missed f h) t =
           let c = e ∙ ap (λ (z : Found Float). missFound z k) f in
@@ -215,7 +219,8 @@ module _ (bytes indices : List ℕ) (panes : List Float) (d : ℕ) (good : Good 
       go y k e (N.blocked p f B) t =
           let c = e ∙ ap (λ (z : Found Float). missFound z k) f in
           let a : missOf bytes indices panes ray .answer ≡ blocked = ap (λ (r : Result MissAnswer). r .answer) c in
-          let none-not : closestOf bytes indices panes ray .answer ≡ noHit → ⊥ = λ q. blocks-below lt far (ray .tmax) _ p B (none-reported .1 q) in record {
+          let none-not : closestOf bytes indices panes ray .answer ≡ noHit
+          → ⊥ = λ q. blocks-below lt far (ray .tmax) _ p B (none-reported .1 q) in record {
             answers = inr a;
             blocked-iff = (λ _. (p, B), λ _. a);
             missed-iff = (λ q. blocked-apart (sym q ∙ a), λ h. absurd (blocks-below lt far (ray .tmax) _ p B h));
