@@ -11,3 +11,4 @@ pub mod Listed
 pub mod SoundWalks
 pub mod Walks
 pub mod Runs
+pub mod Done

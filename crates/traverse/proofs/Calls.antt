@@ -12,7 +12,7 @@ use Rattle.walk.specs.WordStep.{WalkerWords, SteppedWords, runWords, stayWords}
 use Rattle.walk_record.specs.Beam.{Beam, beams}
 use Rattle.walk_record.specs.Walk.{stepAt, runAt}
 use Rattle.traverse.specs.Walker.{stepBytes}
-use Rattle.traverse.specs.Calls.{runBytes}
+use Rattle.traverse.specs.Calls.{runEach, runBytes}
 
 module _ (bytes : List ℕ) (whole : length bytes % 80 ≡ 0) where
   pub step-whole : (n : ℕ) (w : WalkerWords Beam) → stepBytes bytes n w ≡ stepAt bytes beams n w
@@ -23,7 +23,7 @@ module _ (bytes : List ℕ) (whole : length bytes % 80 ≡ 0) where
       by a = elim a [ false ↦ stayWords w (S.refused 1) | true ↦ stepAt bytes beams n w ]
 
   pub run-whole : (l : List (Op Float)) (w : WalkerWords Beam) → runBytes bytes l w ≡ runAt bytes beams l w
-  unfolding runBytes runAt runWords stepAt
+  unfolding runBytes runEach runAt runWords stepAt
   run-whole [] w = refl
   run-whole (step n ∷ l) w =
       let e = step-whole n w in
