@@ -4,7 +4,6 @@ pub mod Boxes
 pub mod Answered
 pub mod Sound
 pub mod Children
-pub mod Fields
 pub mod Demands
 pub mod Refusals
 pub mod Listed
