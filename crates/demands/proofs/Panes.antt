@@ -1,12 +1,13 @@
 -- Closest and miss over the record and the index list that a converted call left, for every accepted ray and panes without a fault that the tree's
 -- index words name.
 use mathlib.Core.Bool.{true}
-use mathlib.Core.List.{List}
+use mathlib.Core.List.{List, Perm}
 use mathlib.Core.Path.{_≡_, sym, subst}
 use Prim.Native.Nat.{ℕ, _/_, _<_}
 use lib.Ieee.{Float}
 use lib.ListN.{length}
 use Rattle.lists.proofs.Perms.{perm-length}
+use Rattle.ray.specs.declared.Ray.{Ray}
 use Rattle.ray.specs.declared.Vec3.{Vec3}
 use Rattle.ray.specs.Ray.{rayOf, acceptedRay}
 use Rattle.demands.specs.Call.{Call, Answers, recordAt, listAt}
@@ -14,27 +15,32 @@ use Rattle.demands.specs.Panes.{Panes, ClosestAnswers, MissAnswers}
 use Rattle.demands.proofs.Words.{words-rearranged}
 use Rattle.demands.proofs.Sound.{Good}
 use Rattle.demands.proofs.Demands.{good-record, index-list-rearranges-words}
-use Rattle.demands.proofs.Walks.{fit}
 use Rattle.demands.proofs.SoundPanes as S
 
-module _ (c : Call) (m d : ℕ) (answers : Answers c m d) (panes : List Float) (fine : Panes (c .indices) panes) (origin direction : Vec3) (tmin tmax : Float)
-    (accepted : acceptedRay (rayOf origin direction tmin tmax) ≡ true) where
+module _ (c : Call) (m d : ℕ) (answers : Answers c m d) (panes : List Float) (fine : Panes (c .indices) panes) (origin direction : Vec3)
+    (tmin tmax : Float) (accepted : acceptedRay (rayOf origin direction tmin tmax) ≡ true) where
+  abbrev ray : Ray
+  ray = rayOf origin direction tmin tmax
+
+  rearranged : Perm (listAt c) (c .indices)
+  rearranged = index-list-rearranges-words c m d answers
+
   -- the index list names the same panes
   list-panes : Panes (listAt c) panes
   list-panes = record {
     whole = fine .whole;
     accepted = fine .accepted;
-    named = words-rearranged (λ k. k < length panes / 6) (listAt c) (c .indices) (index-list-rearranges-words c m d answers) (fine .named);
+    named = words-rearranged (λ k. k < length panes / 6) (listAt c) (c .indices) rearranged (fine .named);
   }
 
   list-good : Good (recordAt c m) (length (listAt c)) d
-  list-good =
-      subst (λ (n : ℕ). Good (recordAt c m) n d) (sym (perm-length (listAt c) (c .indices) (index-list-rearranges-words c m d answers))) (good-record c m d answers)
+  list-good = subst (λ (n : ℕ). Good (recordAt c m) n d) (sym (perm-length (listAt c) (c .indices) rearranged)) (good-record c m d answers)
 
-  -- Closest is not refused. It hits the nearest of the positions reported that is below the reach, the first met of equal ones; without one it has no hit.
-  pub closest-answers : ClosestAnswers (recordAt c m) (listAt c) panes (rayOf origin direction tmin tmax)
-  closest-answers = S.closest-answers (recordAt c m) (listAt c) panes d list-good (fit c m d answers origin direction tmin tmax accepted) list-panes origin direction tmin tmax accepted
+  -- Closest is not refused. It hits the nearest of the positions reported that is below the reach, the first met of equal ones; without one it has
+  -- no hit.
+  pub closest-answers : ClosestAnswers (recordAt c m) (listAt c) panes ray
+  closest-answers = S.closest-answers (recordAt c m) (listAt c) panes d list-good list-panes origin direction tmin tmax accepted
 
   -- Miss is not refused. It is blocked by the first position reported that is below the reach, and so exactly if closest has a hit.
-  pub miss-answers : MissAnswers (recordAt c m) (listAt c) panes (rayOf origin direction tmin tmax)
-  miss-answers = S.miss-answers (recordAt c m) (listAt c) panes d list-good (fit c m d answers origin direction tmin tmax accepted) list-panes origin direction tmin tmax accepted
+  pub miss-answers : MissAnswers (recordAt c m) (listAt c) panes ray
+  miss-answers = S.miss-answers (recordAt c m) (listAt c) panes d list-good list-panes origin direction tmin tmax accepted

@@ -1,62 +1,125 @@
--- Each query is the run of steps and tellings that it makes, from a walker just begun, on any record of whole nodes.
-use mathlib.Core.Bool.{true}
+-- Each query is the run of steps and tellings that it makes, from the walker that `Walker::new` promises, on any record of whole nodes: its walker is
+-- what the run leaves, its tests are the nodes that the run tests, and what it has noted are its reactions to the positions that the run reports.
+use mathlib.Core.Bool.{Bool, true}
 use mathlib.Core.List.{List, []}
-use mathlib.Core.Path.{_≡_, sym, ap, _∙_}
-use Prim.Native.Nat.{ℕ, _%_}
-use lib.ListN.{length}
+use mathlib.Core.Path.{_≡_, sym, ap, subst, _∙_}
+use Prim.Native.Nat.{ℕ, _%_, _<_}
+use native.Mathlib.Nat.{zero-add}
+use lib.ListN.{length, getD}
 use lib.Ieee.{Float}
 use Rattle.ray.specs.declared.Vec3.{Vec3}
+use Rattle.ray.specs.declared.Ray.{Ray}
 use Rattle.ray.specs.Ray.{rayOf, acceptedRay}
 use Rattle.record_shape.specs.Record.{nodeCount, shapeAt}
-use Rattle.walk.specs.Step.{fresh}
-use Rattle.walk.specs.Calls.{Op, Run, reported}
-use Rattle.walk.specs.Queries.{Reaction, Outcome, calls, stepsFor, append}
+use Rattle.walk.specs.Tests.{Tests}
+use Rattle.walk.specs.Step.{Walker, Answer, fresh}
+use Rattle.walk.specs.Calls.{All, Run, runOps, reported}
+use Rattle.walk.specs.Queries.{Reaction, Outcome, query, stepsFor, append, Pane, none, closest, miss}
+use Rattle.walk.specs.Reports.{testedNodes, Notes, upTo}
 use Rattle.walk.specs.Slots.{positionsOf, childrenOf, testsOf}
-use Rattle.walk.specs.WordStep.{RunWords, freshWords, decoded}
+use Rattle.walk.specs.WordStep.{RunWords, NodeWords, Decodes, decoded}
+use Rattle.walk.specs.WordQueries.{decodedOutcome}
 use Rattle.walk.proofs.Ends.{query-run, any-hit-run}
-use Rattle.walk.proofs.WordRuns.{calls-decoded}
+use Rattle.walk.proofs.Reports.{run-tests, query-notes, reports-exist, miss-reports}
+use Rattle.walk.proofs.WordRuns.{decodedRun, calls-decoded}
 use Rattle.walk.proofs.WordQueries.{fresh-query}
 use Rattle.walk.proofs.Masks.{masks-decode}
 use Rattle.walk_record.specs.Beam.{Beam, beamOf, beams}
-use Rattle.walk_record.specs.Record.{FieldsFit, slotsAt, maskAt, nodeWordsAt}
+use Rattle.walk_record.specs.Record.{slotsAt, maskAt, nodeWordsAt}
 use Rattle.walk_record.specs.Walk.{runAt, queryAt, anyHitAt}
-use Rattle.walk_record.proofs.Laws.{mask-laws}
+use Rattle.walk_record.proofs.Laws.{mask-laws, bytes-fit}
 use Rattle.walk_record.proofs.Beam.{beam-laws, begun-accepted}
+use Rattle.traverse.specs.Walker.{started}
 use Rattle.traverse.specs.Calls.{runBytes}
-use Rattle.traverse.proofs.Calls.{run-whole}
+use Rattle.traverse.proofs.Calls.{run-started}
+use Rattle.demands.specs.Runs.{callsMade, answersMade}
 
-module _ (bytes : List ℕ) (whole : length bytes % 80 ≡ 0) (fit : FieldsFit bytes) (n : ℕ) (origin direction : Vec3) (tmin tmax : Float)
-    (accepted : acceptedRay (rayOf origin direction tmin tmax) ≡ true) where
+module _ (bytes : List ℕ) (whole : length bytes % 80 ≡ 0) (are-bytes : (i : ℕ) → getD bytes i 0 < 256) (n : ℕ) (origin direction : Vec3)
+    (tmin tmax : Float) (accepted : acceptedRay (rayOf origin direction tmin tmax) ≡ true) where
+  abbrev ray : Ray
+  ray = rayOf origin direction tmin tmax
+
   abbrev beam : Beam
-  beam = beamOf (rayOf origin direction tmin tmax)
+  beam = beamOf ray
 
-  -- the steps and tellings that a query makes
-  abbrev pub callsMade : {a : Type 0} → (ℕ → Beam → a → Reaction Float a) → a → List (Op Float)
-  callsMade react x = calls (nodeCount bytes) (testsOf (slotsAt bytes beams n)) react (stepsFor (nodeCount bytes)) n (fresh beam) x
+  -- the walk in words, and the walk on the lists that these stand for
+  abbrev N : NodeWords Beam Float
+  N = nodeWordsAt bytes beams
 
-  -- After them the walker stands for what the query's walker stands for: its ray with the reach, its tests, and what is in hand and waits.
-  pub query-is-run : {a : Type 0} (react : ℕ → Beam → a → Reaction Float a) (x : a)
-      → decoded (nodeWordsAt bytes beams) (runBytes bytes (callsMade react x) (freshWords beam) .walker) ≡ decoded (nodeWordsAt bytes beams) (queryAt bytes beams react x n beam .walker)
-  unfolding queryAt runAt shapeAt
-  query-is-run react x =
-      let m = nodeCount bytes in
-      let T = testsOf (slotsAt bytes beams n) in
-      let D = masks-decode (slotsAt bytes beams n) (maskAt bytes beams) (mask-laws bytes beams beam-laws n fit) in
-      let o = begun-accepted origin direction tmin tmax accepted in
-      ap (λ (r : RunWords Beam). decoded (nodeWordsAt bytes beams) (r .walker)) (run-whole bytes whole (callsMade react x) (freshWords beam))
-      ∙ ap (λ (r : Run Beam). r .walker) (calls-decoded m (nodeWordsAt bytes beams) (positionsOf (slotsAt bytes beams n)) (childrenOf (slotsAt bytes beams n)) D (callsMade react x) beam o)
-      ∙ query-run m T react (stepsFor m) n (fresh beam) x
-      ∙ sym (ap (λ (r : Outcome Beam _). r .walker) (fresh-query m (nodeWordsAt bytes beams) (positionsOf (slotsAt bytes beams n)) (childrenOf (slotsAt bytes beams n)) D react (stepsFor m) n beam x o))
+  abbrev m : ℕ
+  m = nodeCount bytes
+
+  abbrev passed : Beam → ℕ → List ℕ
+  passed = positionsOf (slotsAt bytes beams n)
+
+  abbrev below : Beam → ℕ → List ℕ
+  below = childrenOf (slotsAt bytes beams n)
+
+  abbrev T : Tests Beam Float
+  T = testsOf (slotsAt bytes beams n)
+
+  decodes : Decodes m N passed below
+  unfolding shapeAt
+  decodes = masks-decode (slotsAt bytes beams n) (maskAt bytes beams) (mask-laws bytes beams beam-laws n (bytes-fit bytes are-bytes))
+
+  module _ {a : Type 0} (react : ℕ → Beam → a → Reaction Float a) (x : a) where
+    run-is : decodedRun m N passed below decodes (runBytes bytes (callsMade bytes n ray react x) (started ray .walker))
+        ≡ runOps m T (callsMade bytes n ray react x) (fresh beam)
+    unfolding runAt
+    run-is =
+        ap (decodedRun m N passed below decodes) (run-started bytes whole ray accepted (callsMade bytes n ray react x))
+        ∙ calls-decoded m N passed below decodes (callsMade bytes n ray react x) beam (begun-accepted origin direction tmin tmax accepted)
+
+    answers-are : answersMade bytes n ray react x ≡ runOps m T (callsMade bytes n ray react x) (fresh beam) .answers
+    answers-are = ap (λ (r : Run Beam). r .answers) run-is
+
+    outcome-is : decodedOutcome N (queryAt bytes beams react x n beam) ≡ query m T react (stepsFor m) n (fresh beam) x
+    unfolding queryAt
+    outcome-is = fresh-query m N passed below decodes react (stepsFor m) n beam x (begun-accepted origin direction tmin tmax accepted)
+
+    -- After the run the walker stands for what the query's walker stands for: its ray with the reach, its tests, and what is in hand and waits.
+    pub query-is-run : decoded N (runBytes bytes (callsMade bytes n ray react x) (started ray .walker) .walker)
+        ≡ decoded N (queryAt bytes beams react x n beam .walker)
+    query-is-run =
+        ap (λ (r : Run Beam). r .walker) run-is
+        ∙ query-run m T react (stepsFor m) n (fresh beam) x
+        ∙ sym (ap (λ (o : Outcome Beam a). o .walker) outcome-is)
+
+    -- Its tests are the nodes tested.
+    pub query-tests : queryAt bytes beams react x n beam .walker .tests ≡ length (testedNodes (answersMade bytes n ray react x))
+    query-tests =
+        ap (λ (o : Outcome Beam a). o .walker .tests) outcome-is
+        ∙ sym (ap (λ (w : Walker Beam). w .tests) (query-run m T react (stepsFor m) n (fresh beam) x))
+        ∙ run-tests m T (callsMade bytes n ray react x) (fresh beam)
+        ∙ zero-add (length (testedNodes (runOps m T (callsMade bytes n ray react x) (fresh beam) .answers)))
+        ∙ ap (λ (l : List Answer). length (testedNodes l)) (sym answers-are)
+
+    -- The positions reported are below n,
+    pub reported-exist : All (λ p. p < n) (reported (answersMade bytes n ray react x))
+    reported-exist =
+        subst (λ (l : List Answer). All (λ p. p < n) (reported l)) (sym answers-are) (reports-exist m T react (stepsFor m) n (fresh beam) x)
+
+    -- and what it has noted are its reactions to them.
+    pub query-noted : Notes m T react beam x (reported (answersMade bytes n ray react x)) (queryAt bytes beams react x n beam .noted)
+    query-noted =
+        subst (λ (l : List Answer). Notes m T react beam x (reported l) (queryAt bytes beams react x n beam .noted)) (sym answers-are)
+        (subst (Notes m T react beam x (reported (runOps m T (callsMade bytes n ray react x) (fresh beam) .answers)))
+        (sym (ap (λ (o : Outcome Beam a). o .noted) outcome-is))
+        (query-notes m T react (stepsFor m) n (fresh beam) x))
 
   -- Any-hit's list is what the run reports.
-  pub any-hit-is-run : anyHitAt bytes beams n beam .noted ≡ reported (runBytes bytes (callsMade append []) (freshWords beam) .answers)
-  unfolding anyHitAt queryAt runAt shapeAt
+  pub any-hit-is-run : anyHitAt bytes beams n beam .noted ≡ reported (answersMade bytes n ray append [])
+  unfolding anyHitAt
   any-hit-is-run =
-      let m = nodeCount bytes in
-      let T = testsOf (slotsAt bytes beams n) in
-      let D = masks-decode (slotsAt bytes beams n) (maskAt bytes beams) (mask-laws bytes beams beam-laws n fit) in
-      let o = begun-accepted origin direction tmin tmax accepted in
-      ap (λ (r : Outcome Beam (List ℕ)). r .noted) (fresh-query m (nodeWordsAt bytes beams) (positionsOf (slotsAt bytes beams n)) (childrenOf (slotsAt bytes beams n)) D append (stepsFor m) n beam [] o)
+      ap (λ (o : Outcome Beam (List ℕ)). o .noted) (outcome-is append [])
       ∙ any-hit-run m T (stepsFor m) n (fresh beam) []
-      ∙ sym (ap (λ (r : Run Beam). reported (r .answers)) (calls-decoded m (nodeWordsAt bytes beams) (positionsOf (slotsAt bytes beams n)) (childrenOf (slotsAt bytes beams n)) D (callsMade append []) beam o))
-      ∙ sym (ap (λ (r : RunWords Beam). reported (r .answers)) (run-whole bytes whole (callsMade append []) (freshWords beam)))
+      ∙ ap reported (sym (answers-are append []))
+
+  -- Miss reports what closest does, up to the first position that stops it.
+  pub miss-closest : (pane : ℕ → Beam → Pane Float) (nearer : Float → Beam → Bool)
+      → reported (answersMade bytes n ray (miss pane nearer) none)
+      ≡ upTo (λ p. miss pane nearer p beam none .stop) (reported (answersMade bytes n ray (closest pane nearer) none))
+  miss-closest pane nearer =
+      ap reported (answers-are (miss pane nearer) none)
+      ∙ miss-reports m T pane nearer (stepsFor m) n (fresh beam) none
+      ∙ ap (λ (l : List Answer). upTo (λ p. miss pane nearer p beam none .stop) (reported l)) (sym (answers-are (closest pane nearer) none))

@@ -1,5 +1,5 @@
--- Closest and miss over every sound record, for every accepted ray and panes without a fault: neither is refused; a hit is the nearest of the positions
--- reported, the first met of equal ones; and miss is blocked exactly if closest has a hit.
+-- Closest and miss over every sound record, for every accepted ray and panes without a fault: neither is refused; a hit is the nearest of the
+-- positions reported, the first met of equal ones; and miss is blocked exactly if closest has a hit.
 use mathlib.Core.Bool.{true}
 use mathlib.Core.List.{List, List·Nodup}
 use mathlib.Core.Logic.{_⊎_, inl, inr, _↔_}
@@ -17,31 +17,32 @@ use Rattle.record_shape.specs.Record.{nodeCount}
 use Rattle.walk.specs.Tests.{Tests}
 use Rattle.walk.specs.Step as S
 use Rattle.walk.specs.Calls.{All, reported}
-use Rattle.walk.specs.Queries.{Reaction, Found, none, hit, distance, closest, miss, Ended}
-use Rattle.walk.specs.Reports.{testedNodes, upTo, NoneBelow, Nearest, Blocks}
+use Rattle.walk.specs.Queries.{Reaction, Found, none, distance, closest, miss, Ended}
+use Rattle.walk.specs.Reports.{testedNodes, upTo, NoneBelow, Nearest}
 use Rattle.walk.specs.Slots.{testsOf}
 use Rattle.walk.specs.WordQueries.{OutcomeWords}
 use Rattle.walk.proofs.Nearest.{all-map, up-to-none, nearest-below, blocks-below, one-nearest}
 use Rattle.walk.proofs.Noted.{Seen, Picks, kept, nearest, closest-picks, Stops, miss-stops, stops-below}
 use Rattle.walk.proofs.Noted as N
 use Rattle.walk_record.specs.Beam.{Beam, beamOf, beams}
-use Rattle.walk_record.specs.Record.{FieldsFit, slotsAt}
+use Rattle.walk_record.specs.Record.{slotsAt}
 use Rattle.walk_record.specs.Walk.{queryAt}
-use Rattle.walk_record.proofs.Beam.{beam-laws, begun-accepted}
-use Rattle.walk_record.proofs.Demands.{calls-report-once}
 use Rattle.query.proofs.Entry.{entry-none}
-use Rattle.closest.specs.Panes.{paneMet, paneOf, nearer, Result, ClosestAnswer, hitAt, noHit, refusedClosest, MissAnswer, missed, blocked, refusedMiss}
-use Rattle.closest.specs.Panes.{closestFound, missFound, walked, entered, paneCause, closestWalk, missWalk, closestOf, missOf}
+use Rattle.closest.specs.Panes.{paneMet, paneOf, nearer, Result, walked, entered, paneCause}
+use Rattle.closest.specs.Panes.{ClosestAnswer, hitAt, noHit, refusedClosest, closestFound, closestWalk, closestOf}
+use Rattle.closest.specs.Panes.{MissAnswer, missed, blocked, refusedMiss, missFound, missWalk, missOf}
 use Rattle.closest.proofs.Distances.{Number, distances-ordered, distance-number, met-there, panes-reached}
-use Rattle.demands.specs.Panes.{Panes, callsOf, answersOf, distanceOf, closestSteps, missSteps, closestReports, missReports, ClosestAnswers, MissAnswers}
-use Rattle.demands.proofs.Reports.{answers-at, query-noted, query-exist, query-tests, miss-closest}
+use Rattle.demands.specs.Runs.{callsMade, answersMade}
+use Rattle.demands.specs.Panes.{Panes, distanceOf, closestSteps, missSteps, closestReports, missReports, ClosestAnswers, MissAnswers}
 use Rattle.demands.proofs.Sound.{Good}
-use Rattle.demands.proofs.SoundWalks.{query-not-refused}
+use Rattle.demands.proofs.SoundWalks.{no-position-twice, query-not-refused}
+use Rattle.demands.proofs.Runs.{query-tests, reported-exist, query-noted, miss-closest}
+
+-- ---- answers
 
 -- a walk that was not refused gives what it has found
 found-at-end : {A : Type 0} (refuse : ℕ → A) (found : Found Float → ℕ → Result A) (cause : ℕ) (o : OutcomeWords Beam (Found Float)) (b : S.Answer)
-    → 0 ≡ cause → Ended b
-    → entered refuse cause (walked refuse found o b) ≡ found (o .noted) (o .walker .tests)
+    → 0 ≡ cause → Ended b → entered refuse cause (walked refuse found o b) ≡ found (o .noted) (o .walker .tests)
 unfolding entered walked
 found-at-end refuse found zero o (S.tested v) e h = absurd h
 found-at-end refuse found zero o (S.position p) e h = refl
@@ -50,104 +51,116 @@ found-at-end refuse found zero o (S.refused k) e h = absurd h
 found-at-end refuse found (suc c) o b e h = absurd (omega arith)
 
 -- answers of two kinds are not one
-no-hit-apart : {A : Type 0} (p : ℕ) (t : Float) → noHit ≡ hitAt p t → A
-no-hit-apart p t e = let z : _≡_ {A = ℕ} 0 1 = cc in absurd (omega arith)
+hits-apart : {A : Type 0} (p : ℕ) (t : Float) → noHit ≡ hitAt p t → A
+hits-apart p t e = let z : _≡_ {A = ℕ} 0 1 = cc in absurd (omega arith)
 
-blocked-apart : {A : Type 0} → missed ≡ blocked → A
-blocked-apart e = let z : _≡_ {A = ℕ} 0 1 = cc in absurd (omega arith)
+blocks-apart : {A : Type 0} → missed ≡ blocked → A
+blocks-apart e = let z : _≡_ {A = ℕ} 0 1 = cc in absurd (omega arith)
 
--- of two equal hits what holds of one holds of the other
+-- what holds of a hit's position holds of an equal hit's
 same-hit : (far : ℕ → Float) (P : ℕ → Type 0) (p q : ℕ) (t : Float) → P p → hitAt p (far p) ≡ hitAt q t → (t ≡ far q) × P q
 same-hit far P p q t h e =
     let same : p ≡ q = cc in
     let at : far p ≡ t = cc in
     (sym at ∙ ap far same, subst P same h)
 
-has-hit : {A B : Type 0} → (A → ⊥) → A ⊎ B → B
-has-hit n (inl a) = absurd (n a)
-has-hit n (inr b) = b
+other : {A B : Type 0} → (A → ⊥) → A ⊎ B → B
+other n (inl a) = absurd (n a)
+other n (inr b) = b
 
-module _ (bytes indices : List ℕ) (panes : List Float) (d : ℕ) (good : Good bytes (length indices) d) (fit : FieldsFit bytes) (fine : Panes indices panes)
+module _ (bytes indices : List ℕ) (panes : List Float) (d : ℕ) (good : Good bytes (length indices) d) (fine : Panes indices panes)
     (origin direction : Vec3) (tmin tmax : Float) (accepted : acceptedRay (rayOf origin direction tmin tmax) ≡ true) where
+  abbrev n : ℕ
+  n = length indices
+
   abbrev ray : Ray
   ray = rayOf origin direction tmin tmax
 
   abbrev far : ℕ → Float
-  far = distanceOf bytes indices panes ray
+  far = distanceOf indices panes ray
 
   abbrev T : Tests Beam Float
-  T = testsOf (slotsAt bytes beams (length indices))
+  T = testsOf (slotsAt bytes beams n)
 
-  -- the two walks
-  abbrev near : ℕ → Beam → Found Float → Reaction Float (Found Float)
+  -- the reactions of the two queries
+  abbrev React : Type 0
+  React = ℕ → Beam → Found Float → Reaction Float (Found Float)
+
+  abbrev near : React
   near = closest (paneOf indices panes) nearer
 
-  abbrev block : ℕ → Beam → Found Float → Reaction Float (Found Float)
+  abbrev block : React
   block = miss (paneOf indices panes) nearer
 
-  -- ---- what they report, and find
+  -- ---- either query
 
+  -- nothing refuses it
   no-cause : 0 ≡ paneCause bytes indices panes ray
   no-cause =
-      entry-none (eqb (length panes % 6) 0) (length bytes) (length indices) ray (eq-eqb (length panes % 6) 0 (fine .whole)) (good .layout) (good .positions) (good .nodes) accepted
+      entry-none (eqb (length panes % 6) 0) (length bytes) n ray (eq-eqb (length panes % 6) 0 (fine .whole)) (good .layout)
+      (good .positions) (good .nodes) accepted
 
-  not-refused : (react : ℕ → Beam → Found Float → Reaction Float (Found Float))
-      → Ended (queryAt bytes beams react none (length indices) (beamOf ray) .ended)
-  not-refused react = query-not-refused bytes (length indices) d good fit origin direction tmin tmax accepted react none
+  not-refused : (react : React) → Ended (queryAt bytes beams react none n (beamOf ray) .ended)
+  not-refused react = query-not-refused bytes n d good origin direction tmin tmax accepted react none
 
-  once : (react : ℕ → Beam → Found Float → Reaction Float (Found Float)) → List·Nodup (reported (answersOf bytes (length indices) ray react none))
-  once react =
-      subst (λ (l : List S.Answer). List·Nodup (reported l)) (sym (answers-at bytes (good .layout) fit (length indices) origin direction tmin tmax accepted react none))
-      (calls-report-once bytes beams beam-laws fit (length indices) (good .sound) (beamOf ray) (begun-accepted origin direction tmin tmax accepted) (callsOf bytes (length indices) ray react none))
-
-  seen : (p : ℕ) → p < length indices → Seen (paneOf indices panes) Number far (beamOf ray) p
+  -- each position reported has a pane at its distance
+  seen : (p : ℕ) → p < n → Seen (paneOf indices panes) Number far (beamOf ray) p
   unfolding paneOf
-  seen p h = record {
-    pane-is = met-there indices panes (getD indices p 0) ray (fine .named p h) (fine .accepted (getD indices p 0) (fine .named p h));
-    number = distance-number _ origin direction tmin tmax (fine .accepted (getD indices p 0) (fine .named p h)) accepted;
-  }
+  seen p h =
+      let there = fine .named p h in
+      let box = fine .accepted (getD indices p 0) there in
+      record {
+        pane-is = met-there indices panes (getD indices p 0) ray there box;
+        number = distance-number _ origin direction tmin tmax box accepted;
+      }
 
-  all-seen : (react : ℕ → Beam → Found Float → Reaction Float (Found Float))
-      → All (Seen (paneOf indices panes) Number far (beamOf ray)) (reported (answersOf bytes (length indices) ray react none))
+  all-seen : (react : React) → All (Seen (paneOf indices panes) Number far (beamOf ray)) (reported (answersMade bytes n ray react none))
   all-seen react =
-      all-map seen (reported (answersOf bytes (length indices) ray react none)) (query-exist bytes (good .layout) fit (length indices) origin direction tmin tmax accepted react none)
+      all-map seen (reported (answersMade bytes n ray react none))
+      (reported-exist bytes (good .layout) (good .are-bytes) n origin direction tmin tmax accepted react none)
 
   -- ---- closest
 
-  closest-is : closestOf bytes indices panes ray ≡ closestFound (closestWalk bytes indices panes ray .noted) (closestWalk bytes indices panes ray .walker .tests)
+  closest-is : closestOf bytes indices panes ray
+      ≡ closestFound (closestWalk bytes indices panes ray .noted) (closestWalk bytes indices panes ray .walker .tests)
   unfolding closestOf closestWalk
-  closest-is = found-at-end refusedClosest closestFound (paneCause bytes indices panes ray) (closestWalk bytes indices panes ray)
+  closest-is =
+      found-at-end refusedClosest closestFound (paneCause bytes indices panes ray) (closestWalk bytes indices panes ray)
       (closestWalk bytes indices panes ray .ended) no-cause (not-refused near)
 
   closest-picked : Picks lt far (ray .tmax) none (closestWalk bytes indices panes ray .noted) (closestReports bytes indices panes ray)
   unfolding closestWalk
   closest-picked =
-      closest-picks (nodeCount bytes) T (paneOf indices panes) nearer lt (λ b. b .ray .tmax) (panes-reached indices panes) Number distances-ordered far
-      (closestReports bytes indices panes ray) (beamOf ray) none _ (all-seen near)
-      (query-noted bytes (good .layout) fit (length indices) origin direction tmin tmax accepted near none)
+      closest-picks (nodeCount bytes) T (paneOf indices panes) nearer lt (λ b. b .ray .tmax) (panes-reached indices panes) Number distances-ordered
+      far (closestReports bytes indices panes ray) (beamOf ray) none _ (all-seen near)
+      (query-noted bytes (good .layout) (good .are-bytes) n origin direction tmin tmax accepted near none)
 
   closest-tests : closestWalk bytes indices panes ray .walker .tests ≡ length (testedNodes (closestSteps bytes indices panes ray))
   unfolding closestWalk
-  closest-tests = query-tests bytes (good .layout) fit (length indices) origin direction tmin tmax accepted near none
+  closest-tests = query-tests bytes (good .layout) (good .are-bytes) n origin direction tmin tmax accepted near none
+
+  once : List·Nodup (closestReports bytes indices panes ray)
+  once = no-position-twice bytes n d good origin direction tmin tmax accepted (callsMade bytes n ray near none)
 
   met : All (λ p. paneMet panes (getD indices p 0) ray ≡ distance (far p)) (closestReports bytes indices panes ray)
   unfolding paneOf
   met = all-map (λ p h. h .pane-is) (closestReports bytes indices panes ray) (all-seen near)
 
+  -- It is not refused. It hits the nearest of the positions reported that is below the reach, the first met of equal ones; without one it has no hit.
   pub closest-answers : ClosestAnswers bytes indices panes ray
   unfolding closestFound
-  closest-answers = go (closestWalk bytes indices panes ray .noted) (closestWalk bytes indices panes ray .walker .tests) closest-is closest-picked closest-tests
+  closest-answers = go _ _ closest-is closest-picked closest-tests
     where
       go : (y : Found Float) (k : ℕ) → closestOf bytes indices panes ray ≡ closestFound y k
-          → Picks lt far (ray .tmax) none y (closestReports bytes indices panes ray)
-          → k ≡ length (testedNodes (closestSteps bytes indices panes ray)) → ClosestAnswers bytes indices panes ray
+          → Picks lt far (ray .tmax) none y (closestReports bytes indices panes ray) → k ≡ length (testedNodes (closestSteps bytes indices panes ray))
+          → ClosestAnswers bytes indices panes ray
       go y k e (kept f h) t =
           let c = e ∙ ap (λ (z : Found Float). closestFound z k) f in
           let a : closestOf bytes indices panes ray .answer ≡ noHit = ap (λ (r : Result ClosestAnswer). r .answer) c in record {
             answers = inl a;
-            hit = λ p u. (λ q. no-hit-apart p u (sym a ∙ q), λ q. absurd (nearest-below lt far (ray .tmax) _ p (q .1) h));
+            hit = λ p u. (λ q. hits-apart p u (sym a ∙ q), λ q. absurd (nearest-below lt far (ray .tmax) _ p (q .1) h));
             no-hit = (λ _. h, λ _. a);
-            once = once near;
+            once = once;
             met = met;
             tests = ap (λ (r : Result ClosestAnswer). r .tests) c ∙ t;
           }
@@ -156,11 +169,11 @@ module _ (bytes indices : List ℕ) (panes : List Float) (d : ℕ) (good : Good 
           let a : closestOf bytes indices panes ray .answer ≡ hitAt p (far p) = ap (λ (r : Result ClosestAnswer). r .answer) c in record {
             answers = inr (p, far p, a);
             hit = λ q u. (
-              λ r. same-hit far (λ z. Nearest lt far (ray .tmax) (closestReports bytes indices panes ray) z) p q u N (sym a ∙ r),
+              λ r. same-hit far (Nearest lt far (ray .tmax) (closestReports bytes indices panes ray)) p q u N (sym a ∙ r),
               λ r. a ∙ ap (λ (z : ℕ). hitAt z (far z)) (one-nearest lt far (ray .tmax) _ p q N (r .1)) ∙ ap (hitAt q) (sym (r .0)),
             );
-            no-hit = (λ r. no-hit-apart p (far p) (sym r ∙ a), λ h. absurd (nearest-below lt far (ray .tmax) _ p N h));
-            once = once near;
+            no-hit = (λ r. hits-apart p (far p) (sym r ∙ a), λ h. absurd (nearest-below lt far (ray .tmax) _ p N h));
+            once = once;
             met = met;
             tests = ap (λ (r : Result ClosestAnswer). r .tests) c ∙ t;
           }
@@ -170,24 +183,25 @@ module _ (bytes indices : List ℕ) (panes : List Float) (d : ℕ) (good : Good 
   miss-is : missOf bytes indices panes ray ≡ missFound (missWalk bytes indices panes ray .noted) (missWalk bytes indices panes ray .walker .tests)
   unfolding missOf missWalk
   miss-is =
-      found-at-end refusedMiss missFound (paneCause bytes indices panes ray) (missWalk bytes indices panes ray) (missWalk bytes indices panes ray .ended) no-cause (not-refused block)
+      found-at-end refusedMiss missFound (paneCause bytes indices panes ray) (missWalk bytes indices panes ray)
+      (missWalk bytes indices panes ray .ended) no-cause (not-refused block)
 
   miss-stopped : Stops lt far (ray .tmax) none (missWalk bytes indices panes ray .noted) (missReports bytes indices panes ray)
   unfolding missWalk
   miss-stopped =
-      miss-stops (nodeCount bytes) T (paneOf indices panes) nearer lt (λ b. b .ray .tmax) (panes-reached indices panes) Number distances-ordered far
-      (missReports bytes indices panes ray) (beamOf ray) none _ (all-seen block)
-      (query-noted bytes (good .layout) fit (length indices) origin direction tmin tmax accepted block none)
+      miss-stops (nodeCount bytes) T (paneOf indices panes) nearer lt (λ b. b .ray .tmax) (panes-reached indices panes) Number distances-ordered
+      far (missReports bytes indices panes ray) (beamOf ray) none _ (all-seen block)
+      (query-noted bytes (good .layout) (good .are-bytes) n origin direction tmin tmax accepted block none)
 
   miss-tests : missWalk bytes indices panes ray .walker .tests ≡ length (testedNodes (missSteps bytes indices panes ray))
   unfolding missWalk
-  miss-tests = query-tests bytes (good .layout) fit (length indices) origin direction tmin tmax accepted block none
+  miss-tests = query-tests bytes (good .layout) (good .are-bytes) n origin direction tmin tmax accepted block none
 
   as-closest : missReports bytes indices panes ray ≡ upTo (λ p. lt (far p) (ray .tmax)) (closestReports bytes indices panes ray)
   as-closest =
-      miss-closest bytes (good .layout) fit (length indices) origin direction tmin tmax accepted (paneOf indices panes) nearer
-      ∙ stops-below (nodeCount bytes) T (paneOf indices panes) nearer lt (λ b. b .ray .tmax) (panes-reached indices panes) Number distances-ordered far
-      (closestReports bytes indices panes ray) (beamOf ray) (all-seen near)
+      miss-closest bytes (good .layout) (good .are-bytes) n origin direction tmin tmax accepted (paneOf indices panes) nearer
+      ∙ stops-below (nodeCount bytes) T (paneOf indices panes) nearer lt (λ b. b .ray .tmax) (panes-reached indices panes) Number distances-ordered
+      far (closestReports bytes indices panes ray) (beamOf ray) (all-seen near)
 
   -- no position that miss reports is below the reach exactly if closest has no hit
   none-reported : NoneBelow lt far (ray .tmax) (missReports bytes indices panes ray) ↔ closestOf bytes indices panes ray .answer ≡ noHit
@@ -198,34 +212,35 @@ module _ (bytes indices : List ℕ) (panes : List Float) (d : ℕ) (good : Good 
         λ h. subst (NoneBelow lt far (ray .tmax)) (sym as-closest) (u .1 (c .0 h)),
       )
 
+  -- It is not refused. It is blocked by the first position reported that is below the reach, and so exactly if closest has a hit.
   pub miss-answers : MissAnswers bytes indices panes ray
   unfolding missFound
-  miss-answers = go (missWalk bytes indices panes ray .noted) (missWalk bytes indices panes ray .walker .tests) miss-is miss-stopped miss-tests
+  miss-answers = go _ _ miss-is miss-stopped miss-tests
     where
       go : (y : Found Float) (k : ℕ) → missOf bytes indices panes ray ≡ missFound y k
-          → Stops lt far (ray .tmax) none y (missReports bytes indices panes ray)
-          → k ≡ length (testedNodes (missSteps bytes indices panes ray)) → MissAnswers bytes indices panes ray
+          → Stops lt far (ray .tmax) none y (missReports bytes indices panes ray) → k ≡ length (testedNodes (missSteps bytes indices panes ray))
+          → MissAnswers bytes indices panes ray
       go y k e (N.missed f h) t =
           let c = e ∙ ap (λ (z : Found Float). missFound z k) f in
           let a : missOf bytes indices panes ray .answer ≡ missed = ap (λ (r : Result MissAnswer). r .answer) c in record {
             answers = inl a;
-            blocked-iff = (λ q. blocked-apart (sym a ∙ q), λ q. absurd (blocks-below lt far (ray .tmax) _ (q .0) (q .1) h));
+            blocked-iff = (λ q. blocks-apart (sym a ∙ q), λ q. absurd (blocks-below lt far (ray .tmax) _ (q .0) (q .1) h));
             missed-iff = (λ _. h, λ _. a);
             as-closest = as-closest;
             missed-no-hit = (λ _. none-reported .0 h, λ _. a);
-            blocked-hit = (λ q. blocked-apart (sym a ∙ q), λ q. no-hit-apart (q .0) (q .1) (sym (none-reported .0 h) ∙ q .2));
+            blocked-hit = (λ q. blocks-apart (sym a ∙ q), λ q. hits-apart (q .0) (q .1) (sym (none-reported .0 h) ∙ q .2));
             tests = ap (λ (r : Result MissAnswer). r .tests) c ∙ t;
           }
       go y k e (N.blocked p f B) t =
           let c = e ∙ ap (λ (z : Found Float). missFound z k) f in
           let a : missOf bytes indices panes ray .answer ≡ blocked = ap (λ (r : Result MissAnswer). r .answer) c in
-          let none-not : closestOf bytes indices panes ray .answer ≡ noHit
-          → ⊥ = λ q. blocks-below lt far (ray .tmax) _ p B (none-reported .1 q) in record {
+          let hits : closestOf bytes indices panes ray .answer ≡ noHit → ⊥ = λ q. blocks-below lt far (ray .tmax) _ p B (none-reported .1 q) in
+          record {
             answers = inr a;
             blocked-iff = (λ _. (p, B), λ _. a);
-            missed-iff = (λ q. blocked-apart (sym q ∙ a), λ h. absurd (blocks-below lt far (ray .tmax) _ p B h));
+            missed-iff = (λ q. blocks-apart (sym q ∙ a), λ h. absurd (blocks-below lt far (ray .tmax) _ p B h));
             as-closest = as-closest;
-            missed-no-hit = (λ q. blocked-apart (sym q ∙ a), λ q. absurd (none-not q));
-            blocked-hit = (λ _. has-hit none-not (closest-answers .answers), λ _. a);
+            missed-no-hit = (λ q. blocks-apart (sym q ∙ a), λ q. absurd (hits q));
+            blocked-hit = (λ _. other hits (closest-answers .answers), λ _. a);
             tests = ap (λ (r : Result MissAnswer). r .tests) c ∙ t;
           }

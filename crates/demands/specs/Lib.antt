@@ -1,4 +1,5 @@
 pub mod Call
 pub mod Children
 pub mod Refusals
+pub mod Runs
 pub mod Panes

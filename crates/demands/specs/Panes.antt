@@ -9,17 +9,12 @@ use lib.Ieee.{Float, lt}
 use lib.ListN.{length, getD}
 use Rattle.ray.specs.declared.Ray.{Ray}
 use Rattle.aabb.specs.Aabb.{acceptedBox, entryDistance}
-use Rattle.record_shape.specs.Record.{nodeCount}
-use Rattle.walk.specs.Step.{Answer, fresh}
-use Rattle.walk.specs.Calls.{All, Op, reported}
-use Rattle.walk.specs.Queries.{Reaction, distance, Found, none, closest, miss, calls, stepsFor}
+use Rattle.walk.specs.Step.{Answer}
+use Rattle.walk.specs.Calls.{All, reported}
+use Rattle.walk.specs.Queries.{distance, none, closest, miss}
 use Rattle.walk.specs.Reports.{testedNodes, upTo, NoneBelow, Nearest, Blocks}
-use Rattle.walk.specs.Slots.{testsOf}
-use Rattle.walk_record.specs.Beam.{Beam, beamOf, beams}
-use Rattle.walk_record.specs.Record.{slotsAt}
-use Rattle.traverse.specs.Walker.{started}
-use Rattle.traverse.specs.Calls.{runBytes}
 use Rattle.closest.specs.Panes.{paneBox, paneMet, paneOf, nearer, hitAt, noHit, missed, blocked, closestOf, missOf}
+use Rattle.demands.specs.Runs.{answersMade}
 
 -- Panes of six floats each, every one with an accepted box, and every index word the number of one.
 pub record Panes (indices : List ℕ) (panes : List Float) : Type 0 where
@@ -27,25 +22,17 @@ pub record Panes (indices : List ℕ) (panes : List Float) : Type 0 where
   pub accepted : (k : ℕ) → k < length panes / 6 → acceptedBox (paneBox panes k) ≡ true
   pub named : (p : ℕ) → p < length indices → getD indices p 0 < length panes / 6
 
--- The steps and tellings that a query makes, and the answers of those steps where they are called on a record's bytes, from a walker that begins.
-module _ (bytes : List ℕ) (n : ℕ) (ray : Ray) {a : Type 0} (react : ℕ → Beam → a → Reaction Float a) (x : a) where
-  abbrev pub callsOf : List (Op Float)
-  callsOf = calls (nodeCount bytes) (testsOf (slotsAt bytes beams n)) react (stepsFor (nodeCount bytes)) n (fresh (beamOf ray)) x
-
-  abbrev pub answersOf : List Answer
-  answersOf = runBytes bytes callsOf (started ray .walker) .answers
+-- the distance at which a ray enters a position's pane
+abbrev pub distanceOf : List ℕ → List Float → Ray → ℕ → Float
+distanceOf indices panes ray p = entryDistance (paneBox panes (getD indices p 0)) ray
 
 module _ (bytes indices : List ℕ) (panes : List Float) (ray : Ray) where
-  -- the distance at which the ray enters a position's pane
-  abbrev pub distanceOf : ℕ → Float
-  distanceOf p = entryDistance (paneBox panes (getD indices p 0)) ray
-
   -- the answers of the steps that closest and miss make, and the positions that these report, in order
   abbrev pub closestSteps : List Answer
-  closestSteps = answersOf bytes (length indices) ray (closest (paneOf indices panes) nearer) none
+  closestSteps = answersMade bytes (length indices) ray (closest (paneOf indices panes) nearer) none
 
   abbrev pub missSteps : List Answer
-  missSteps = answersOf bytes (length indices) ray (miss (paneOf indices panes) nearer) none
+  missSteps = answersMade bytes (length indices) ray (miss (paneOf indices panes) nearer) none
 
   abbrev pub closestReports : List ℕ
   closestReports = reported closestSteps
@@ -53,31 +40,37 @@ module _ (bytes indices : List ℕ) (panes : List Float) (ray : Ray) where
   abbrev pub missReports : List ℕ
   missReports = reported missSteps
 
+  -- the distances of these positions
+  abbrev far : ℕ → Float
+  far = distanceOf indices panes ray
+
+  -- what closest answers
   pub record ClosestAnswers : Type 0 where
     -- no refusal
     pub answers : (closestOf bytes indices panes ray .answer ≡ noHit)
         ⊎ ((p : ℕ) × (t : Float) × (closestOf bytes indices panes ray .answer ≡ hitAt p t))
     -- A hit is the nearest position reported, the first met of equal ones, at its pane's distance, and that is below the reach.
     pub hit : (p : ℕ) (t : Float)
-        → closestOf bytes indices panes ray .answer ≡ hitAt p t ↔ (t ≡ distanceOf p) × Nearest lt distanceOf (ray .tmax) closestReports p
+        → closestOf bytes indices panes ray .answer ≡ hitAt p t ↔ (t ≡ far p) × Nearest lt far (ray .tmax) closestReports p
     -- No hit: no position reported is below the reach.
-    pub no-hit : closestOf bytes indices panes ray .answer ≡ noHit ↔ NoneBelow lt distanceOf (ray .tmax) closestReports
-    -- No position is reported twice, and each has a pane, met at that distance.
+    pub no-hit : closestOf bytes indices panes ray .answer ≡ noHit ↔ NoneBelow lt far (ray .tmax) closestReports
+    -- No position is reported twice, and each has a pane, met at its distance.
     pub once : List·Nodup closestReports
-    pub met : All (λ p. paneMet panes (getD indices p 0) ray ≡ distance (distanceOf p)) closestReports
+    pub met : All (λ p. paneMet panes (getD indices p 0) ray ≡ distance (far p)) closestReports
     -- its tests are the nodes tested
     pub tests : closestOf bytes indices panes ray .tests ≡ length (testedNodes closestSteps)
 
+  -- what miss answers
   pub record MissAnswers : Type 0 where
     -- no refusal
     pub answers : (missOf bytes indices panes ray .answer ≡ missed) ⊎ (missOf bytes indices panes ray .answer ≡ blocked)
     -- Blocked: the last position reported is below the reach, and none before it.
-    pub blocked-iff : missOf bytes indices panes ray .answer ≡ blocked ↔ ((p : ℕ) × Blocks lt distanceOf (ray .tmax) missReports p)
+    pub blocked-iff : missOf bytes indices panes ray .answer ≡ blocked ↔ ((p : ℕ) × Blocks lt far (ray .tmax) missReports p)
     -- Missed: none is.
-    pub missed-iff : missOf bytes indices panes ray .answer ≡ missed ↔ NoneBelow lt distanceOf (ray .tmax) missReports
+    pub missed-iff : missOf bytes indices panes ray .answer ≡ missed ↔ NoneBelow lt far (ray .tmax) missReports
     -- It reports what closest does, up to the first below the reach. So it misses exactly if closest has no hit, and
     -- is blocked exactly if closest has one.
-    pub as-closest : missReports ≡ upTo (λ p. lt (distanceOf p) (ray .tmax)) closestReports
+    pub as-closest : missReports ≡ upTo (λ p. lt (far p) (ray .tmax)) closestReports
     pub missed-no-hit : missOf bytes indices panes ray .answer ≡ missed ↔ closestOf bytes indices panes ray .answer ≡ noHit
     pub blocked-hit : missOf bytes indices panes ray .answer ≡ blocked
         ↔ ((p : ℕ) × (t : Float) × (closestOf bytes indices panes ray .answer ≡ hitAt p t))

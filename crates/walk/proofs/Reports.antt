@@ -19,7 +19,7 @@ module _ {s d : Type 0} (m : ℕ) (T : Tests s d) where
   step-ray : (n : ℕ) (w : Walker s) → stepOf m T n w .walker .ray ≡ w .ray
   step-ray n w =
       step-cases m T n w (λ (r : Stepped s). r .walker .ray ≡ w .ray)
-      (record { refuses = λ e c. refl; ends = λ f o. refl; reports = λ p ps h. refl; visits = λ c r st h. refl })
+      (record { refuses = λ e c. refl; ends = λ f e. refl; empties = λ f z o. refl; reports = λ p ps h. refl; visits = λ c r st h. refl })
 
   -- and reports positions that exist
   abbrev Exists : ℕ → Answer → Type 0
@@ -31,13 +31,19 @@ module _ {s d : Type 0} (m : ℕ) (T : Tests s d) where
   step-exists : (n : ℕ) (w : Walker s) → Exists n (stepOf m T n w .answer)
   step-exists n w =
       step-cases m T n w (λ (r : Stepped s). Exists n (r .answer))
-      (record { refuses = λ e c. tt; ends = λ f o. tt; reports = λ p ps h. h .below; visits = λ c r st h. tt })
+      (record { refuses = λ e c. tt; ends = λ f e. tt; empties = λ f z o. tt; reports = λ p ps h. h .below; visits = λ c r st h. tt })
 
   -- the tests that a walker counts are the nodes that its calls tested
   step-tests : (n : ℕ) (w : Walker s) → stepOf m T n w .walker .tests ≡ w .tests + length (testOf (stepOf m T n w .answer))
   step-tests n w =
       step-cases m T n w (λ (r : Stepped s). r .walker .tests ≡ w .tests + length (testOf (r .answer)))
-      (record { refuses = λ e c. omega arith; ends = λ f o. omega arith; reports = λ p ps h. omega arith; visits = λ c r st h. omega arith })
+      (record {
+        refuses = λ e c. omega arith;
+        ends = λ f e. omega arith;
+        empties = λ f z o. omega arith;
+        reports = λ p ps h. omega arith;
+        visits = λ c r st h. omega arith;
+      })
 
   pub run-tests : (l : List (Op d)) (w : Walker s) → runOps m T l w .walker .tests ≡ w .tests + length (testedNodes (runOps m T l w .answers))
   unfolding runOps
