@@ -21,7 +21,8 @@ use Rattle.walk.specs.Queries.{Reaction, Found, none, distance, closest, miss, 
 use Rattle.walk.specs.Reports.{testedNodes, upTo, NoneBelow, Nearest}
 use Rattle.walk.specs.Slots.{testsOf}
 use Rattle.walk.specs.WordQueries.{OutcomeWords}
-use Rattle.walk.proofs.Nearest.{all-map, up-to-none, nearest-below, blocks-below, one-nearest}
+use Rattle.walk.proofs.Lists.{all-map}
+use Rattle.walk.proofs.Nearest.{up-to-none, nearest-below, blocks-below, one-nearest}
 use Rattle.walk.proofs.Noted.{Seen, Picks, kept, nearest, closest-picks, Stops, miss-stops, stops-below}
 use Rattle.walk.proofs.Noted as N
 use Rattle.walk_record.specs.Beam.{Beam, beamOf, beams}
@@ -35,7 +36,7 @@ use Rattle.closest.proofs.Distances.{Number, distances-ordered, distance-number
 use Rattle.demands.specs.Runs.{callsMade, answersMade}
 use Rattle.demands.specs.Panes.{Panes, distanceOf, closestSteps, missSteps, closestReports, missReports, ClosestAnswers, MissAnswers}
 use Rattle.demands.proofs.Sound.{Good}
-use Rattle.demands.proofs.SoundWalks.{no-position-twice, query-not-refused}
+use Rattle.demands.proofs.SoundWalks.{no-position-twice, only-passed, query-not-refused}
 use Rattle.demands.proofs.Runs.{query-tests, reported-exist, query-noted, miss-closest}
 
 -- ---- answers
@@ -161,6 +162,7 @@ module _ (bytes indices : List ℕ) (panes : List Float) (d : ℕ) (good : Good 
             hit = λ p u. (λ q. hits-apart p u (sym a ∙ q), λ q. absurd (nearest-below lt far (ray .tmax) _ p (q .1) h));
             no-hit = (λ _. h, λ _. a);
             once = once;
+            passed = only-passed bytes n d good origin direction tmin tmax accepted (callsMade bytes n ray near none);
             met = met;
             tests = ap (λ (r : Result ClosestAnswer). r .tests) c ∙ t;
           }
@@ -174,6 +176,7 @@ module _ (bytes indices : List ℕ) (panes : List Float) (d : ℕ) (good : Good 
             );
             no-hit = (λ r. hits-apart p (far p) (sym r ∙ a), λ h. absurd (nearest-below lt far (ray .tmax) _ p N h));
             once = once;
+            passed = only-passed bytes n d good origin direction tmin tmax accepted (callsMade bytes n ray near none);
             met = met;
             tests = ap (λ (r : Result ClosestAnswer). r .tests) c ∙ t;
           }

@@ -1,5 +1,6 @@
--- Walks over every sound record, for every accepted ray: whatever is called and told, no position is reported twice; no step and no query is refused
--- by the walk; and any-hit lists exactly the positions that the ray passes, once each, after as many tests as nodes are reached.
+-- Walks over every sound record, for every accepted ray: whatever is called and told, no position is reported twice, and none that the ray does not
+-- pass; no step and no query is refused by the walk; and any-hit lists exactly the positions that the ray passes, once each, after as many tests as
+-- nodes are reached.
 use mathlib.Core.List.{List, List·Nodup}
 use mathlib.Core.Logic.{_↔_}
 use mathlib.Core.Path.{_≡_, sym, ap, subst, _∙_}
@@ -21,6 +22,7 @@ use Rattle.walk_record.specs.Record.{FieldsFit}
 use Rattle.walk_record.specs.Walk.{queryAt, anyHitAt, listingAt, Reached, Passed}
 use Rattle.walk_record.proofs.Beam.{beam-laws, begun-accepted}
 use Rattle.walk_record.proofs.Laws.{bytes-fit}
+use Rattle.walk_record.proofs.Reach.{told-passes-fewer}
 use Rattle.walk_record.proofs.Demands as W
 use Rattle.any_hit.specs.AnyHit.{listed, anyHitOf, listAfter}
 use Rattle.traverse.specs.Walker.{started}
@@ -52,6 +54,12 @@ module _ (bytes : List ℕ) (n d : ℕ) (good : Good bytes n d) (origin directio
   no-position-twice l =
       subst (λ (r : RunWords Beam). List·Nodup (reported (r .answers))) (sym (run-started bytes (good .layout) ray accepted l))
       (W.calls-report-once bytes beams beam-laws fit n (good .sound) (beamOf ray) (begun-accepted origin direction tmin tmax accepted) l)
+
+  -- only positions that the ray passes with the reach it began with are reported, whatever is told,
+  pub only-passed : (l : List (Op Float)) → All (Passed bytes n ray) (reported (runBytes bytes l (started ray .walker) .answers))
+  only-passed l =
+      subst (λ (r : RunWords Beam). All (Passed bytes n ray) (reported (r .answers))) (sym (run-started bytes (good .layout) ray accepted l))
+      (W.calls-pass bytes beams beam-laws fit n (good .sound) (beamOf ray) (begun-accepted origin direction tmin tmax accepted) (told-passes-fewer bytes) l)
 
   -- and the waiting groups of the walker then held don't outnumber the deepest level.
   pub groups-within-level : (l : List (Op Float)) → runBytes bytes l (started ray .walker) .walker .depth ≤ d

@@ -1,5 +1,6 @@
--- The third demand, the walk's half, of the record that a converted call left, for every accepted ray: whatever is called and told, no position is reported
--- twice, and any-hit lists exactly the positions that the ray passes, once each, after as many tests as nodes are reached.
+-- The third demand, the walk's half, of the record that a converted call left, for every accepted ray: whatever is called and told, no position is
+-- reported twice, and none that the ray does not pass; and any-hit lists exactly the positions that the ray passes, once each, after as many tests as
+-- nodes are reached.
 use mathlib.Core.Bool.{true}
 use mathlib.Core.List.{List, List·Nodup}
 use mathlib.Core.Path.{_≡_}
@@ -11,7 +12,7 @@ use Rattle.ray.specs.declared.Ray.{Ray}
 use Rattle.ray.specs.Ray.{rayOf, acceptedRay}
 use Rattle.walk.specs.Calls.{All, Op, reported, Answered, Brings}
 use Rattle.walk_record.specs.Beam.{beamOf, beams}
-use Rattle.walk_record.specs.Walk.{anyHitAt}
+use Rattle.walk_record.specs.Walk.{anyHitAt, Passed}
 use Rattle.traverse.specs.Walker.{started}
 use Rattle.traverse.specs.Calls.{runBytes}
 use Rattle.demands.specs.Call.{Call, Answers, leafCount, recordAt}
@@ -26,6 +27,10 @@ module _ (c : Call) (m d : ℕ) (answers : Answers c m d) (origin direction : Ve
   -- For every list of steps and tellings from a walker just begun, as `Walker::new` promises it, refused steps included, no position is reported twice,
   pub no-position-twice : (l : List (Op Float)) → List·Nodup (reported (runBytes (recordAt c m) l (started ray .walker) .answers))
   no-position-twice = S.no-position-twice (recordAt c m) (leafCount c) d (good-record c m d answers) origin direction tmin tmax accepted
+
+  -- only positions that the ray passes with the reach it began with are reported, whatever is told,
+  pub only-passed : (l : List (Op Float)) → All (Passed (recordAt c m) (leafCount c) ray) (reported (runBytes (recordAt c m) l (started ray .walker) .answers))
+  only-passed = S.only-passed (recordAt c m) (leafCount c) d (good-record c m d answers) origin direction tmin tmax accepted
 
   -- and the waiting groups of the walker then held don't outnumber the deepest node's level.
   pub groups-within-level : (l : List (Op Float)) → runBytes (recordAt c m) l (started ray .walker) .walker .depth ≤ d

@@ -13,6 +13,7 @@ use Rattle.walk.specs.Step.{Answer}
 use Rattle.walk.specs.Calls.{All, reported}
 use Rattle.walk.specs.Queries.{distance, none, closest, miss}
 use Rattle.walk.specs.Reports.{testedNodes, upTo, NoneBelow, Nearest, Blocks}
+use Rattle.walk_record.specs.Walk.{Passed}
 use Rattle.closest.specs.Panes.{paneBox, paneMet, paneOf, nearer, hitAt, noHit, missed, blocked, closestOf, missOf}
 use Rattle.demands.specs.Runs.{answersMade}
 
@@ -54,8 +55,9 @@ module _ (bytes indices : List ℕ) (panes : List Float) (ray : Ray) where
         → closestOf bytes indices panes ray .answer ≡ hitAt p t ↔ (t ≡ far p) × Nearest lt far (ray .tmax) closestReports p
     -- No hit: no position reported is below the reach.
     pub no-hit : closestOf bytes indices panes ray .answer ≡ noHit ↔ NoneBelow lt far (ray .tmax) closestReports
-    -- No position is reported twice, and each has a pane, met at its distance.
+    -- No position is reported twice; each is one that the ray passes, so that any-hit lists it too; and each has a pane, met at its distance.
     pub once : List·Nodup closestReports
+    pub passed : All (Passed bytes (length indices) ray) closestReports
     pub met : All (λ p. paneMet panes (getD indices p 0) ray ≡ distance (far p)) closestReports
     -- its tests are the nodes tested
     pub tests : closestOf bytes indices panes ray .tests ≡ length (testedNodes closestSteps)

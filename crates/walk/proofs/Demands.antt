@@ -16,11 +16,14 @@ use Rattle.walk.specs.Listing.{In, flat, listing}
 use Rattle.walk.specs.Queries.{Reaction, query, calls, stepsFor, anyHitOf, Pane, closest, miss, closestOf, missOf, Halted, Ended}
 use Rattle.walk.specs.Queries
 use Rattle.walk.specs.Slots.{Slots, positionsOf, childrenOf, testsOf, ReachedBySlots, PassedBySlots, SlotLaws}
+use Rattle.walk.proofs.Lists.{all-map}
 use Rattle.walk.proofs.Once
 use Rattle.walk.proofs.Levels
 use Rattle.walk.proofs.Valid
 use Rattle.walk.proofs.Listing.{listing-is, reached-node}
 use Rattle.walk.proofs.Ends
+use Rattle.walk.proofs.Told.{Lowers, slots-fewer}
+use Rattle.walk.proofs.Told
 use Rattle.walk.proofs.AnyHit
 use Rattle.walk.proofs.Slots.{slots-lawful, slots-narrow, reached-iff, passed-iff}
 
@@ -39,6 +42,14 @@ module _ {s d : Type 0} (W : Slots s d) (Rule : ℕ → Type 0) (laws : SlotLaws
   -- and the waiting groups of the walker then held do not outnumber the deepest node's level
   pub calls-wait-few : (e : ℕ) → Deepest (W .shape) e → (l : List (Op d)) (ray : s) → length (runOps (W .shape .nodes) (testsOf W) l (fresh ray) .walker .stack) ≤ e
   calls-wait-few = Levels.calls-wait-few (W .shape) Rule (testsOf W) (slots-lawful W Rule laws) sound
+
+  -- only positions that the ray as begun passes are reported, where telling makes it pass no more
+  pub calls-pass : Lowers W → (ray : s) → W .forged ray ≡ false → (l : List (Op d))
+      → All (PassedBySlots W ray) (reported (runOps (W .shape .nodes) (testsOf W) l (fresh ray) .answers))
+  calls-pass lowers ray accepted l =
+      all-map
+      (λ p. passed-iff W Rule laws (sound .rule) ray accepted p (reached-node (W .shape) Rule (testsOf W) (slots-lawful W Rule laws) sound ray accepted) .0)
+      (reported (runOps (W .shape .nodes) (testsOf W) l (fresh ray) .answers)) (Told.calls-pass (W .shape .nodes) (testsOf W) (slots-fewer W lowers) ray l)
 
   module _ (few-positions : W .shape .positions ≤ 65536) (few-nodes : W .shape .nodes ≤ 65535) where
     -- where each step brings the record's own count of positions, none is refused

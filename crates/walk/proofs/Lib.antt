@@ -24,3 +24,4 @@ pub mod WordEnds
 pub mod Reports
 pub mod Nearest
 pub mod Noted
+pub mod Told

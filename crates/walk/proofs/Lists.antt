@@ -10,6 +10,7 @@ use Rattle.lists.specs.Counts.{same, count, upto}
 use Rattle.lists.specs.Sums.{sum, sumOver}
 use Rattle.lists.proofs.Counts.{same-self, same-one, count-append, Some, none, some, some?}
 use Rattle.lists.proofs.Sums.{sum-cong, sum-front, sum-counted}
+use Rattle.walk.specs.Calls.{All}
 use Rattle.walk.specs.Listing.{In, joined, flat}
 
 -- ---- members
@@ -43,6 +44,12 @@ in-append x a b h = go (some? (count x a))
     go : Some (count x a) → In x a ⊎ In x b
     go (none e) = inr (omega (arith, count-append x a b))
     go (some e) = inl e
+
+-- ---- what holds of every member
+
+pub all-map : {A : Type 0} {P Q : A → Type 0} → ((x : A) → P x → Q x) → (l : List A) → All P l → All Q l
+all-map f [] h = tt
+all-map f (x ∷ l) h = (f x (h .0), all-map f l (h .1))
 
 -- ---- sums over a list
 

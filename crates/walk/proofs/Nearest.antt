@@ -10,10 +10,6 @@ use Rattle.walk.specs.Reports.{upTo, NoneBelow, Nearest, Blocks}
 
 -- ---- lists
 
-pub all-map : {A : Type 0} {P Q : A → Type 0} → ((x : A) → P x → Q x) → (l : List A) → All P l → All Q l
-all-map f [] h = tt
-all-map f (x ∷ l) h = (f x (h .0), all-map f l (h .1))
-
 all-at : {A : Type 0} (P : A → Type 0) (b : List A) (x : A) (a : List A) → All P (b ++ (x ∷ a)) → P x
 all-at P [] x a h = h .0
 all-at P (y ∷ b) x a h = all-at P b x a (h .1)

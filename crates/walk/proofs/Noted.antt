@@ -8,7 +8,8 @@ use Rattle.walk.specs.Tests.{Tests}
 use Rattle.walk.specs.Calls.{All}
 use Rattle.walk.specs.Queries.{Reaction, Pane, distance, Found, none, hit, closest, miss, lower, lowerAt, blockAt}
 use Rattle.walk.specs.Reports.{toldRay, Notes, upTo, NoneBelow, Nearest, Blocks}
-use Rattle.walk.proofs.Nearest.{all-map, up-to-same, Order, front-nearest, nearer-later, nearest-stays, blocks-stays}
+use Rattle.walk.proofs.Lists.{all-map}
+use Rattle.walk.proofs.Nearest.{up-to-same, Order, front-nearest, nearer-later, nearest-stays, blocks-stays}
 
 -- Nearer is less than the ray's reach, a distance told that is less becomes the reach, and telling moves no pane.
 pub record Reaching {s d : Type 0} (told : d → s → s) (pane : ℕ → s → Pane d) (nearer : d → s → Bool) (less : d → d → Bool) (reach : s → d)

@@ -16,7 +16,8 @@ use Rattle.walk.specs.Slots.{Slots, positionsOf, childrenOf, testsOf, Re
 use Rattle.walk.specs.WordStep.{freshWords, RunWords, runWords}
 use Rattle.walk.specs.WordQueries.{OutcomeWords, queryWords, decodedOutcome}
 use Rattle.walk.specs.Masks.{wordsOf, MaskLaws}
-use Rattle.walk.proofs.Demands.{query-halts, calls-report-once, calls-wait-few, calls-answered, any-hit-done, any-hit-listing, any-hit-exact, any-hit-nodup, any-hit-most, any-hit-counts, any-hit-tests, query-answered}
+use Rattle.walk.proofs.Demands.{query-halts, calls-report-once, calls-wait-few, calls-pass, calls-answered, any-hit-done, any-hit-listing, any-hit-exact, any-hit-nodup, any-hit-most, any-hit-counts, any-hit-tests, query-answered}
+use Rattle.walk.proofs.Told.{Lowers}
 use Rattle.walk.proofs.Stacks.{groups-length}
 use Rattle.walk.proofs.WordRuns.{calls-decoded}
 use Rattle.walk.proofs.WordQueries.{fresh-query}
@@ -52,6 +53,12 @@ module _ {s d : Type 0} (W : Slots s d) (mask : s → ℕ → ℕ) (Rule : ℕ �
       let w = callsWords W mask l ray .walker in
       let q = ap (λ (r : Run s). length (r .walker .stack)) (calls-decoded (W .shape .nodes) (wordsOf W mask) (positionsOf W) (childrenOf W) (masks-decode W mask H) l ray accepted) in
       omega (arith, groups-length (W .octant (w .ray)) (w .depth) (w .stack), calls-wait-few W Rule laws sound e deepest l ray)
+
+  pub words-pass : Lowers W → (l : List (Op d)) → All (PassedBySlots W ray) (reported (callsWords W mask l ray .answers))
+  words-pass lowers l =
+      subst (λ (r : Run s). All (PassedBySlots W ray) (reported (r .answers)))
+      (sym (calls-decoded (W .shape .nodes) (wordsOf W mask) (positionsOf W) (childrenOf W) (masks-decode W mask H) l ray accepted))
+      (calls-pass W Rule laws sound lowers ray accepted l)
 
   module _ (few-positions : W .shape .positions ≤ 65536) (few-nodes : W .shape .nodes ≤ 65535) where
     pub words-answered : (l : List (Op d)) → All (Brings (W .shape .positions)) l → All Answered (callsWords W mask l ray .answers)

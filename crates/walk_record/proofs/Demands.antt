@@ -1,11 +1,13 @@
 -- The third demand, the walk's half, and the second for queries: on every sound record, for every accepted ray, in the words that code computes.
-use mathlib.Core.Bool.{false}
+use mathlib.Core.Bool.{true, false}
 use mathlib.Core.List.{List, _++_, List·Nodup}
 use mathlib.Core.Logic.{_↔_}
 use mathlib.Core.Path.{_≡_, refl}
 use Prim.Native.Nat.{ℕ, _≤_, _<_}
 use lib.ListN.{length}
 use Rattle.lists.specs.Counts.{count}
+use Rattle.node.specs.Node.{nodeAt}
+use Rattle.slot.specs.Mask.{passesSlot}
 use Rattle.record_shape.specs.Record.{nodeCount, shapeAt, RuleAt, SoundRecord, DeepestLevel}
 use Rattle.walk.specs.Step.{done}
 use Rattle.walk.specs.Calls.{All, Op, reported, Answered, Brings}
@@ -14,8 +16,9 @@ use Rattle.walk.specs.Queries.{Reaction, Halted, Ended}
 use Rattle.walk.specs.Slots.{ReachedBySlots, PassedBySlots, positionsOf, childrenOf, testsOf}
 use Rattle.walk.specs.Slots
 use Rattle.walk.specs.WordStep.{freshWords}
+use Rattle.walk.proofs.Lists.{all-map}
 use Rattle.walk.proofs.Demands
-use Rattle.walk.proofs.WordDemands.{query-words-halts, words-report-once, words-wait-few, words-answered, query-words-answered, any-hit-words-done, any-hit-words-listing, any-hit-words-exact, any-hit-words-nodup, any-hit-words-most, any-hit-words-counts, any-hit-words-tests}
+use Rattle.walk.proofs.WordDemands.{query-words-halts, words-report-once, words-wait-few, words-pass, words-answered, query-words-answered, any-hit-words-done, any-hit-words-listing, any-hit-words-exact, any-hit-words-nodup, any-hit-words-most, any-hit-words-counts, any-hit-words-tests}
 use Rattle.walk_record.specs.Record.{Rays, RayLaws, FieldsFit, slotsAt, maskAt}
 use Rattle.walk_record.specs.Walk.{runAt, queryAt, anyHitAt, listingAt, Reached, first, child, Passed}
 use Rattle.walk_record.proofs.Laws.{slot-laws, mask-laws}
@@ -27,6 +30,31 @@ module _ {s d : Type 0} (bytes : List ℕ) (R : Rays s d) (laws : RayLaws R) (fi
   query-halts react x n r f = query-words-halts (slotsAt bytes R n) (maskAt bytes R) (mask-laws bytes R laws n fit) react n r x f
 
   module _ (n : ℕ) (sound : SoundRecord bytes n) (r : s) (accepted : R .forged r ≡ false) where
+    -- ---- in the words of the demand
+
+    reached-to : (v : ℕ) → ReachedBySlots (slotsAt bytes R n) r v → Reached bytes (R .ray r) v
+    unfolding shapeAt
+    reached-to v (Slots.ReachedBySlots.first e h) = first e h
+    reached-to v (Slots.ReachedBySlots.child {v = u} j q l a b e) = child j (reached-to u q) l a b e
+
+    reached-from : (v : ℕ) → Reached bytes (R .ray r) v → ReachedBySlots (slotsAt bytes R n) r v
+    unfolding shapeAt
+    reached-from v (first e h) = Slots.ReachedBySlots.first e h
+    reached-from v (child {v = u} j q l a b e) = Slots.ReachedBySlots.child j (reached-from u q) l a b e
+
+    passed-to : (p : ℕ) → PassedBySlots (slotsAt bytes R n) r p → Passed bytes n (R .ray r) p
+    passed-to p q = record { node = q .node; reached = reached-to (q .node) (q .reached); slot = q .slot; holds = q .holds; passes = q .passes }
+
+    passed-from : (p : ℕ) → Passed bytes n (R .ray r) p → PassedBySlots (slotsAt bytes R n) r p
+    passed-from p q = record {
+      node = q .node;
+      reached = reached-from (q .node) (q .reached);
+      slot = q .slot;
+      holds = q .holds;
+      passes = q .passes;
+      admitted = refl;
+    }
+
     -- ---- every list of steps and tellings from a walker just begun, refused steps included
 
     -- no position is reported twice,
@@ -38,6 +66,16 @@ module _ {s d : Type 0} (bytes : List ℕ) (R : Rays s d) (laws : RayLaws R) (fi
     pub calls-wait-few : (e : ℕ) → DeepestLevel bytes n e → (l : List (Op d)) → runAt bytes R l (freshWords r) .walker .depth ≤ e
     unfolding runAt shapeAt
     calls-wait-few = words-wait-few (slotsAt bytes R n) (maskAt bytes R) (RuleAt bytes n) (slot-laws bytes R laws n) (mask-laws bytes R laws n fit) sound r accepted
+
+    -- Where telling makes a ray pass no more slots, only positions that the ray as begun passes are reported.
+    pub calls-pass :
+        ((x : d) (q : s) (v j : ℕ) → passesSlot (nodeAt bytes v) (R .ray (R .told x q)) j ≡ true → passesSlot (nodeAt bytes v) (R .ray q) j ≡ true)
+        → (l : List (Op d)) → All (Passed bytes n (R .ray r)) (reported (runAt bytes R l (freshWords r) .answers))
+    unfolding runAt shapeAt
+    calls-pass lower l =
+        all-map passed-to (reported (runAt bytes R l (freshWords r) .answers))
+        (words-pass (slotsAt bytes R n) (maskAt bytes R) (RuleAt bytes n) (slot-laws bytes R laws n) (mask-laws bytes R laws n fit) sound r accepted
+        (record { passes = lower; admits = λ x q p e. e; octant = laws .octant-told }) l)
 
     module _ (few-positions : n ≤ 65536) (few-nodes : nodeCount bytes ≤ 65535) where
       -- where each step brings the record's own count of positions none is refused
@@ -67,24 +105,6 @@ module _ {s d : Type 0} (bytes : List ℕ) (R : Rays s d) (laws : RayLaws R) (fi
           ≡ positionsOf (slotsAt bytes R n) r v ++ flat (listing (nodeCount bytes) (testsOf (slotsAt bytes R n)) r) (childrenOf (slotsAt bytes R n) r v)
       unfolding shapeAt
       listing-order = Demands.listing-order (slotsAt bytes R n) (RuleAt bytes n) (slot-laws bytes R laws n) sound few-positions few-nodes r accepted
-
-      -- ---- in the words of the demand
-
-      reached-to : (v : ℕ) → ReachedBySlots (slotsAt bytes R n) r v → Reached bytes (R .ray r) v
-      unfolding shapeAt
-      reached-to v (Slots.ReachedBySlots.first e h) = first e h
-      reached-to v (Slots.ReachedBySlots.child {v = u} j q l a b e) = child j (reached-to u q) l a b e
-
-      reached-from : (v : ℕ) → Reached bytes (R .ray r) v → ReachedBySlots (slotsAt bytes R n) r v
-      unfolding shapeAt
-      reached-from v (first e h) = Slots.ReachedBySlots.first e h
-      reached-from v (child {v = u} j q l a b e) = Slots.ReachedBySlots.child j (reached-from u q) l a b e
-
-      passed-to : (p : ℕ) → PassedBySlots (slotsAt bytes R n) r p → Passed bytes n (R .ray r) p
-      passed-to p q = record { node = q .node; reached = reached-to (q .node) (q .reached); slot = q .slot; holds = q .holds; passes = q .passes }
-
-      passed-from : (p : ℕ) → Passed bytes n (R .ray r) p → PassedBySlots (slotsAt bytes R n) r p
-      passed-from p q = record { node = q .node; reached = reached-from (q .node) (q .reached); slot = q .slot; holds = q .holds; passes = q .passes; admitted = refl }
 
       -- a position is in the list exactly if the ray passes every slot box down to it,
       pub any-hit-exact : (p : ℕ) → In p (anyHitAt bytes R n r .noted) ↔ Passed bytes n (R .ray r) p

@@ -45,6 +45,10 @@ told-held P keeps t b = go (lt t (b .ray .tmax)) refl
     go true e = keeps (reaching t (b .ray)) (b .ray) (told-lower t (b .ray) e)
     go false e = λ q. q
 
+pub told-passes-fewer : (bytes : List ℕ) (t : Float) (b : Beam) (v j : ℕ) → passesSlot (nodeAt bytes v) (toldBeam t b .ray) j ≡ true
+    → passesSlot (nodeAt bytes v) (b .ray) j ≡ true
+told-passes-fewer bytes t b v j = told-held (λ r. passesSlot (nodeAt bytes v) r j ≡ true) (λ r s l. passed-slot bytes r s l v j) t b
+
 pub told-reaches-fewer : (bytes : List ℕ) (t : Float) (b : Beam) (v : ℕ) → Reached bytes (toldBeam t b .ray) v → Reached bytes (b .ray) v
 told-reaches-fewer bytes t b v = told-held (λ r. Reached bytes r v) (λ r s l. lower-reach-reaches-fewer bytes r s l v) t b
 
