@@ -1,11 +1,11 @@
 -- The distance of an accepted box from an accepted ray is a number, the same whatever reach the ray has; and such distances stand in a strict order.
 use mathlib.Core.Bool.{Bool, true, false, not, _&&_, cond}
 use mathlib.Core.List.{List}
-use mathlib.Core.Path.{_≡_, refl, sym, ap, subst, _∙_}
+use mathlib.Core.Path.{_≡_, refl, sym, ap, subst}
 use Prim.Native.Nat.{ℕ, _/_, _<_}
 use lib.Dec.{T, lit<, lit≤}
 use lib.Ieee.{Float, inf, lt, le, eq, isNan}
-use lib.ListN.{length, getD}
+use lib.ListN.{length}
 use borrow.Author.Tests.{lt-ltb}
 use Rattle.float.specs.Compare.{plusZero, unsignedZero}
 use Rattle.float.specs.Magnitude.{Within}
@@ -17,10 +17,10 @@ use Rattle.ray.specs.Ray.{rayOf, acceptedRay}
 use Rattle.ray.proofs.Bounds.{inverse-within}
 use Rattle.ray.proofs.Bounds as R
 use Rattle.aabb.specs.declared.Aabb.{Aabb}
-use Rattle.aabb.specs.Aabb.{planeDistance, slabNear, slabFar, boxNear, boxFar, entryDistance, acceptedBox}
+use Rattle.aabb.specs.Aabb.{planeDistance, slabNear, boxNear, boxFar, entryDistance, acceptedBox}
 use Rattle.aabb.proofs.Bounds as B
 use Rattle.hits.proofs.Terms.{max-no-nan, min-no-nan, within-no-nan}
-use Rattle.walk.specs.Queries.{Pane, distance}
+use Rattle.walk.specs.Queries.{distance}
 use Rattle.walk.proofs.Nearest.{Order}
 use Rattle.walk.proofs.Noted.{Reaching}
 use Rattle.walk_record.specs.Beam.{Beam, reaching, toldBeam}

@@ -17,7 +17,7 @@ use Rattle.walk.specs.Calls.{All, Run, runOps, reported}
 use Rattle.walk.specs.Queries.{Reaction, Outcome, query, stepsFor, append, Pane, none, closest, miss}
 use Rattle.walk.specs.Reports.{testedNodes, Notes, upTo}
 use Rattle.walk.specs.Slots.{positionsOf, childrenOf, testsOf}
-use Rattle.walk.specs.WordStep.{RunWords, NodeWords, Decodes, decoded}
+use Rattle.walk.specs.WordStep.{NodeWords, Decodes, decoded}
 use Rattle.walk.specs.WordQueries.{decodedOutcome}
 use Rattle.walk.proofs.Ends.{query-run, any-hit-run}
 use Rattle.walk.proofs.Reports.{run-tests, query-notes, reports-exist, miss-reports}

@@ -59,11 +59,11 @@ blocks-apart : {A : Type 0} → missed ≡ blocked → A
 blocks-apart e = let z : _≡_ {A = ℕ} 0 1 = cc in absurd (omega arith)
 
 -- what holds of a hit's position holds of an equal hit's
-same-hit : (far : ℕ → Float) (P : ℕ → Type 0) (p q : ℕ) (t : Float) → P p → hitAt p (far p) ≡ hitAt q t → (t ≡ far q) × P q
-same-hit far P p q t h e =
+same-hit : (entersAt : ℕ → Float) (P : ℕ → Type 0) (p q : ℕ) (t : Float) → P p → hitAt p (entersAt p) ≡ hitAt q t → (t ≡ entersAt q) × P q
+same-hit entersAt P p q t h e =
     let same : p ≡ q = cc in
-    let at : far p ≡ t = cc in
-    (sym at ∙ ap far same, subst P same h)
+    let at : entersAt p ≡ t = cc in
+    (sym at ∙ ap entersAt same, subst P same h)
 
 other : {A B : Type 0} → (A → ⊥) → A ⊎ B → B
 other n (inl a) = absurd (n a)
@@ -77,8 +77,8 @@ module _ (bytes indices : List ℕ) (panes : List Float) (d : ℕ) (good : Good 
   abbrev ray : Ray
   ray = rayOf origin direction tmin tmax
 
-  abbrev far : ℕ → Float
-  far = distanceOf indices panes ray
+  abbrev entersAt : ℕ → Float
+  entersAt = distanceOf indices panes ray
 
   abbrev T : Tests Beam Float
   T = testsOf (slotsAt bytes beams n)
@@ -105,7 +105,7 @@ module _ (bytes indices : List ℕ) (panes : List Float) (d : ℕ) (good : Good 
   not-refused react = query-not-refused bytes n d good origin direction tmin tmax accepted react none
 
   -- each position reported has a pane at its distance
-  seen : (p : ℕ) → p < n → Seen (paneOf indices panes) Number far (beamOf ray) p
+  seen : (p : ℕ) → p < n → Seen (paneOf indices panes) Number entersAt (beamOf ray) p
   unfolding paneOf
   seen p h =
       let there = fine .named p h in
@@ -115,7 +115,7 @@ module _ (bytes indices : List ℕ) (panes : List Float) (d : ℕ) (good : Good 
         number = distance-number _ origin direction tmin tmax box accepted;
       }
 
-  all-seen : (react : React) → All (Seen (paneOf indices panes) Number far (beamOf ray)) (reported (answersMade bytes n ray react none))
+  all-seen : (react : React) → All (Seen (paneOf indices panes) Number entersAt (beamOf ray)) (reported (answersMade bytes n ray react none))
   all-seen react =
       all-map seen (reported (answersMade bytes n ray react none))
       (reported-exist bytes (good .layout) (good .are-bytes) n origin direction tmin tmax accepted react none)
@@ -129,11 +129,11 @@ module _ (bytes indices : List ℕ) (panes : List Float) (d : ℕ) (good : Good 
       found-at-end refusedClosest closestFound (paneCause bytes indices panes ray) (closestWalk bytes indices panes ray)
       (closestWalk bytes indices panes ray .ended) no-cause (not-refused near)
 
-  closest-picked : Picks lt far (ray .tmax) none (closestWalk bytes indices panes ray .noted) (closestReports bytes indices panes ray)
+  closest-picked : Picks lt entersAt (ray .tmax) none (closestWalk bytes indices panes ray .noted) (closestReports bytes indices panes ray)
   unfolding closestWalk
   closest-picked =
       closest-picks (nodeCount bytes) T (paneOf indices panes) nearer lt (λ b. b .ray .tmax) (panes-reached indices panes) Number distances-ordered
-      far (closestReports bytes indices panes ray) (beamOf ray) none _ (all-seen near)
+      entersAt (closestReports bytes indices panes ray) (beamOf ray) none _ (all-seen near)
       (query-noted bytes (good .layout) (good .are-bytes) n origin direction tmin tmax accepted near none)
 
   closest-tests : closestWalk bytes indices panes ray .walker .tests ≡ length (testedNodes (closestSteps bytes indices panes ray))
@@ -143,7 +143,7 @@ module _ (bytes indices : List ℕ) (panes : List Float) (d : ℕ) (good : Good 
   once : List·Nodup (closestReports bytes indices panes ray)
   once = no-position-twice bytes n d good origin direction tmin tmax accepted (callsMade bytes n ray near none)
 
-  met : All (λ p. paneMet panes (getD indices p 0) ray ≡ distance (far p)) (closestReports bytes indices panes ray)
+  met : All (λ p. paneMet panes (getD indices p 0) ray ≡ distance (entersAt p)) (closestReports bytes indices panes ray)
   unfolding paneOf
   met = all-map (λ p h. h .pane-is) (closestReports bytes indices panes ray) (all-seen near)
 
@@ -153,13 +153,14 @@ module _ (bytes indices : List ℕ) (panes : List Float) (d : ℕ) (good : Good 
   closest-answers = go _ _ closest-is closest-picked closest-tests
     where
       go : (y : Found Float) (k : ℕ) → closestOf bytes indices panes ray ≡ closestFound y k
-          → Picks lt far (ray .tmax) none y (closestReports bytes indices panes ray) → k ≡ length (testedNodes (closestSteps bytes indices panes ray))
+          → Picks lt entersAt (ray .tmax) none y (closestReports bytes indices panes ray)
+          → k ≡ length (testedNodes (closestSteps bytes indices panes ray))
           → ClosestAnswers bytes indices panes ray
       go y k e (kept f h) t =
           let c = e ∙ ap (λ (z : Found Float). closestFound z k) f in
           let a : closestOf bytes indices panes ray .answer ≡ noHit = ap (λ (r : Result ClosestAnswer). r .answer) c in record {
             answers = inl a;
-            hit = λ p u. (λ q. hits-apart p u (sym a ∙ q), λ q. absurd (nearest-below lt far (ray .tmax) _ p (q .1) h));
+            hit = λ p u. (λ q. hits-apart p u (sym a ∙ q), λ q. absurd (nearest-below lt entersAt (ray .tmax) _ p (q .1) h));
             no-hit = (λ _. h, λ _. a);
             once = once;
             passed = only-passed bytes n d good origin direction tmin tmax accepted (callsMade bytes n ray near none);
@@ -168,13 +169,13 @@ module _ (bytes indices : List ℕ) (panes : List Float) (d : ℕ) (good : Good 
           }
       go y k e (nearest p f N) t =
           let c = e ∙ ap (λ (z : Found Float). closestFound z k) f in
-          let a : closestOf bytes indices panes ray .answer ≡ hitAt p (far p) = ap (λ (r : Result ClosestAnswer). r .answer) c in record {
-            answers = inr (p, far p, a);
+          let a : closestOf bytes indices panes ray .answer ≡ hitAt p (entersAt p) = ap (λ (r : Result ClosestAnswer). r .answer) c in record {
+            answers = inr (p, entersAt p, a);
             hit = λ q u. (
-              λ r. same-hit far (Nearest lt far (ray .tmax) (closestReports bytes indices panes ray)) p q u N (sym a ∙ r),
-              λ r. a ∙ ap (λ (z : ℕ). hitAt z (far z)) (one-nearest lt far (ray .tmax) _ p q N (r .1)) ∙ ap (hitAt q) (sym (r .0)),
+              λ r. same-hit entersAt (Nearest lt entersAt (ray .tmax) (closestReports bytes indices panes ray)) p q u N (sym a ∙ r),
+              λ r. a ∙ ap (λ (z : ℕ). hitAt z (entersAt z)) (one-nearest lt entersAt (ray .tmax) _ p q N (r .1)) ∙ ap (hitAt q) (sym (r .0)),
             );
-            no-hit = (λ r. hits-apart p (far p) (sym r ∙ a), λ h. absurd (nearest-below lt far (ray .tmax) _ p N h));
+            no-hit = (λ r. hits-apart p (entersAt p) (sym r ∙ a), λ h. absurd (nearest-below lt entersAt (ray .tmax) _ p N h));
             once = once;
             passed = only-passed bytes n d good origin direction tmin tmax accepted (callsMade bytes n ray near none);
             met = met;
@@ -189,30 +190,30 @@ module _ (bytes indices : List ℕ) (panes : List Float) (d : ℕ) (good : Good 
       found-at-end refusedMiss missFound (paneCause bytes indices panes ray) (missWalk bytes indices panes ray)
       (missWalk bytes indices panes ray .ended) no-cause (not-refused block)
 
-  miss-stopped : Stops lt far (ray .tmax) none (missWalk bytes indices panes ray .noted) (missReports bytes indices panes ray)
+  miss-stopped : Stops lt entersAt (ray .tmax) none (missWalk bytes indices panes ray .noted) (missReports bytes indices panes ray)
   unfolding missWalk
   miss-stopped =
       miss-stops (nodeCount bytes) T (paneOf indices panes) nearer lt (λ b. b .ray .tmax) (panes-reached indices panes) Number distances-ordered
-      far (missReports bytes indices panes ray) (beamOf ray) none _ (all-seen block)
+      entersAt (missReports bytes indices panes ray) (beamOf ray) none _ (all-seen block)
       (query-noted bytes (good .layout) (good .are-bytes) n origin direction tmin tmax accepted block none)
 
   miss-tests : missWalk bytes indices panes ray .walker .tests ≡ length (testedNodes (missSteps bytes indices panes ray))
   unfolding missWalk
   miss-tests = query-tests bytes (good .layout) (good .are-bytes) n origin direction tmin tmax accepted block none
 
-  as-closest : missReports bytes indices panes ray ≡ upTo (λ p. lt (far p) (ray .tmax)) (closestReports bytes indices panes ray)
+  as-closest : missReports bytes indices panes ray ≡ upTo (λ p. lt (entersAt p) (ray .tmax)) (closestReports bytes indices panes ray)
   as-closest =
       miss-closest bytes (good .layout) (good .are-bytes) n origin direction tmin tmax accepted (paneOf indices panes) nearer
       ∙ stops-below (nodeCount bytes) T (paneOf indices panes) nearer lt (λ b. b .ray .tmax) (panes-reached indices panes) Number distances-ordered
-      far (closestReports bytes indices panes ray) (beamOf ray) (all-seen near)
+      entersAt (closestReports bytes indices panes ray) (beamOf ray) (all-seen near)
 
   -- no position that miss reports is below the reach exactly if closest has no hit
-  none-reported : NoneBelow lt far (ray .tmax) (missReports bytes indices panes ray) ↔ closestOf bytes indices panes ray .answer ≡ noHit
+  none-reported : NoneBelow lt entersAt (ray .tmax) (missReports bytes indices panes ray) ↔ closestOf bytes indices panes ray .answer ≡ noHit
   none-reported =
-      let u = up-to-none (λ p. lt (far p) (ray .tmax)) (closestReports bytes indices panes ray) in
+      let u = up-to-none (λ p. lt (entersAt p) (ray .tmax)) (closestReports bytes indices panes ray) in
       let c = closest-answers .no-hit in (
-        λ h. c .1 (u .0 (subst (NoneBelow lt far (ray .tmax)) as-closest h)),
-        λ h. subst (NoneBelow lt far (ray .tmax)) (sym as-closest) (u .1 (c .0 h)),
+        λ h. c .1 (u .0 (subst (NoneBelow lt entersAt (ray .tmax)) as-closest h)),
+        λ h. subst (NoneBelow lt entersAt (ray .tmax)) (sym as-closest) (u .1 (c .0 h)),
       )
 
   -- It is not refused. It is blocked by the first position reported that is below the reach, and so exactly if closest has a hit.
@@ -221,13 +222,13 @@ module _ (bytes indices : List ℕ) (panes : List Float) (d : ℕ) (good : Good 
   miss-answers = go _ _ miss-is miss-stopped miss-tests
     where
       go : (y : Found Float) (k : ℕ) → missOf bytes indices panes ray ≡ missFound y k
-          → Stops lt far (ray .tmax) none y (missReports bytes indices panes ray) → k ≡ length (testedNodes (missSteps bytes indices panes ray))
+          → Stops lt entersAt (ray .tmax) none y (missReports bytes indices panes ray) → k ≡ length (testedNodes (missSteps bytes indices panes ray))
           → MissAnswers bytes indices panes ray
       go y k e (N.missed f h) t =
           let c = e ∙ ap (λ (z : Found Float). missFound z k) f in
           let a : missOf bytes indices panes ray .answer ≡ missed = ap (λ (r : Result MissAnswer). r .answer) c in record {
             answers = inl a;
-            blocked-iff = (λ q. blocks-apart (sym a ∙ q), λ q. absurd (blocks-below lt far (ray .tmax) _ (q .0) (q .1) h));
+            blocked-iff = (λ q. blocks-apart (sym a ∙ q), λ q. absurd (blocks-below lt entersAt (ray .tmax) _ (q .0) (q .1) h));
             missed-iff = (λ _. h, λ _. a);
             as-closest = as-closest;
             missed-no-hit = (λ _. none-reported .0 h, λ _. a);
@@ -237,11 +238,11 @@ module _ (bytes indices : List ℕ) (panes : List Float) (d : ℕ) (good : Good 
       go y k e (N.blocked p f B) t =
           let c = e ∙ ap (λ (z : Found Float). missFound z k) f in
           let a : missOf bytes indices panes ray .answer ≡ blocked = ap (λ (r : Result MissAnswer). r .answer) c in
-          let hits : closestOf bytes indices panes ray .answer ≡ noHit → ⊥ = λ q. blocks-below lt far (ray .tmax) _ p B (none-reported .1 q) in
+          let hits : closestOf bytes indices panes ray .answer ≡ noHit → ⊥ = λ q. blocks-below lt entersAt (ray .tmax) _ p B (none-reported .1 q) in
           record {
             answers = inr a;
             blocked-iff = (λ _. (p, B), λ _. a);
-            missed-iff = (λ q. blocks-apart (sym q ∙ a), λ h. absurd (blocks-below lt far (ray .tmax) _ p B h));
+            missed-iff = (λ q. blocks-apart (sym q ∙ a), λ h. absurd (blocks-below lt entersAt (ray .tmax) _ p B h));
             as-closest = as-closest;
             missed-no-hit = (λ q. blocks-apart (sym q ∙ a), λ q. absurd (hits q));
             blocked-hit = (λ _. other hits (closest-answers .answers), λ _. a);

@@ -59,7 +59,8 @@ module _ (bytes : List ℕ) (n d : ℕ) (good : Good bytes n d) (origin directio
   pub only-passed : (l : List (Op Float)) → All (Passed bytes n ray) (reported (runBytes bytes l (started ray .walker) .answers))
   only-passed l =
       subst (λ (r : RunWords Beam). All (Passed bytes n ray) (reported (r .answers))) (sym (run-started bytes (good .layout) ray accepted l))
-      (W.calls-pass bytes beams beam-laws fit n (good .sound) (beamOf ray) (begun-accepted origin direction tmin tmax accepted) (told-passes-fewer bytes) l)
+      (W.calls-pass bytes beams beam-laws fit n (good .sound) (beamOf ray) (begun-accepted origin direction tmin tmax accepted)
+      (told-passes-fewer bytes) l)
 
   -- and the waiting groups of the walker then held don't outnumber the deepest level.
   pub groups-within-level : (l : List (Op Float)) → runBytes bytes l (started ray .walker) .walker .depth ≤ d

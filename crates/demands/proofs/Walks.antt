@@ -29,7 +29,8 @@ module _ (c : Call) (m d : ℕ) (answers : Answers c m d) (origin direction : Ve
   no-position-twice = S.no-position-twice (recordAt c m) (leafCount c) d (good-record c m d answers) origin direction tmin tmax accepted
 
   -- only positions that the ray passes with the reach it began with are reported, whatever is told,
-  pub only-passed : (l : List (Op Float)) → All (Passed (recordAt c m) (leafCount c) ray) (reported (runBytes (recordAt c m) l (started ray .walker) .answers))
+  pub only-passed : (l : List (Op Float))
+      → All (Passed (recordAt c m) (leafCount c) ray) (reported (runBytes (recordAt c m) l (started ray .walker) .answers))
   only-passed = S.only-passed (recordAt c m) (leafCount c) d (good-record c m d answers) origin direction tmin tmax accepted
 
   -- and the waiting groups of the walker then held don't outnumber the deepest node's level.

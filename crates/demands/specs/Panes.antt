@@ -1,5 +1,5 @@
 -- What closest and miss are to answer over panes without a fault, in terms of the positions that their walks report (01, "Walking"; "Corners of each
--- file", cwbvh/mod.rs). Told distances prune the walk, so these are not all positions that the ray passes.
+-- file", cwbvh/mod.rs). Told distances prune the walk, so these need not be all positions that the ray passes.
 use mathlib.Core.Bool.{true}
 use mathlib.Core.List.{List, List·Nodup}
 use mathlib.Core.Logic.{_⊎_, _↔_}
@@ -41,9 +41,9 @@ module _ (bytes indices : List ℕ) (panes : List Float) (ray : Ray) where
   abbrev pub missReports : List ℕ
   missReports = reported missSteps
 
-  -- the distances of these positions
-  abbrev far : ℕ → Float
-  far = distanceOf indices panes ray
+  -- the distance at which the ray enters the pane of one of these
+  abbrev entersAt : ℕ → Float
+  entersAt = distanceOf indices panes ray
 
   -- what closest answers
   pub record ClosestAnswers : Type 0 where
@@ -52,13 +52,13 @@ module _ (bytes indices : List ℕ) (panes : List Float) (ray : Ray) where
         ⊎ ((p : ℕ) × (t : Float) × (closestOf bytes indices panes ray .answer ≡ hitAt p t))
     -- A hit is the nearest position reported, the first met of equal ones, at its pane's distance, and that is below the reach.
     pub hit : (p : ℕ) (t : Float)
-        → closestOf bytes indices panes ray .answer ≡ hitAt p t ↔ (t ≡ far p) × Nearest lt far (ray .tmax) closestReports p
+        → closestOf bytes indices panes ray .answer ≡ hitAt p t ↔ (t ≡ entersAt p) × Nearest lt entersAt (ray .tmax) closestReports p
     -- No hit: no position reported is below the reach.
-    pub no-hit : closestOf bytes indices panes ray .answer ≡ noHit ↔ NoneBelow lt far (ray .tmax) closestReports
+    pub no-hit : closestOf bytes indices panes ray .answer ≡ noHit ↔ NoneBelow lt entersAt (ray .tmax) closestReports
     -- No position is reported twice; each is one that the ray passes, so that any-hit lists it too; and each has a pane, met at its distance.
     pub once : List·Nodup closestReports
     pub passed : All (Passed bytes (length indices) ray) closestReports
-    pub met : All (λ p. paneMet panes (getD indices p 0) ray ≡ distance (far p)) closestReports
+    pub met : All (λ p. paneMet panes (getD indices p 0) ray ≡ distance (entersAt p)) closestReports
     -- its tests are the nodes tested
     pub tests : closestOf bytes indices panes ray .tests ≡ length (testedNodes closestSteps)
 
@@ -67,12 +67,12 @@ module _ (bytes indices : List ℕ) (panes : List Float) (ray : Ray) where
     -- no refusal
     pub answers : (missOf bytes indices panes ray .answer ≡ missed) ⊎ (missOf bytes indices panes ray .answer ≡ blocked)
     -- Blocked: the last position reported is below the reach, and none before it.
-    pub blocked-iff : missOf bytes indices panes ray .answer ≡ blocked ↔ ((p : ℕ) × Blocks lt far (ray .tmax) missReports p)
+    pub blocked-iff : missOf bytes indices panes ray .answer ≡ blocked ↔ ((p : ℕ) × Blocks lt entersAt (ray .tmax) missReports p)
     -- Missed: none is.
-    pub missed-iff : missOf bytes indices panes ray .answer ≡ missed ↔ NoneBelow lt far (ray .tmax) missReports
+    pub missed-iff : missOf bytes indices panes ray .answer ≡ missed ↔ NoneBelow lt entersAt (ray .tmax) missReports
     -- It reports what closest does, up to the first below the reach. So it misses exactly if closest has no hit, and
     -- is blocked exactly if closest has one.
-    pub as-closest : missReports ≡ upTo (λ p. lt (far p) (ray .tmax)) closestReports
+    pub as-closest : missReports ≡ upTo (λ p. lt (entersAt p) (ray .tmax)) closestReports
     pub missed-no-hit : missOf bytes indices panes ray .answer ≡ missed ↔ closestOf bytes indices panes ray .answer ≡ noHit
     pub blocked-hit : missOf bytes indices panes ray .answer ≡ blocked
         ↔ ((p : ℕ) × (t : Float) × (closestOf bytes indices panes ray .answer ≡ hitAt p t))

@@ -10,6 +10,7 @@ use Rattle.walk.specs.Reports.{upTo, NoneBelow, Nearest, Blocks}
 
 -- ---- lists
 
+-- what holds of every member holds of one
 all-at : {A : Type 0} (P : A → Type 0) (b : List A) (x : A) (a : List A) → All P (b ++ (x ∷ a)) → P x
 all-at P [] x a h = h .0
 all-at P (y ∷ b) x a h = all-at P b x a (h .1)
@@ -22,7 +23,7 @@ meet P Q [] (y ∷ c) p q a e h s t = inr (inr (subst Q (let z : y ≡ p = cc in
 meet P Q (x ∷ b) [] p q a e h s t = inr (inl (subst P (let z : x ≡ q = cc in z) (s .0)))
 meet P Q (x ∷ b) (y ∷ c) p q a e h s t = meet P Q b c p q a e (cc) (s .1) (t .1)
 
--- what is cut off matters only where the tests do
+-- two tests that agree on every member cut a list alike
 pub up-to-same : (f g : ℕ → Bool) (l : List ℕ) → All (λ q. f q ≡ g q) l → upTo f l ≡ upTo g l
 up-to-same f g [] h = refl
 up-to-same f g (p ∷ l) h = rw (h .0, up-to-same f g l (h .1))
@@ -52,7 +53,7 @@ pub record Order {d : Type 0} (less : d → d → Bool) (Number : d → Type 0) 
   pub between : (x y z : d) → Number z → less x y ≡ true → less x z ≡ false → less z y ≡ true
 
 module _ {d : Type 0} (less : d → d → Bool) {Number : d → Type 0} (order : Order less Number) where
-  -- nothing below x is above what x is not below
+  -- where y is below z and x is not, x is not below y
   not-below : (x y z : d) → less y z ≡ true → less x z ≡ false → less x y ≡ false
   not-below x y z e f = go (less x y) refl
     where
@@ -60,6 +61,7 @@ module _ {d : Type 0} (less : d → d → Bool) {Number : d → Type 0} (order :
       go false h = h
       go true h = both (order .through x y z h e) f
 
+  -- where x is below z and the number y is not, x is below y
   is-below : (x y z : d) → Number y → less x z ≡ true → less y z ≡ false → less x y ≡ true
   is-below x y z n e f = go (less x y) refl
     where
@@ -96,7 +98,7 @@ module _ {d : Type 0} (less : d → d → Bool) (distanceOf : ℕ → d) where
     pub front-nearest : less (distanceOf p) reach ≡ true → NoneBelow less distanceOf (distanceOf p) l → Nearest less distanceOf reach (p ∷ l) p
     front-nearest e h = record { before = []; after = l; met = refl; below = e; none-nearer = (order .self (distanceOf p), h); farther = tt }
 
-    -- else the nearest of those is that is nearer
+    -- else the nearest of those nearer than it is
     pub nearer-later : less (distanceOf p) reach ≡ true → (q : ℕ) → Nearest less distanceOf (distanceOf p) l q
         → Nearest less distanceOf reach (p ∷ l) q
     nearer-later e q N = record {

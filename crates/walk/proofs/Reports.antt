@@ -8,7 +8,7 @@ use lib.ListN.{length, length-append}
 use Rattle.walk.specs.Tests.{Tests}
 use Rattle.walk.specs.Step.{Walker, Answer, tested, position, done, refused, Stepped, stepOf, tellOf}
 use Rattle.walk.specs.Calls.{All, Op, step, tell, Run, runOps, reportOf, reported}
-use Rattle.walk.specs.Queries.{Reaction, Outcome, toldAll, follow, query, callsAfter, calls}
+use Rattle.walk.specs.Queries.{Reaction, toldAll, follow, query, callsAfter, calls}
 use Rattle.walk.specs.Queries.{Pane, distance, faulty, Found, none, hit, closest, miss, lower, lowerAt, blockAt}
 use Rattle.walk.specs.Reports.{testOf, testedNodes, toldRay, reports, Notes, upTo}
 use Rattle.walk.proofs.Cases.{step-cases}

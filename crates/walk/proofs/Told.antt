@@ -3,7 +3,7 @@
 use mathlib.Core.Bool.{Bool, true}
 use mathlib.Core.List.{List, [], _∷_, _++_}
 use mathlib.Core.Logic.{_⊎_, inl, inr}
-use mathlib.Core.Path.{_≡_, refl, sym, ap, subst, _∙_}
+use mathlib.Core.Path.{_≡_, refl, sym, ap, subst}
 use Prim.Native.Nat.{ℕ, _+_, _<_}
 use native.Mathlib.Omega.{arith}
 use lib.Bits.{bitXor}
@@ -12,7 +12,7 @@ use Rattle.walk.specs.Tests.{Tests}
 use Rattle.walk.specs.Step.{Walker, Answer, tested, position, done, refused, fresh, Stepped, push, stepOf, tellOf}
 use Rattle.walk.specs.Calls.{All, Op, step, tell, runOps, reportOf, reported}
 use Rattle.walk.specs.Listing.{In, flat, Reached, first, child, Passed}
-use Rattle.walk.specs.Slots.{falling, Slots, childAt, passedChild, passedPosition, positionsOf, childrenOf, testsOf}
+use Rattle.walk.specs.Slots.{falling, Slots, childAt, passedChild, passedPosition, testsOf}
 use Rattle.walk.proofs.Lists.{in-head, in-tail, in-none, in-one, in-right, in-append}
 use Rattle.walk.proofs.Dues.{flats, push-flats, report-hand, test-flat}
 use Rattle.walk.proofs.Cases.{step-cases}
