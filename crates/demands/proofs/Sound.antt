@@ -1,9 +1,9 @@
 -- A converted record is sound, with conversion's deepest level.
 use mathlib.Core.List.{List, []}
 use mathlib.Core.Path.{_≡_, refl, sym, ap, _∙_, subst}
-use Prim.Native.Nat.{ℕ, _+_, _%_, _<_, _≤_}
+use Prim.Native.Nat.{ℕ, _+_, _<_, _≤_}
 use native.Mathlib.Omega.{arith}
-use lib.ListN.{length, getD}
+use lib.ListN.{length}
 use Rattle.lists.proofs.Perms.{perm-length}
 use Rattle.soundness.proofs.Once.{empty-sound}
 use Rattle.wide.specs.Wide.{Wide}
@@ -20,16 +20,8 @@ use Rattle.record_laws.proofs.ReadBack.{record-length, record-count}
 use Rattle.record_laws.proofs.ShapeRead.{record-reads}
 use Rattle.record_laws.proofs.Rule.{record-rule}
 use Rattle.record_laws.proofs.Bytes.{record-bytes}
+use Rattle.demands.specs.Walks.{Good}
 use Rattle.demands.proofs.Writes.{Writes, nothing, written}
-
--- a sound record of n positions with deepest level d, of sizes that the record check takes; each member is a byte, as in any slice of bytes
-pub record Good (bytes : List ℕ) (n d : ℕ) : Type 0 where
-  pub sound : SoundRecord bytes n
-  pub deepest : DeepestLevel bytes n d
-  pub layout : length bytes % 80 ≡ 0
-  pub nodes : nodeCount bytes ≤ 65535
-  pub positions : n ≤ 65536
-  pub are-bytes : (i : ℕ) → getD bytes i 0 < 256
 
 good-none : Good [] 0 0
 unfolding shapeAt

@@ -85,7 +85,8 @@ pub record Examples : Type 0 where
       runAt three beams (step 4 ∷ step 0 ∷ step 65537 ∷ step 4 ∷ step 4 ∷ tell zero+ ∷ step 4 ∷ step 4 ∷ step 4 ∷ step 4 ∷ step 4 ∷ []) (freshWords along) .answers
       ≡ tested 0 ∷ refused 10 ∷ refused 2 ∷ position 0 ∷ tested 1 ∷ position 2 ∷ position 1 ∷ tested 2 ∷ done ∷ done ∷ []
   -- without nodes a position in hand is reported if it is below the count, and a group other than the first node is refused
-  pub position-without-nodes : runAt [] beams (step 0 ∷ step 5 ∷ []) (holds (record { base = 0; bits = 1 }) noGroup) .answers ≡ refused 10 ∷ position 0 ∷ []
+  pub position-without-nodes :
+      runAt [] beams (step 0 ∷ step 5 ∷ []) (holds (record { base = 0; bits = 1 }) noGroup) .answers ≡ refused 10 ∷ position 0 ∷ []
   pub group-without-nodes : runAt [] beams (step 5 ∷ []) (holds noGroup (record { base = 1; bits = 0x8000_0000 })) .answers ≡ refused 10 ∷ []
   -- a walker that was done on a record without nodes is done on one with nodes too
   pub done-elsewhere : runAt three beams (step 4 ∷ step 4 ∷ []) (runAt [] beams (step 0 ∷ []) (freshWords along) .walker) .answers ≡ done ∷ done ∷ []
