@@ -19,10 +19,11 @@ use Rattle.bvh2_to_cwbvh.specs.Conversion.{refused, nodesOf}
 use Rattle.bvh2_to_cwbvh.proofs.Answers as A
 use Rattle.demands.specs.Call.{Call, outcome, Answers, leafCount, recordAt, listAt, leafPositions, deepestLevel, Convertible}
 use Rattle.demands.specs.Children.{childCount, leafChildren}
+use Rattle.demands.specs.Walks.{Good}
 use Rattle.demands.proofs.Words.{all-words}
 use Rattle.demands.proofs.Writes.{Writes, nothing, written}
 use Rattle.demands.proofs.Answered.{writes, leaf-count, leaf-each}
-use Rattle.demands.proofs.Sound.{Good, good, good-check}
+use Rattle.demands.proofs.Sound.{good, good-check}
 use Rattle.demands.proofs.Children.{at-most-eight, children-are}
 
 -- ---- the conversion answers

@@ -8,18 +8,19 @@ use native.Mathlib.Decide.{decLt}
 use lib.ListN.{length}
 use borrow.Author.Tests.{le-leb, lt-leb, le-ltb}
 use Rattle.lists.specs.Counts.{count}
-use Rattle.lists.specs.Sums.{sum, sumOver}
+use Rattle.lists.specs.Sums.{sumOver}
 use Rattle.lists.proofs.Tells.{clash}
-use Rattle.soundness.specs.Shape.{Shape, holders}
+use Rattle.soundness.specs.Shape.{Shape}
 use Rattle.soundness.specs.Sound.{Sound}
 use Rattle.walk.specs.Tests.{Tests}
-use Rattle.walk.specs.Step.{Walker, done, fresh, Stepped, Due, report, test, nothing, dueOnStack, dueOf, sizesFit, forgedWalker, noRoom, badPosition, badNode, stay, afterReport, afterTest, stepOf, tellOf}
+use Rattle.walk.specs.Step.{Walker, done, fresh, Stepped, Due, report, test, nothing, dueOnStack, dueOf, sizesFit, forgedWalker, noRoom}
+use Rattle.walk.specs.Step.{badNode, stay, emptied, afterReport, afterTest, stepOf, tellOf}
 use Rattle.walk.specs.Calls.{All, Op, step, tell, runOps, Answered, Brings}
 use Rattle.walk.specs.Listing.{In}
 use Rattle.walk.specs.Lawful.{Lawful}
 use Rattle.walk.proofs.Lists.{in-head, in-tail, in-none, in-one}
 use Rattle.walk.proofs.Dues.{report-hand, test-hand, test-sum, no-hand}
-use Rattle.walk.proofs.Cases.{Refusal, too-many, forgery, no-position, no-node, Visits, Reports, step-cases}
+use Rattle.walk.proofs.Cases.{Refusal, too-many, forgery, no-position, no-node, Visits, Reports, step-cases, nothing-due-done}
 use Rattle.walk.proofs.Subtrees.{total, total-is, child-rises, held-ends, total-ones}
 use Rattle.walk.proofs.Once.{left, left-falls, children-part}
 use Rattle.walk.proofs.Levels.{Waiting, Levels, at-node, test-levels, fresh-levels, waiting-few}
@@ -72,27 +73,13 @@ module _ {s d : Type 0} (S : Shape) (Rule : ℕ → Type 0) (T : Tests s d) (L :
   not-forged w v =
       rw (v .accepted, le-ltb 32 (length (w .stack)) (omega (arith, few-groups w v)), le-ltb (S .nodes) (w .tests) (omega (arith, v .few)))
 
-  -- a record with a position has a node
-  pub some-node : (p : ℕ) → p < S .positions → 0 < S .nodes
-  unfolding sum
-  some-node p h = go (decLt 0 (S .nodes))
-    where
-      go : Dec (0 < S .nodes) → 0 < S .nodes
-      go (yes k) = k
-      go (no k) =
-          let e : S .nodes ≡ 0 = omega arith in
-          let z : holders S (S .nodes) p ≡ 1 = sound .filled p h in
-          let y : holders S (S .nodes) p ≡ 0 = rw e in
-          absurd (omega arith)
-
   pub no-refusal : S .positions ≤ 65536 → S .nodes ≤ 65535 → (w : Walker s) → Valid w → Refusal (S .nodes) T (S .positions) w → ⊥
   no-refusal hp hn w v (too-many e) = clash (sym e ∙ fits (S .nodes) (S .positions) hp hn)
   no-refusal hp hn w v (forgery e) = clash (sym (not-forged w v) ∙ e)
   no-refusal hp hn w v (no-position p ps e b) =
       let h = report-hand (w .positions) (w .group) (w .stack) p ps e in
       let k : p < S .positions = v .positions p (subst (λ (l : List ℕ). In p l) (sym h) (in-head p ps)) in
-      let z : badPosition (S .nodes) (S .positions) p ≡ false = rw (lt-leb (S .nodes) 0 (some-node p k), lt-leb (S .positions) p k) in
-      clash (sym z ∙ b)
+      clash (sym (lt-leb (S .positions) p k) ∙ b)
   no-refusal hp hn w v (no-node c r st e b) =
       let k = node-exists w v c r st e in
       let a = at-node S Rule T L sound w c r st (v .levels) e in
@@ -139,15 +126,38 @@ module _ {s d : Type 0} (S : Shape) (Rule : ℕ → Type 0) (T : Tests s d) (L :
         few = v .few;
       }
 
+  empty-valid : (w : Walker s) → Valid w → Valid (emptied w .walker)
+  unfolding sumOver
+  empty-valid w v =
+      record {
+        accepted = v .accepted;
+        levels = record { in-hand = tt; waiting = v .levels .waiting };
+        positions = v .positions;
+        nodes = λ c i. in-none c i;
+        few = omega (arith, v .few);
+      }
+
   pub step-valid : (n : ℕ) (w : Walker s) → Valid w → Valid (stepOf (S .nodes) T n w .walker)
   step-valid n w v =
       step-cases (S .nodes) T n w (λ (r : Stepped s). Valid (r .walker))
-      (record { refuses = λ e c. v; ends = λ f o. v; reports = λ p ps h. report-valid n w p ps v h; visits = λ c r st h. test-valid n w c r st v h })
+      (record {
+        refuses = λ e c. v;
+        ends = λ f e. v;
+        empties = λ f z o. empty-valid w v;
+        reports = λ p ps h. report-valid n w p ps v h;
+        visits = λ c r st h. test-valid n w c r st v h;
+      })
 
   pub step-answered : S .positions ≤ 65536 → S .nodes ≤ 65535 → (w : Walker s) → Valid w → Answered (stepOf (S .nodes) T (S .positions) w .answer)
   step-answered hp hn w v =
       step-cases (S .nodes) T (S .positions) w (λ (r : Stepped s). Answered (r .answer))
-      (record { refuses = λ e c. absurd (no-refusal hp hn w v c); ends = λ f o. tt; reports = λ p ps h. tt; visits = λ c r st h. tt })
+      (record {
+        refuses = λ e c. absurd (no-refusal hp hn w v c);
+        ends = λ f e. tt;
+        empties = λ f z o. tt;
+        reports = λ p ps h. tt;
+        visits = λ c r st h. tt;
+      })
 
   pub tell-valid : (x : d) (w : Walker s) → Valid w → Valid (tellOf T x w)
   tell-valid x w v =
@@ -182,19 +192,31 @@ module _ {s d : Type 0} (S : Shape) (Rule : ℕ → Type 0) (T : Tests s d) (L :
   run-answered hp hn (tell x ∷ l) w a v = run-answered hp hn l (tellOf T x w) (a .1) (tell-valid x w v)
 
 -- without nodes a walker just begun is done without a test
-pub empty-step : {s d : Type 0} (T : Tests s d) (n : ℕ) (ray : s) → n ≤ 65536 → T .forged ray ≡ false → stepOf 0 T n (fresh ray) ≡ stay (fresh ray) done
+pub empty-step : {s d : Type 0} (T : Tests s d) (n : ℕ) (ray : s) → n ≤ 65536 → T .forged ray ≡ false → stepOf 0 T n (fresh ray) ≡ emptied (fresh ray)
 unfolding stepOf
 empty-step T n ray h f = rw (le-leb n 65536 h, f)
 
 module _ {s d : Type 0} (S : Shape) (Rule : ℕ → Type 0) (T : Tests s d) (L : Lawful S Rule T) (sound : Sound S Rule) where
+  -- a walker that holds nothing is done at every step
+  over-answered : S .nodes ≡ 0 → S .positions ≤ 65536 → (l : List (Op d)) (ray : s) → T .forged ray ≡ false → All (Brings (S .positions)) l
+      → All Answered (runOps (S .nodes) T l (emptied (fresh ray) .walker) .answers)
+  unfolding runOps
+  over-answered e h [] ray f a = tt
+  over-answered e h (step n ∷ l) ray f a =
+      let z : stepOf (S .nodes) T n (emptied (fresh ray) .walker) ≡ stay (emptied (fresh ray) .walker) done =
+      nothing-due-done (S .nodes) T n (emptied (fresh ray) .walker) refl (fits (S .nodes) n (omega (arith, a .0)) (omega arith))
+      (rw (f, le-ltb (S .nodes) 0 (omega arith))) in
+      rw z (tt, over-answered e h l ray f (a .1))
+  over-answered e h (tell x ∷ l) ray f a = over-answered e h l (T .told x ray) (L .told-accepted x ray f) (a .1)
+
   empty-answered : S .nodes ≡ 0 → S .positions ≤ 65536 → (l : List (Op d)) (ray : s) → T .forged ray ≡ false → All (Brings (S .positions)) l
       → All Answered (runOps (S .nodes) T l (fresh ray) .answers)
   unfolding runOps
   empty-answered e h [] ray f a = tt
   empty-answered e h (step n ∷ l) ray f a =
       let k : n ≤ 65536 = omega (arith, a .0) in
-      let z : stepOf (S .nodes) T n (fresh ray) ≡ stay (fresh ray) done = rw e (empty-step T n ray k f) in
-      rw z (tt, empty-answered e h l ray f (a .1))
+      let z : stepOf (S .nodes) T n (fresh ray) ≡ emptied (fresh ray) = rw e (empty-step T n ray k f) in
+      rw z (tt, over-answered e h l ray f (a .1))
   empty-answered e h (tell x ∷ l) ray f a = empty-answered e h l (T .told x ray) (L .told-accepted x ray f) (a .1)
 
   -- no step of any list that brings the record's own count is refused

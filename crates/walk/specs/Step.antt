@@ -68,9 +68,9 @@ abbrev pub noRoom : List ℕ → List (List ℕ) → Bool
 noRoom [] st = false
 noRoom (x ∷ r) st = leb 32 (length st)
 
--- position p does not exist
-abbrev pub badPosition : ℕ → ℕ → ℕ → Bool
-badPosition m n p = leb m 0 || leb n p
+-- position p is none of the n
+abbrev pub badPosition : ℕ → ℕ → Bool
+badPosition n p = leb n p
 
 -- node c may not be tested: it leaves a 33rd group, or does not exist, or all tests were made, or it breaks the rule
 abbrev pub badNode : {s d : Type 0} → ℕ → Tests s d → ℕ → ℕ → ℕ → List ℕ → List (List ℕ) → Bool
@@ -90,6 +90,10 @@ onlyFirst (p ∷ ps) g st = false
 -- the walker stays as it is
 abbrev pub stay : {s : Type 0} → Walker s → Answer → Stepped s
 stay w a = record { walker = w; answer = a }
+
+-- the group in hand is emptied, and the walk is done
+abbrev pub emptied : {s : Type 0} → Walker s → Stepped s
+emptied w = record { walker = record { ray = w .ray; tests = w .tests; positions = w .positions; group = []; stack = w .stack }; answer = done }
 
 -- position p was reported
 abbrev pub afterReport : {s : Type 0} → Walker s → ℕ → List ℕ → Stepped s
@@ -111,16 +115,16 @@ afterTest T w c r st =
     }
 
 abbrev pub advance : {s d : Type 0} → ℕ → Tests s d → ℕ → Walker s → Due → Stepped s
-advance m T n w (report p ps) = cond (badPosition m n p) (stay w (refused 10)) (afterReport w p ps)
+advance m T n w (report p ps) = cond (badPosition n p) (stay w (refused 10)) (afterReport w p ps)
 advance m T n w (test c r st) = cond (badNode m T n (w .tests) c r st) (stay w (refused 10)) (afterTest T w c r st)
 advance m T n w nothing = stay w done
 
--- One step on a record of m nodes, taken to have n positions. Without nodes a walker that holds only the first is done.
+-- One step on a record of m nodes, taken to have n positions. Without nodes a walker that holds only the first is done, and holds nothing then.
 unfoldable pub stepOf : {s d : Type 0} → ℕ → Tests s d → ℕ → Walker s → Stepped s
 stepOf m T n w =
     cond (sizesFit m n)
     (cond (forgedWalker m T w) (stay w (refused 10))
-    (cond (leb m 0 && onlyFirst (w .positions) (w .group) (w .stack)) (stay w done)
+    (cond (leb m 0 && onlyFirst (w .positions) (w .group) (w .stack)) (emptied w)
     (advance m T n w (dueOf (w .positions) (w .group) (w .stack)))))
     (stay w (refused 2))
 
