@@ -5,6 +5,7 @@ pub mod Answered
 pub mod Sound
 pub mod Children
 pub mod Fields
+pub mod Limit
 pub mod Demands
 pub mod Refusals
 pub mod Listed
