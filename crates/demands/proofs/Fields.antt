@@ -10,7 +10,7 @@ use Rattle.node.specs.Node.{nodeAt}
 use Rattle.wide.specs.Wide.{Slots, end, empty, leaf, inner, Wide}
 use Rattle.wide.specs.Shape as shape
 use Rattle.record.specs.Record.{innerMask, nodeOf, recordBytes}
-use Rattle.record_laws.specs.Converted.{Converted}
+use Rattle.record_laws.specs.Writable.{Writable}
 use Rattle.record_laws.proofs.ReadBack.{record-count}
 use Rattle.record_laws.proofs.ShapeRead.{node-read}
 use Rattle.record_laws.proofs.Range.{in-range}
@@ -31,7 +31,7 @@ mask-lt (suc w) (empty s) i = omega (arith, moved i w, mask-lt w s (i + 1), twic
 mask-lt (suc w) (leaf b ps s) i = omega (arith, moved i w, mask-lt w s (i + 1), twice i)
 mask-lt (suc w) (inner b t s) i = omega (arith, moved i w, mask-lt w s (i + 1), twice i)
 
-wide-fit : (t : Wide) → Converted t → FieldsFit (recordBytes t)
+wide-fit : (t : Wide) → Writable t → FieldsFit (recordBytes t)
 unfolding nodeOf
 wide-fit t h = record {
   imask = λ v l.

@@ -3,6 +3,7 @@ pub mod Writes
 pub mod Boxes
 pub mod Answered
 pub mod Sound
+pub mod Levels
 pub mod Children
 pub mod Fields
 pub mod Limit

@@ -7,28 +7,22 @@ use Prim.Native.Nat.{ℕ, zero, suc, _+_, _*_, _≤_, _<_}
 use native.Mathlib.Omega.{arith}
 use lib.Dec.{leb}
 use lib.Ieee.{Float}
-use lib.ListN.{length, getD, length-map}
+use lib.ListN.{length}
 use borrow.Author.Tests.{le-leb}
 use Rattle.lists.specs.Splice.{splice}
 use Rattle.lists.proofs.Tells.{clash}
 use Rattle.bvh2.specs.FirstCause.{sizesCause, structureCause}
 use Rattle.bvh2.proofs.Decoded.{accepted-decoded}
-use Rattle.wide.specs.Layout.{nodes}
-use Rattle.wide.specs.Shape.{nodeAt}
-use Rattle.wide.proofs.Sizes.{index-length}
-use Rattle.wide_tree.proofs.Ordered.{index-count, node-count}
-use Rattle.node.specs.Node.{nodeBytes}
-use Rattle.node.proofs.RoundTrip.{length-node}
-use Rattle.record.specs.Record.{nodeOf, recordBytes}
-use Rattle.record.proofs.Joined.{joined-length}
+use Rattle.wide_tree.proofs.Ordered.{node-count}
 use Rattle.tables.specs.Tables.{Prepared, tableSize, recordSize, hasRoom, prepareCause}
 use Rattle.tables.proofs.Room.{room-list}
 use Rattle.tables.proofs.Causes.{sizes-most, structure-range}
 use Rattle.tables.proofs.Prepared.{prepared}
-use Rattle.bvh2_to_cwbvh.specs.Conversion.{wideAt, recordOf, nodesOf, levelOf, positionsOf, listOf, converted, refused, levelCause, conversionCause, answerFor, outputAfter, conversionOf}
+use Rattle.bvh2_to_cwbvh.specs.Conversion.{recordOf, nodesOf, levelOf, listOf, converted, refused, levelCause, conversionCause, answerFor, outputAfter, conversionOf}
 use Rattle.bvh2_to_cwbvh.specs.declared.Conversion.{Conversion}
 use Rattle.bvh2_to_cwbvh.specs.declared.Conversion.the-variants.{Converted, Refused}
 use Rattle.bvh2_to_cwbvh.specs.Answer.{answerOf}
+use Rattle.bvh2_to_cwbvh.proofs.Sizes.{bytes-length, list-length}
 use Rattle.show_text.specs.ShowText.{mostLeaves, roomyCause}
 use Rattle.show_text.specs.Room.{Room}
 
@@ -116,27 +110,11 @@ module _ (ws : List ℕ) (limit : ℕ) (ordered : Bool) where
       let t = accepted-decoded ws (suc k) (omega arith) .0 (p .accepted) in
       omega (arith, node-count ordered limit ws (suc k) t (p .small))
 
-  positions-length : (n : ℕ) → roomyCause ws n limit ordered ≡ 0 → length (positionsOf ws n limit ordered) ≡ n
-  unfolding positionsOf
-  positions-length zero none = refl
-  positions-length (suc k) none =
-      let p = parts ws (suc k) limit ordered none in
-      let t = accepted-decoded ws (suc k) (omega arith) .0 (p .accepted) in
-      index-length (wideAt ws limit ordered) ∙ index-count ordered limit ws (suc k) t
-
-  record-length : (n : ℕ) → length (recordOf ws n limit ordered) ≡ 80 * nodesOf ws n limit ordered
-  unfolding recordOf nodesOf recordBytes
-  record-length zero = refl
-  record-length (suc k) =
-      let t = wideAt ws limit ordered in
-      joined-length 80 (λ i. nodeBytes (nodeOf (nodeAt t i))) (λ i. length-node (nodeOf (nodeAt t i))) (nodes t)
-
   sizes : (indices : List ℕ) → length indices ≤ mostLeaves → roomyCause ws (length indices) limit ordered ≡ 0 → Sizes ws indices limit ordered
-  unfolding listOf
   sizes indices few none = record {
     nodes-most = few-nodes (length indices) few none;
-    bytes-length = record-length (length indices);
-    list-length = length-map (positionsOf ws (length indices) limit ordered) (λ p. getD indices p 0) ∙ positions-length (length indices) none;
+    bytes-length = bytes-length ws limit ordered (length indices);
+    list-length = list-length ws limit ordered indices (parts ws (length indices) limit ordered none .accepted);
   }
 
 -- ---- the outcome

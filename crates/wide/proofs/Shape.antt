@@ -13,7 +13,7 @@ use Rattle.lists.proofs.Counts.{count-append}
 use Rattle.lists.proofs.Sums.{sum-cong, sum-front, sum-renumbered}
 use Rattle.soundness.specs.Range.{inRange}
 use Rattle.soundness.specs.Shape.{Shape, Child, parents, held, holders, Level, Placed}
-use Rattle.soundness.specs.Sound.{Sound, Deepest}
+use Rattle.soundness.specs.Sound.{Sound, Deepest, OneLevel}
 use Rattle.soundness.proofs.Range.{in-range, before-range, range-most, range-none, range-split, count-range}
 use Rattle.soundness.proofs.Once.{one-level}
 use Rattle.wide.specs.Wide.{Slots, end, empty, leaf, inner, Wide}
@@ -162,14 +162,21 @@ module _ (S : Shape) where
     reads-others v z l = reads-parents v ∙ in-range v 1 (innerChildren (t .slots) + nodesBelow (t .slots)) z (omega (arith, h .nodes))
 
     -- a node has the level of its entry and no other
-    pub reads-level : (v l : ℕ) → v < S .nodes → Level S l v → l ≤ level t
-    reads-level v l b a =
-        let r = find-node (λ e. Level S (e .level) (e .number) × (e .level ≤ level t)) t v (omega (arith, h .nodes)) (each-both (λ e. Level S (e .level) (e .number)) (λ e. e .level ≤ level t) (layout t) reads-levels (level-most t)) in
-        let e = one-level S reads-first most l (r .0 .level) v b a (subst (λ (x : ℕ). Level S (r .0 .level) x) (r .1) (r .2 .0)) in
-        omega (arith, r .2 .1)
+    reads-entry-level : (v : ℕ) → v < S .nodes → (o : OneLevel S v) × (o .level ≤ level t)
+    reads-entry-level v b =
+        let k = each-both (λ e. Level S (e .level) (e .number)) (λ e. e .level ≤ level t) (layout t) reads-levels (level-most t) in
+        let r = find-node (λ e. Level S (e .level) (e .number) × (e .level ≤ level t)) t v (omega (arith, h .nodes)) k in
+        let a : Level S (r .0 .level) v = subst (λ (x : ℕ). Level S (r .0 .level) x) (r .1) (r .2 .0) in
+        (record { level = r .0 .level; has = a; only = λ l c. one-level S reads-first most l (r .0 .level) v b c a }, r .2 .1)
       where
         most : (u : ℕ) → u < S .nodes → parents S (S .nodes) u ≤ 1
         most u k = omega (arith, reads-parents u, range-most u 1 (innerChildren (t .slots) + nodesBelow (t .slots)))
+
+    pub reads-one-level : (v : ℕ) → v < S .nodes → OneLevel S v
+    reads-one-level v b = reads-entry-level v b .0
+
+    pub reads-level : (v l : ℕ) → v < S .nodes → Level S l v → l ≤ level t
+    reads-level v l b a = let r = reads-entry-level v b in omega (arith, r .0 .only l a, r .1)
 
     -- A record with the layout's shape is sound if its nodes meet the rule and the wide tree's level is at most 31,
     pub reads-sound : (Rule : ℕ → Type 0) → ((i : ℕ) → i < S .nodes → Rule i) → level t ≤ 31 → Sound S Rule
