@@ -2,12 +2,11 @@
 use mathlib.Core.Bool.{Bool}
 use mathlib.Core.List.{List, [], Perm, Perm·refl}
 use mathlib.Core.Path.{_≡_, refl, sym, ap, _∙_, subst}
-use Prim.Native.Nat.{ℕ, zero, suc, _+_, _*_, _≤_, _<_}
+use Prim.Native.Nat.{ℕ, zero, suc, _*_, _≤_, _<_}
 use native.Mathlib.Omega.{arith}
-use lib.ListN.{length, take, drop}
-use lib.Seq.{take-at}
+use lib.ListN.{length, take}
 use Rattle.lists.specs.Counts.{upto}
-use Rattle.lists.specs.Splice.{splice}
+use Rattle.lists.proofs.Splice.{splice-taken}
 use Rattle.bvh2.specs.Tree.{positions}
 use Rattle.bvh2.specs.Words.{treeOf}
 use Rattle.bvh2.specs.Decoded.{Decoded}
@@ -26,11 +25,6 @@ use Rattle.bvh2_to_cwbvh.proofs.Sizes.{bytes-length, list-length}
 use Rattle.demands.specs.Call.{Call, Answers, leafCount, recordAt, listAt, leafPositions, definedRecord, definedList, deepestLevel, Convertible}
 use Rattle.demands.proofs.Writes.{Writes, nothing, written}
 use Rattle.demands.proofs.Boxes.{node-boxes}
-
--- what stands before the rest of a slice
-taken : (s b : List ℕ) (k : ℕ) → length b ≡ k → take k (splice s 0 b) ≡ b
-unfolding splice
-taken s b k e = take-at b (drop (0 + length b) s) k e
 
 module _ (ws : List ℕ) (limit : ℕ) (ordered : Bool) (n : ℕ) (h : Decoded ws n) (small : limit ≤ 3) where
   wide : Writable (wideAt ws limit ordered)
@@ -71,13 +65,13 @@ pub record-is : (c : Call) (m d : ℕ) → Answers c m d → recordAt c m ≡ de
 record-is c m d h =
     let r = answered (c .words) (c .indices) (c .limit) (c .ordered) (c .decisions) (c .costs) (c .bytes) (c .list) m d h in
     let e = bytes-length (c .words) (c .limit) (c .ordered) (leafCount c) in
-    ap (take (80 * m)) (r .record-is) ∙ taken (c .bytes) (definedRecord c) (80 * m) (omega (arith, e, r .nodes))
+    ap (take (80 * m)) (r .record-is) ∙ splice-taken (c .bytes) (definedRecord c) (80 * m) (omega (arith, e, r .nodes))
 
 pub list-is : (c : Call) (m d : ℕ) → Answers c m d → listAt c ≡ definedList c
 list-is c m d h =
     let r = answered (c .words) (c .indices) (c .limit) (c .ordered) (c .decisions) (c .costs) (c .bytes) (c .list) m d h in
     ap (take (leafCount c)) (r .list-is)
-    ∙ taken (c .list) (definedList c) (leafCount c) (list-length (c .words) (c .limit) (c .ordered) (c .indices) (r .none .accepted))
+    ∙ splice-taken (c .list) (definedList c) (leafCount c) (list-length (c .words) (c .limit) (c .ordered) (c .indices) (r .none .accepted))
 
 pub level-low : (c : Call) (m d : ℕ) → Answers c m d → d ≤ 31
 level-low c m d h =

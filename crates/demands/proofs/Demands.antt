@@ -12,7 +12,7 @@ use Rattle.lists.proofs.Perms.{counts-perm}
 use Rattle.soundness.specs.Shape.{Child, Holds}
 use Rattle.soundness.specs.Sound.{OneParent, OneHolder}
 use Rattle.wide.specs.Layout.{wordsAt}
-use Rattle.wide.proofs.Demands.{indices-rearranged}
+use Rattle.wide.proofs.Index.{indices-rearranged}
 use Rattle.record_shape.specs.Record.{nodeCount, shapeAt, SoundRecord, DeepestLevel}
 use Rattle.record_shape.specs.Check.{sound, checkOf}
 use Rattle.record_shape.proofs.Tree.{node-parent, first-parent, position-holder, holds-below}
