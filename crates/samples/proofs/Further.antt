@@ -45,7 +45,11 @@ use Rattle.show.specs.Show.{nodeLine, nodeLines, spaced, indicesLine, recordTex
 use Rattle.show_text.specs.ShowText.{causeText, treeText, orderText, leavesText, showText}
 use Rattle.samples.specs.TreeT.{number, indicesT, panesT, bytesT, rayAlong}
 use Rattle.samples.specs.Samples.{ahead}
-use Rattle.samples.specs.Further.{closestIs, missIs, bytesOf, inputT, Further}
+use Rattle.samples.specs.Further.{closestIs, missIs, bytesOf, inputT, textT, orderedTextT, rootWords, Further}
+
+words : rootWords 1 ≡ 0x4000_0006 ∷ 0x8000_0000 ∷ 0x8000_0000 ∷ 0x8000_0000 ∷ 0x8000_0000 ∷ 0x8000_0000 ∷ 0x8000_0000 ∷ []
+unfolding linkOf boxAt readLink table decision bestOf leaves halfArea ofBits ofInt add sub mul lt
+words = refl
 
 closest :
     (closestOf bytesT (1 ∷ 0 ∷ []) panesT ahead ≡ closestIs (hitAt 1 (number 1)) 1)
@@ -74,11 +78,7 @@ unfolding missOf missWalk missFound walked entered entryCause paneOf paneMet pan
     unsignedZero round ofBits ofInt add sub mul div lt le eq isNan
 miss = (refl, refl, refl, refl)
 
-printed :
-    (showText (inputT 0)
-    ≡ chars "0 0000000000000000000000007978780001000000000000002021000000000000008000000000000040c00000000000000000000000000000808000000000000000000000000000008080000000000000\nindices 0 1\n")
-    × (showText (inputT 1)
-    ≡ chars "0 0000000000000000000000007978780001000000000000002000000021000000000000008000000040000000c00000000000000000000000800000008000000000000000000000008000000080000000\nindices 0 1\n")
+printed : (showText (inputT 0) ≡ textT) × (showText (inputT 1) ≡ orderedTextT)
 unfolding showText leavesText orderText treeText causeText inputWords leAt sumOf conversionCause prepareCause sizesCause structureCause hasRoom
     recordSize levelCause levelOf recordOf nodesOf positionsOf listOf linkOf boxAt readLink isInside isPosition isWhole eachOnce isTree allBelow
     same count labels positions boxOf leaves inBounds boundedVec inOrder acceptedBox halfArea centerOf bestOf decision table order.inOrder
@@ -101,6 +101,7 @@ printed-else = (refl, refl, refl, refl, refl, refl)
 
 pub further : Further
 further = record {
+  words-of-T = words;
   by-index = closest .0;
   tie = closest .1;
   at-reach = closest .2;

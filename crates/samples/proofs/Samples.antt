@@ -43,7 +43,8 @@ use Rattle.any_hit.specs.AnyHit.{listed, fitted, walked, walkOf, anyHitOf, list
 use Rattle.wide.specs.Shape.{nodeAt}
 use Rattle.record.specs.Record.{metas, innerMask, gridBox, gridBoxes, nodeOf, joined, recordBytes}
 use Rattle.tables.specs.Tables.{recordSize, hasRoom, prepareCause}
-use Rattle.bvh2_to_cwbvh.specs.Conversion.{converted, refused, recordOf, nodesOf, levelOf, positionsOf, listOf, levelCause, conversionCause, answerFor, conversionOf}
+use Rattle.bvh2_to_cwbvh.specs.Conversion.{converted, refused, recordOf, nodesOf, levelOf, positionsOf, listOf}
+use Rattle.bvh2_to_cwbvh.specs.Conversion.{levelCause, conversionCause, answerFor, conversionOf}
 use Rattle.samples.specs.TreeT.{number, wordsT, indicesT, panesT, bytesT}
 use Rattle.samples.specs.Samples.{nextAbove, extentByte, convert, ahead, beside, rootWord, rootCost, Samples}
 

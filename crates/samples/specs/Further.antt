@@ -1,10 +1,12 @@
--- Further samples over T's record: corners of closest and miss, and what `showrecord` prints (01, "Walking"; "Causes of refusal"; "Samples").
--- `proofs/Further.antt` computes them.
+-- Further samples over T (01, "Walking"; "Causes of refusal"; "Samples"): its decision words, corners of closest and miss, and what `showrecord`
+-- prints. `proofs/Further.antt` computes them.
 use mathlib.Core.Path.{_≡_}
-use mathlib.Core.List.{List, [], _∷_, _++_}
+use mathlib.Core.List.{List, [], _∷_, _++_, map}
 use Prim.Native.Nat.{ℕ}
 use lib.Ieee.{nan}
 use lib.ListN.{replicate}
+use Rattle.bvh2.specs.Words.{treeOf}
+use Rattle.cost.specs.Table.{wordOf}
 use Rattle.node.specs.Bytes.{bytes}
 use Rattle.text.specs.Text.{chars}
 use Rattle.closest.specs.Panes.{Result, ClosestAnswer, hitAt, noHit, refusedClosest, MissAnswer, missed, blocked, refusedMiss, closestOf, missOf}
@@ -27,7 +29,20 @@ bytesOf (w ∷ ws) = bytes 4 w ++ bytesOf ws
 abbrev pub inputT : ℕ → List ℕ
 inputT order = bytesOf (2 ∷ 3 ∷ order ∷ (wordsT ++ indicesT))
 
+-- what it prints of T in order 0, and in order 1, where B stands in slot 4
+abbrev pub textT : List ℕ
+textT = chars "0 0000000000000000000000007978780001000000000000002021000000000000008000000000000040c00000000000000000000000000000808000000000000000000000000000008080000000000000\nindices 0 1\n"
+
+abbrev pub orderedTextT : List ℕ
+orderedTextT = chars "0 0000000000000000000000007978780001000000000000002000000021000000000000008000000040000000c00000000000000000000000800000008000000000000000000000008000000080000000\nindices 0 1\n"
+
+-- the decision words of T's root, entry by entry
+abbrev pub rootWords : ℕ → List ℕ
+rootWords limit = map (wordOf limit (treeOf wordsT)) (0 ∷ 1 ∷ 2 ∷ 3 ∷ 4 ∷ 5 ∷ 6 ∷ [])
+
 pub record Further : Type 0 where
+  -- at limit 1 a wide node, and from entry 1 on both leaves in the root's place
+  pub words-of-T : rootWords 1 ≡ 0x4000_0006 ∷ 0x8000_0000 ∷ 0x8000_0000 ∷ 0x8000_0000 ∷ 0x8000_0000 ∷ 0x8000_0000 ∷ 0x8000_0000 ∷ []
   -- the pane is the one that the index word names
   pub by-index : closestOf bytesT (1 ∷ 0 ∷ []) panesT ahead ≡ closestIs (hitAt 1 (number 1)) 1
   -- a tie keeps the first met
@@ -44,11 +59,9 @@ pub record Further : Type 0 where
   pub is-missed : missOf bytesT indicesT panesT (rayAlong (number 0) (number 1)) ≡ missIs missed 1
   pub miss-nothing : missOf [] [] [] ahead ≡ missIs missed 0
   pub miss-no-pane : missOf bytesT (0 ∷ 2 ∷ []) panesT ahead ≡ missIs (refusedMiss 10) 0
-  -- T in order 0, and in order 1, where B stands in slot 4
-  pub printed-T : showText (inputT 0)
-      ≡ chars "0 0000000000000000000000007978780001000000000000002021000000000000008000000000000040c00000000000000000000000000000808000000000000000000000000000008080000000000000\nindices 0 1\n"
-  pub printed-ordered-T : showText (inputT 1)
-      ≡ chars "0 0000000000000000000000007978780001000000000000002000000021000000000000008000000040000000c00000000000000000000000800000008000000000000000000000008000000080000000\nindices 0 1\n"
+  -- T in both orders
+  pub printed-T : showText (inputT 0) ≡ textT
+  pub printed-ordered-T : showText (inputT 1) ≡ orderedTextT
   -- three bytes; n = 257, whatever follows; n = 0 with a byte too many, though the order is 2
   pub printed-short : showText (0 ∷ 0 ∷ 0 ∷ []) ≡ chars "refused 1\n"
   pub printed-many : showText (bytesOf (257 ∷ [])) ≡ chars "refused 2\n"
