@@ -1,4 +1,7 @@
 // Internal: the work of the program `checkrecord`, from the bytes that it reads to the bytes that it prints.
+mod input;
+
+pub use input::answer;
 use validate::Validity;
 ghost use mathlib.Core.Path.{_≡_};
 ghost use Prim.Native.Nat.{_≤_};
