@@ -29,6 +29,17 @@ fn held_length(held: usize, more: usize) -> usize
     LONGEST + 1 + (long - (LONGEST + 1)) % 80
 }
 
+// The length held where a descriptor is at the end of the input; 0 where it is not, since a read failed: what can't be read whole is no whole record.
+fn ended(fd: i32, held: usize) -> usize
+    ensures { λ r. ⌜ r ≤ held ⌝ }
+{
+    let mut next = [0u8; 1];
+    if libc::read(fd, &mut next) == 0 {
+        return held;
+    }
+    0
+}
+
 // Reads the input behind a descriptor to its end, keeps its first bytes, and answers the length that stands for its own.
 fn read_input(fd: i32, bytes: &mut [u8]) -> usize
     requires { ⌜ longest + 80 ≡ length (now bytes) ⌝ }
@@ -36,7 +47,7 @@ fn read_input(fd: i32, bytes: &mut [u8]) -> usize
 {
     let mut held = io::read_full(fd, bytes);
     if held < bytes.len() {
-        return held;
+        return ended(fd, held);
     }
     let mut space = io::large_buffer();
     let rest: &mut [u8] = &mut space;
@@ -44,7 +55,7 @@ fn read_input(fd: i32, bytes: &mut [u8]) -> usize
     while reads < MOST_READS {
         let more = io::read_full(fd, rest);
         if more == 0 {
-            return held;
+            return ended(fd, held);
         }
         held = held_length(held, more);
         reads += 1;

@@ -19,11 +19,14 @@ abbrev μ-loop : tie.MeasureT-loop
 read-full-requires : tie.Need-read-full-requires Inv-loop μ-loop
 read-full-requires c κs = search needs
 
+ended-requires : tie.Need-ended-requires Inv-loop μ-loop
+ended-requires c κs = search needs
+
 same-length : tie.Need-same-length Inv-loop μ-loop
 same-length c = search needs
 
 returns : tie.Need-returns Inv-loop μ-loop
-returns c = search needs
+returns c = counts _ _ (omega arith)
 
 large-buffer-requires : tie.Need-large-buffer-requires Inv-loop μ-loop
 large-buffer-requires c κs = search needs
@@ -36,6 +39,9 @@ loop-holds c = search needs
 
 read-full-requires-2 : tie.Need-read-full-requires-2 Inv-loop μ-loop
 read-full-requires-2 c κs = search needs
+
+ended-requires-2 : tie.Need-ended-requires-2 Inv-loop μ-loop
+ended-requires-2 c κs = search needs
 
 same-length-2 : tie.Need-same-length-2 Inv-loop μ-loop
 same-length-2 c = search needs
@@ -70,12 +76,14 @@ read-input-spec =
     Inv-loop
     μ-loop
     read-full-requires
+    ended-requires
     same-length
     returns
     large-buffer-requires
     slice-aggregate-rest
     loop-holds
     read-full-requires-2
+    ended-requires-2
     same-length-2
     returns-2
     held-length-requires
