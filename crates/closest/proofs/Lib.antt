@@ -1,5 +1,4 @@
 pub mod Panes
 pub mod Queries
 pub mod Starts
-pub mod Samples
 pub mod Distances

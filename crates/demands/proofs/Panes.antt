@@ -11,9 +11,9 @@ use Rattle.ray.specs.declared.Ray.{Ray}
 use Rattle.ray.specs.declared.Vec3.{Vec3}
 use Rattle.ray.specs.Ray.{rayOf, acceptedRay}
 use Rattle.demands.specs.Call.{Call, Answers, recordAt, listAt}
+use Rattle.demands.specs.Walks.{Good}
 use Rattle.demands.specs.Panes.{Panes, ClosestAnswers, MissAnswers}
 use Rattle.demands.proofs.Words.{words-rearranged}
-use Rattle.demands.proofs.Sound.{Good}
 use Rattle.demands.proofs.Demands.{good-record, index-list-rearranges-words}
 use Rattle.demands.proofs.SoundPanes as S
 

@@ -34,8 +34,8 @@ use Rattle.closest.specs.Panes.{ClosestAnswer, hitAt, noHit, refusedClosest, cl
 use Rattle.closest.specs.Panes.{MissAnswer, missed, blocked, refusedMiss, missFound, missWalk, missOf}
 use Rattle.closest.proofs.Distances.{Number, distances-ordered, distance-number, met-there, panes-reached}
 use Rattle.demands.specs.Runs.{callsMade, answersMade}
+use Rattle.demands.specs.Walks.{Good}
 use Rattle.demands.specs.Panes.{Panes, distanceOf, closestSteps, missSteps, closestReports, missReports, ClosestAnswers, MissAnswers}
-use Rattle.demands.proofs.Sound.{Good}
 use Rattle.demands.proofs.SoundWalks.{no-position-twice, only-passed, query-not-refused}
 use Rattle.demands.proofs.Runs.{query-tests, reported-exist, query-noted, miss-closest}
 

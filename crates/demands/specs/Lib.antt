@@ -1,5 +1,6 @@
 pub mod Call
 pub mod Children
 pub mod Refusals
+pub mod Walks
 pub mod Runs
 pub mod Panes

@@ -1,4 +1,5 @@
--- A child's two bytes: at most 255, growing with the coordinate, the lower never above the upper one; and the reciprocal of a scale is an exact power of two.
+-- A child's two bytes: at most 255, each grows with the coordinate, and the lower is never above the upper one; and the reciprocal of a scale is an exact power
+-- of two.
 use mathlib.Core.Path.{_≡_, refl, sym, ap, _∙_, subst}
 use mathlib.Core.Logic.{inl, inr}
 use Prim.Native.Nat.{ℕ, suc, _+_, _-_, _*_, _/_, _%_, _^_, _≤_, _<_, min, zero-le}
@@ -9,7 +10,6 @@ use lib.IntN.{pos}
 use lib.Dec.{T, eqb, eqb→eq, lit<}
 use lib.Ieee.{Float, nan, inf, fin, binary32, minus, up, down, sub, mul, div, le}
 use lib.Ieee.Fits.{down-pos, eq→eqb}
-use lib.Ieee.Nearest.{div-mono}
 use lib.Ieee.Scale.{finite}
 use Rattle.float.specs.Magnitude.{Within}
 use Rattle.float.specs.PowerOfTwo.{power}
@@ -52,9 +52,6 @@ up-least n d k D h = go (eqb (n % d) 0) (λ (z : n % d ≡ 0). eq→eqb z)
 pub record Rounds (r : ℕ → ℕ → ℕ) : Type 0 where
   pub none : (d : ℕ) → r 0 d ≡ 0
   pub order : (n d m c : ℕ) → 0 < d → 0 < c → n * c ≤ m * d → r n d ≤ r m c
-
-pub rounds-down : Rounds roundDown
-rounds-down = record { none = zero-div; order = div-mono }
 
 pub rounds-up : Rounds roundUp
 rounds-up = record {

@@ -135,8 +135,8 @@ fn is_over(m: usize, positions: Group, current: Group, depth: u32, octant: u32) 
 fn emptied(w: Walker) -> Stepped
     ensures { λ r. ⌜ steppedOf r ≡ emptiedWords (wordsOf w) ⌝ }
 {
-    let none = Group { base: 0, bits: 0 };
-    let walker = Walker { current: none, ..w };
+    let hand = Group { base: 0, bits: 0 };
+    let walker = Walker { current: hand, ..w };
     Stepped {
         walker,
         answer: Answer::Done,
