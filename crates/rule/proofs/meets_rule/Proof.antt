@@ -1,11 +1,8 @@
 use Rattle.rule.proofs.Answers.{wrong, right}
 use Rattle.rule.specs.Rule.{nodeRule}
 use borrow.Author.Needs.{needs}
-use Rattle.rule.proofs.node_rule.Statement.{statement}
-use Rattle.rule.proofs.node_rule.Tie as tie
-
-mul-o : tie.Need-mul-o
-mul-o c = search needs
+use Rattle.rule.proofs.meets_rule.Statement.{statement}
+use Rattle.rule.proofs.meets_rule.Tie as tie
 
 head-ok-requires : tie.Need-head-ok-requires
 head-ok-requires c κs = search needs
@@ -28,11 +25,10 @@ returns-3 : tie.Need-returns-3
 unfolding nodeRule
 returns-3 c = rw (right _ _ (c .before .before .before .before .head-ok .ensures) (c .before .before .before .if1 .left), right _ _ (c .before .before .children-ok .ensures) (c .before .if2 .left), c .slots-ok .ensures)
 
-pub node-rule-spec : {M : Type 1} → statement M
-node-rule-spec =
+pub meets-rule-spec : {M : Type 1} → statement M
+meets-rule-spec =
     tie.close
     (tie.spec
-    mul-o
     head-ok-requires
     returns
     children-ok-requires
