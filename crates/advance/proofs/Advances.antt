@@ -14,7 +14,7 @@ use Rattle.walk_record.specs.Beam.{Beam, beams}
 use Rattle.walk_record.specs.Record.{nodeWordsAt}
 
 module _ (bytes : List ℕ) (n : ℕ) (w : WalkerWords Beam) where
-  pub due-report : 0 < w .positions .bits → reportWords (nodeCount bytes) (nodeWordsAt bytes beams) n w ≡ advanceWords (nodeCount bytes) (nodeWordsAt bytes beams) n w
+  pub due-report : 0 < w .positions .bits → reportWords n w ≡ advanceWords (nodeCount bytes) (nodeWordsAt bytes beams) n w
   unfolding advanceWords popWords
   due-report h = rw (lt-ltb 0 (w .positions .bits) h)
 

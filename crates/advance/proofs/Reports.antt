@@ -12,8 +12,7 @@ use Rattle.walk.specs.Step as S
 use Rattle.walk.specs.Words as W
 use Rattle.walk.specs.WordStep.{WalkerWords, stayWords, afterReportWords, reportWords}
 use Rattle.walk.proofs.Words.{highest-is}
-use Rattle.walk_record.specs.Beam.{Beam, beams}
-use Rattle.walk_record.specs.Record.{nodeWordsAt}
+use Rattle.walk_record.specs.Beam.{Beam}
 use Rattle.advance.specs.declared.Group.{Group}
 use Rattle.advance.specs.declared.Turn.{Turn}
 use Rattle.advance.specs.declared.Answer.{Answer}
@@ -51,15 +50,11 @@ reported w p bits c k e f = λ i. record {
   answer = S.position (e i);
 }
 
-module _ (m n : ℕ) (bytes : List ℕ) (w : WalkerWords Beam) where
-  pub report-none : m ≡ 0 → stayWords w (S.refused 10) ≡ reportWords m (nodeWordsAt bytes beams) n w
+module _ (n : ℕ) (w : WalkerWords Beam) where
+  pub report-past : n ≤ W.firstPosition (w .positions) → stayWords w (S.refused 10) ≡ reportWords n w
   unfolding reportWords
-  report-none e = rw (le-leb m 0 (omega arith))
+  report-past h = rw (le-leb n (W.firstPosition (w .positions)) h)
 
-  pub report-past : (m ≡ 0 → ⊥) → n ≤ W.firstPosition (w .positions) → stayWords w (S.refused 10) ≡ reportWords m (nodeWordsAt bytes beams) n w
+  pub report-made : W.firstPosition (w .positions) < n → afterReportWords w ≡ reportWords n w
   unfolding reportWords
-  report-past z h = rw (lt-leb m 0 (omega arith), le-leb n (W.firstPosition (w .positions)) h)
-
-  pub report-made : (m ≡ 0 → ⊥) → W.firstPosition (w .positions) < n → afterReportWords w ≡ reportWords m (nodeWordsAt bytes beams) n w
-  unfolding reportWords
-  report-made z h = rw (lt-leb m 0 (omega arith), lt-leb n (W.firstPosition (w .positions)) h)
+  report-made h = rw (lt-leb n (W.firstPosition (w .positions)) h)

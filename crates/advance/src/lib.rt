@@ -50,18 +50,17 @@ fn stays(answer: Answer) -> Turn
     }
 }
 
-// Reports the highest of the positions in hand, on a record of m nodes, taken to have n positions.
-fn report(positions: Group, m: usize, n: usize) -> Turn
+// Reports the highest of the positions in hand, on a record taken to have n positions.
+fn report(positions: Group, n: usize) -> Turn
     requires { ⌜ (0 < positions .bits) × (n ≤ 65536) ⌝ }
-    ensures { λ r. ⌜ ((bytes : List ℕ) (ray : declared.Ray) (octant tests : ℕ) (current : groups.Group) (depth : ℕ) (stack : List ℕ) → turnedBy (holding ray octant tests (groupOf positions) current depth stack) r stack ≡ reportWords m (nodeWordsAt bytes beams) n (holding ray octant tests (groupOf positions) current depth stack)) ⌝ }
+    ensures { λ r. ⌜ ((ray : declared.Ray) (octant tests : ℕ) (current : groups.Group) (depth : ℕ) (stack : List ℕ) →
+        turnedBy (holding ray octant tests (groupOf positions) current depth stack) r stack
+        ≡ reportWords n (holding ray octant tests (groupOf positions) current depth stack)) ⌝ }
 {
     let base = positions.base;
     let bits = positions.bits;
     let top = words::highest(bits);
     let p = base as usize + top as usize;
-    if m == 0 {
-        return stays(Answer::Refused(10));
-    }
     if p >= n {
         return stays(Answer::Refused(10));
     }
@@ -190,7 +189,7 @@ pub fn advance(
     ensures { λ r. ⌜ turnedBy (holding ray octant tests (groupOf positions) (groupOf current) depth (now (stack .entry))) r (now (stack .exit)) ≡ advanceWords (nodeCount (now («record» .entry))) (nodeWordsAt (now («record» .entry)) beams) n (holding ray octant tests (groupOf positions) (groupOf current) depth (now (stack .entry))) ⌝ }
 {
     if positions.bits > 0 {
-        return report(positions, record.len() / 80, n);
+        return report(positions, n);
     }
     if current.bits >= 0x100_0000 {
         return visit(ray, octant, tests, current, depth, stack, record, n);

@@ -47,8 +47,8 @@ module _ {s d : Type 0} (m : ℕ) (N : NodeWords s d) (n : ℕ) (w : WalkerWords
   unfolding advanceWords reportWords popWords
   turn-shows l =
       cond-elim ShowsOf (ltb 0 (w .positions .bits)) _ _
-      (λ h. cond-elim ShowsOf (badPosition m n (firstPosition (w .positions))) _ _ (λ _. refl)
-      (λ b. (ltb-true 0 (w .positions .bits) h, leb-false n (firstPosition (w .positions)) (or-false (leb m 0) (leb n (firstPosition (w .positions))) b .1))))
+      (λ h. cond-elim ShowsOf (badPosition n (firstPosition (w .positions))) _ _ (λ _. refl)
+      (λ b. (ltb-true 0 (w .positions .bits) h, leb-false n (firstPosition (w .positions)) b)))
       (λ h. let z = ltb-false 0 (w .positions .bits) h in
       cond-elim ShowsOf (hasChild (w .current)) _ _ (λ _. visit-shows (w .current) (w .depth) z l)
       (λ _. let k = waiting-most (w .stack) (w .depth) in

@@ -39,7 +39,7 @@ module _ {s d : Type 0} (m : ℕ) (T : Tests s d) (n : ℕ) (w : Walker s) where
   pub data Refusal : Type 0 where
     too-many : sizesFit m n ≡ false → Refusal
     forgery : forgedWalker m T w ≡ true → Refusal
-    no-position : (p : ℕ) (ps : List ℕ) → due ≡ report p ps → badPosition m n p ≡ true → Refusal
+    no-position : (p : ℕ) (ps : List ℕ) → due ≡ report p ps → badPosition n p ≡ true → Refusal
     no-node : (c : ℕ) (r : List ℕ) (st : List (List ℕ)) → due ≡ test c r st → badNode m T n (w .tests) c r st ≡ true → Refusal
 
   -- why it is done: nothing is due, or there are no nodes and only the first is in hand
@@ -94,8 +94,8 @@ module _ {s d : Type 0} (m : ℕ) (T : Tests s d) (n : ℕ) (w : Walker s) where
 
       go : forgedWalker m T w ≡ false → (x : Due) → due ≡ x → P (advance m T n w x)
       go f (report p ps) e =
-          cond-elim P (badPosition m n p) _ _ (λ b. C .refuses 10 (no-position p ps e b))
-          (λ b. C .reports p ps (record { is-due = e; below = leb-false n p (or-false (leb m 0) (leb n p) b .1) }))
+          cond-elim P (badPosition n p) _ _ (λ b. C .refuses 10 (no-position p ps e b))
+          (λ b. C .reports p ps (record { is-due = e; below = leb-false n p b }))
       go f (test c r st) e =
           cond-elim P (badNode m T n (w .tests) c r st) _ _ (λ b. C .refuses 10 (no-node c r st e b)) (λ b. C .visits c r st (visits-if c r st f e b))
       go f nothing e = C .ends f (nothing-due e)

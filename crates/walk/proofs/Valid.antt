@@ -8,12 +8,12 @@ use native.Mathlib.Decide.{decLt}
 use lib.ListN.{length}
 use borrow.Author.Tests.{le-leb, lt-leb, le-ltb}
 use Rattle.lists.specs.Counts.{count}
-use Rattle.lists.specs.Sums.{sum, sumOver}
+use Rattle.lists.specs.Sums.{sumOver}
 use Rattle.lists.proofs.Tells.{clash}
-use Rattle.soundness.specs.Shape.{Shape, holders}
+use Rattle.soundness.specs.Shape.{Shape}
 use Rattle.soundness.specs.Sound.{Sound}
 use Rattle.walk.specs.Tests.{Tests}
-use Rattle.walk.specs.Step.{Walker, done, fresh, Stepped, Due, report, test, nothing, dueOnStack, dueOf, sizesFit, forgedWalker, noRoom, badPosition, badNode, stay, afterReport, afterTest, stepOf, tellOf}
+use Rattle.walk.specs.Step.{Walker, done, fresh, Stepped, Due, report, test, nothing, dueOnStack, dueOf, sizesFit, forgedWalker, noRoom, badNode, stay, afterReport, afterTest, stepOf, tellOf}
 use Rattle.walk.specs.Calls.{All, Op, step, tell, runOps, Answered, Brings}
 use Rattle.walk.specs.Listing.{In}
 use Rattle.walk.specs.Lawful.{Lawful}
@@ -72,27 +72,13 @@ module _ {s d : Type 0} (S : Shape) (Rule : ℕ → Type 0) (T : Tests s d) (L :
   not-forged w v =
       rw (v .accepted, le-ltb 32 (length (w .stack)) (omega (arith, few-groups w v)), le-ltb (S .nodes) (w .tests) (omega (arith, v .few)))
 
-  -- a record with a position has a node
-  pub some-node : (p : ℕ) → p < S .positions → 0 < S .nodes
-  unfolding sum
-  some-node p h = go (decLt 0 (S .nodes))
-    where
-      go : Dec (0 < S .nodes) → 0 < S .nodes
-      go (yes k) = k
-      go (no k) =
-          let e : S .nodes ≡ 0 = omega arith in
-          let z : holders S (S .nodes) p ≡ 1 = sound .filled p h in
-          let y : holders S (S .nodes) p ≡ 0 = rw e in
-          absurd (omega arith)
-
   pub no-refusal : S .positions ≤ 65536 → S .nodes ≤ 65535 → (w : Walker s) → Valid w → Refusal (S .nodes) T (S .positions) w → ⊥
   no-refusal hp hn w v (too-many e) = clash (sym e ∙ fits (S .nodes) (S .positions) hp hn)
   no-refusal hp hn w v (forgery e) = clash (sym (not-forged w v) ∙ e)
   no-refusal hp hn w v (no-position p ps e b) =
       let h = report-hand (w .positions) (w .group) (w .stack) p ps e in
       let k : p < S .positions = v .positions p (subst (λ (l : List ℕ). In p l) (sym h) (in-head p ps)) in
-      let z : badPosition (S .nodes) (S .positions) p ≡ false = rw (lt-leb (S .nodes) 0 (some-node p k), lt-leb (S .positions) p k) in
-      clash (sym z ∙ b)
+      clash (sym (lt-leb (S .positions) p k) ∙ b)
   no-refusal hp hn w v (no-node c r st e b) =
       let k = node-exists w v c r st e in
       let a = at-node S Rule T L sound w c r st (v .levels) e in

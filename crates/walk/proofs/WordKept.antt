@@ -27,7 +27,7 @@ module _ {s d : Type 0} (m : ℕ) (N : NodeWords s d) (n : ℕ) (w : WalkerWords
       → (((k : ℕ) → advanceWords m N k w ≡ stayWords w done) → P (stayWords w done)) → P (advanceWords m N n w)
   unfolding advanceWords reportWords popWords
   advance-cases P a b c e =
-      cond-elim P (ltb 0 (w .positions .bits)) _ _ (λ _. cond-elim P (badPosition m n (firstPosition (w .positions))) _ _ (λ _. a) (λ _. b))
+      cond-elim P (ltb 0 (w .positions .bits)) _ _ (λ _. cond-elim P (badPosition n (firstPosition (w .positions))) _ _ (λ _. a) (λ _. b))
       (λ h. cond-elim P (hasChild (w .current)) _ _ (λ _. visit-cases P (w .current) (w .depth) a (c (w .current) (w .depth)))
       (λ i. cond-elim P (ltb 0 (waitingDepth (w .stack) (w .depth))) _ _
       (λ _. visit-cases P (unpacked (topOf (w .stack) (waitingDepth (w .stack) (w .depth)))) (waitingDepth (w .stack) (w .depth) - 1) a (c _ _))

@@ -77,7 +77,7 @@ module _ {s d : Type 0} (m : ℕ) (N : NodeWords s d) (ps cs : s → ℕ → Lis
       (λ _. cond-elim StaysIn (forgedWords m N w) _ _ (λ _. i)
       (λ _. cond-elim StaysIn (leb m 0 && onlyFirstWords m N w) _ _ (λ _. i)
       (λ _. cond-elim StaysIn (ltb 0 (w .positions .bits)) _ _
-      (λ _. cond-elim StaysIn (badPosition m n (firstPosition (w .positions))) _ _ (λ _. i) (λ _. report-range w i))
+      (λ _. cond-elim StaysIn (badPosition n (firstPosition (w .positions))) _ _ (λ _. i) (λ _. report-range w i))
       (λ _. cond-elim StaysIn (hasChild (w .current)) _ _ (λ _. visit-range n w (w .current) (w .depth) i (i .bits) (i .base))
       (λ _. cond-elim StaysIn (ltb 0 (waitingDepth (w .stack) (w .depth))) _ _
       (λ _. visit-range n w (unpacked (topOf (w .stack) (waitingDepth (w .stack) (w .depth)))) (waitingDepth (w .stack) (w .depth) - 1) i

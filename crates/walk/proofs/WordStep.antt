@@ -162,12 +162,12 @@ module _ {s d : Type 0} (m : ℕ) (N : NodeWords s d) (ps cs : s → ℕ → Lis
           → (r : SteppedWords s) → decodedStep N r ≡ advance m T n (decoded N w) x → DoesDue n w r
       go x e r q = q ∙ ap (advance m T n (decoded N w)) (sym e)
 
-      in-hand : 0 < w .positions .bits → DoesDue n w (reportWords m N n w)
+      in-hand : 0 < w .positions .bits → DoesDue n w (reportWords n w)
       in-hand a =
           go (report (firstPosition (w .positions)) (positionsIn (restOf (w .positions))))
           (ap (λ (l : List ℕ). dueOf l (childrenIn (N .octant (w .ray)) (w .current)) (groupsIn (N .octant (w .ray)) (w .stack) (w .depth))) (positions-first (w .positions) a (i .positions)))
-          (reportWords m N n w)
-          (cond-same (decodedStep N) (badPosition m n (firstPosition (w .positions))) (badPosition m n (firstPosition (w .positions)))
+          (reportWords n w)
+          (cond-same (decodedStep N) (badPosition n (firstPosition (w .positions))) (badPosition n (firstPosition (w .positions)))
           (stayWords w (refused 10)) (afterReportWords w) (stay (decoded N w) (refused 10))
           (afterReport (decoded N w) (firstPosition (w .positions)) (positionsIn (restOf (w .positions)))) refl (λ _. refl) (λ _. refl))
 

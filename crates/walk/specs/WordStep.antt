@@ -63,6 +63,10 @@ afterReportWords w =
       answer = position (firstPosition (w .positions));
     }
 
+-- it is reported if it is one of the n
+unfoldable pub reportWords : {s : Type 0} → ℕ → WalkerWords s → SteppedWords s
+reportWords n w = cond (badPosition n (firstPosition (w .positions))) (stayWords w (refused 10)) (afterReportWords w)
+
 -- the walker last held, and the answers of the steps
 pub record RunWords (s : Type 0) : Type 0 where
   pub walker : WalkerWords s
@@ -133,9 +137,6 @@ module _ {s d : Type 0} (m : ℕ) (N : NodeWords s d) where
             };
         answer = tested (firstChild (N .octant (w .ray)) g);
       }
-
-  unfoldable pub reportWords : ℕ → WalkerWords s → SteppedWords s
-  reportWords n w = cond (badPosition m n (firstPosition (w .positions))) (stayWords w (refused 10)) (afterReportWords w)
 
   unfoldable pub visitWords : ℕ → WalkerWords s → Group → ℕ → SteppedWords s
   visitWords n w g d = cond (badChild n w g d) (stayWords w (refused 10)) (afterTestWords w g d)

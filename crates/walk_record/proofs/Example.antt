@@ -22,7 +22,8 @@ use Rattle.slot.specs.Slot.{nearLimit, adjustedInverse, adjustedOrigin, planeAt
 use Rattle.slot.specs.Mask.{hitBits, slotHit, hitMask}
 use Rattle.walk.specs.Step.{tested, position, done, refused}
 use Rattle.walk.specs.Calls.{step, tell}
-use Rattle.walk.specs.WordStep.{freshWords, stepWords, advanceWords, reportWords, visitWords, popWords, runWords}
+use Rattle.walk.specs.Words.{Group}
+use Rattle.walk.specs.WordStep.{WalkerWords, noGroup, freshWords, stepWords, advanceWords, reportWords, visitWords, popWords, runWords}
 use Rattle.walk.specs.WordQueries.{queryWords}
 use Rattle.walk_record.specs.Beam.{Beam, beamOf, beams}
 use Rattle.walk_record.specs.Walk.{runAt, queryAt, anyHitAt}
@@ -62,6 +63,10 @@ along = beam (fin true 1 (pos 0)) (fin false 1 (pos 0)) zero+
 abbrev against : Beam
 against = beam (fin false 3 (pos 0)) (fin true 1 (pos 0)) zero+
 
+-- a walker without tests that holds these positions and this group
+abbrev holds : Group → Group → WalkerWords Beam
+holds positions current = record { ray = along; tests = 0; positions = positions; current = current; depth = 0; stack = replicate 32 0 }
+
 pub record Examples : Type 0 where
   -- both leaves of T are met, the higher position first, by one test; with -0.0 in the direction none is
   pub both : anyHitAt bytesT beams 2 along .noted ≡ 1 ∷ 0 ∷ []
@@ -79,6 +84,9 @@ pub record Examples : Type 0 where
   pub mixed :
       runAt three beams (step 4 ∷ step 0 ∷ step 65537 ∷ step 4 ∷ step 4 ∷ tell zero+ ∷ step 4 ∷ step 4 ∷ step 4 ∷ step 4 ∷ step 4 ∷ []) (freshWords along) .answers
       ≡ tested 0 ∷ refused 10 ∷ refused 2 ∷ position 0 ∷ tested 1 ∷ position 2 ∷ position 1 ∷ tested 2 ∷ done ∷ done ∷ []
+  -- without nodes a position in hand is reported if it is below the count, and a group other than the first node is refused
+  pub position-without-nodes : runAt [] beams (step 0 ∷ step 5 ∷ []) (holds (record { base = 0; bits = 1 }) noGroup) .answers ≡ refused 10 ∷ position 0 ∷ []
+  pub group-without-nodes : runAt [] beams (step 5 ∷ []) (holds noGroup (record { base = 1; bits = 0x8000_0000 })) .answers ≡ refused 10 ∷ []
   -- a walker with another octant than its ray's is forged
   pub forged : runAt three beams (step 4 ∷ []) (freshWords (record { ray = along .ray; octant = 3 })) .answers ≡ refused 10 ∷ []
 
@@ -94,5 +102,7 @@ examples = record {
   octant-7 = refl;
   octant-3 = refl;
   mixed = refl;
+  position-without-nodes = refl;
+  group-without-nodes = refl;
   forged = refl;
 }

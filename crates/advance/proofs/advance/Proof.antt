@@ -14,7 +14,7 @@ report-requires c κs = search needs
 returns : tie.Need-returns
 returns c =
     let a = c .before .before .before .before .before .args in
-    c .report .ensures (a .«record» .now) (a .ray) (a .octant) (a .tests) (groupOf (a .current)) (a .depth) (a .stack .now)
+    c .report .ensures (a .ray) (a .octant) (a .tests) (groupOf (a .current)) (a .depth) (a .stack .now)
     ∙ due-report (a .«record» .now) (a .n) (holding (a .ray) (a .octant) (a .tests) (groupOf (a .positions)) (groupOf (a .current)) (a .depth) (a .stack .now)) (c .before .if1 .taken)
 
 visit-requires : tie.Need-visit-requires
@@ -54,8 +54,8 @@ top-requires c κs = search needs
 cast-visit : tie.Need-cast-visit
 cast-visit c = search needs
 
-cast-t27 : tie.Need-cast-t27
-cast-t27 c = search needs
+cast-t25 : tie.Need-cast-t25
+cast-t25 c = search needs
 
 sub-visit : tie.Need-sub-visit
 sub-visit c = search needs
@@ -98,7 +98,7 @@ advance-spec =
     cast-top
     top-requires
     cast-visit
-    cast-t27
+    cast-t25
     sub-visit
     visit-requires-2
     same-length-3

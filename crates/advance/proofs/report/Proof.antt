@@ -4,7 +4,7 @@ use native.Mathlib.Omega.{arith}
 use borrow.Author.Needs.{needs}
 use Rattle.walk.specs.Words.{firstPosition}
 use Rattle.advance.specs.Turn.{holding, groupOf}
-use Rattle.advance.proofs.Reports.{highest-found, turned-stays, reported, report-none, report-past, report-made}
+use Rattle.advance.proofs.Reports.{highest-found, turned-stays, reported, report-past, report-made}
 use Rattle.advance.proofs.report.Statement.{statement}
 use Rattle.advance.proofs.report.Tie as tie
 
@@ -24,38 +24,29 @@ stays-requires : tie.Need-stays-requires
 stays-requires c κs = search needs
 
 returns : tie.Need-returns
-returns c = λ bytes ray octant tests current depth stack.
-    let a = c .before .before .before .args in
-    let w = holding ray octant tests (groupOf (a .positions)) current depth stack in
-    turned-stays w (c .stays .result) stack 10 (c .stays .ensures) ∙ report-none (a .m) (a .n) bytes w (c .before .if1 .taken)
-
-stays-requires-2 : tie.Need-stays-requires-2
-stays-requires-2 c κs = search needs
-
-returns-2 : tie.Need-returns-2
-returns-2 c = λ bytes ray octant tests current depth stack.
-    let h = c .before .before .before in
+returns c = λ ray octant tests current depth stack.
+    let h = c .before .before in
     let a = h .before .args in
     let w = holding ray octant tests (groupOf (a .positions)) current depth stack in
     let e = highest-found (a .positions .bits) (h .highest .result) (h .highest .ensures) in
-    let q : a .n ≤ firstPosition (groupOf (a .positions)) = omega (arith, e, c .before .if2 .taken) in
-    turned-stays w (c .stays2 .result) stack 10 (c .stays2 .ensures) ∙ report-past (a .m) (a .n) bytes w (c .before .before .if1 .left) q
+    let q : a .n ≤ firstPosition (groupOf (a .positions)) = omega (arith, e, c .before .if1 .taken) in
+    turned-stays w (c .stays .result) stack 10 (c .stays .ensures) ∙ report-past (a .n) w q
 
 clear-highest-requires : tie.Need-clear-highest-requires
 clear-highest-requires c κs = search needs
 
-cast-t15 : tie.Need-cast-t15
-cast-t15 c = search needs
+cast-t13 : tie.Need-cast-t13
+cast-t13 c = search needs
 
-returns-3 : tie.Need-returns-3
-returns-3 c = λ bytes ray octant tests current depth stack.
-    let h = c .before .before .before in
+returns-2 : tie.Need-returns-2
+returns-2 c = λ ray octant tests current depth stack.
+    let h = c .before .before in
     let a = h .before .args in
     let w = holding ray octant tests (groupOf (a .positions)) current depth stack in
     let e = highest-found (a .positions .bits) (h .highest .result) (h .highest .ensures) in
-    let q : firstPosition (groupOf (a .positions)) < a .n = omega (arith, e, c .before .if2 .left) in
+    let q : firstPosition (groupOf (a .positions)) < a .n = omega (arith, e, c .before .if1 .left) in
     reported w (a .positions .base + h .highest .result) (c .clear-highest .result) (record { base = a .positions .base; bits = c .clear-highest .result }) 0 (ap (λ (x : ℕ). a .positions .base + x) e) (c .clear-highest .ensures .1 ∙ ap (λ (x : ℕ). a .positions .bits % 2 ^ x) e)
-    ∙ report-made (a .m) (a .n) bytes w (c .before .before .if1 .left) q
+    ∙ report-made (a .n) w q
 
 pub report-spec : {M : Type 1} → statement M
 report-spec =
@@ -67,8 +58,6 @@ report-spec =
     add-p
     stays-requires
     returns
-    stays-requires-2
-    returns-2
     clear-highest-requires
-    cast-t15
-    returns-3)
+    cast-t13
+    returns-2)
