@@ -1,4 +1,4 @@
--- A turn of a walk of words, whoever takes it: what its answer tells, and that it is the defined step where nothing stands in the way.
+-- What the answer of a turn tells, for any fields and masks of nodes and any rays; and that a turn is the defined step where nothing stands in the way.
 use mathlib.Core.Bool.{Bool, true, false, not, _&&_, _||_, cond}
 use mathlib.Core.Path.{_≡_, refl}
 use Prim.Native.Nat.{ℕ, suc, _≤_, _<_}
