@@ -4,10 +4,10 @@ pub mod Boxes
 pub mod Answered
 pub mod Sound
 pub mod Children
-pub mod Fields
 pub mod Demands
 pub mod Refusals
 pub mod Listed
 pub mod SoundWalks
 pub mod Walks
 pub mod Runs
+pub mod Done

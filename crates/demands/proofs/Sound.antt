@@ -3,7 +3,7 @@ use mathlib.Core.List.{List, []}
 use mathlib.Core.Path.{_≡_, refl, sym, ap, _∙_, subst}
 use Prim.Native.Nat.{ℕ, _+_, _%_, _<_, _≤_}
 use native.Mathlib.Omega.{arith}
-use lib.ListN.{length}
+use lib.ListN.{length, getD}
 use Rattle.lists.proofs.Perms.{perm-length}
 use Rattle.soundness.proofs.Once.{empty-sound}
 use Rattle.wide.specs.Wide.{Wide}
@@ -19,21 +19,23 @@ use Rattle.record_laws.specs.Converted.{Converted}
 use Rattle.record_laws.proofs.ReadBack.{record-length, record-count}
 use Rattle.record_laws.proofs.ShapeRead.{record-reads}
 use Rattle.record_laws.proofs.Rule.{record-rule}
+use Rattle.record_laws.proofs.Bytes.{record-bytes}
 use Rattle.demands.proofs.Writes.{Writes, nothing, written}
 
--- a sound record of n positions with deepest level d, of sizes that the record check takes
+-- a sound record of n positions with deepest level d, of sizes that the record check takes; each member is a byte, as in any slice of bytes
 pub record Good (bytes : List ℕ) (n d : ℕ) : Type 0 where
   pub sound : SoundRecord bytes n
   pub deepest : DeepestLevel bytes n d
   pub layout : length bytes % 80 ≡ 0
   pub nodes : nodeCount bytes ≤ 65535
   pub positions : n ≤ 65536
+  pub are-bytes : (i : ℕ) → getD bytes i 0 < 256
 
 good-none : Good [] 0 0
 unfolding shapeAt
 good-none =
     let s : SoundRecord [] 0 × DeepestLevel [] 0 0 = empty-sound (shapeAt [] 0) (RuleAt [] 0) refl refl in
-    record { sound = s .0; deepest = s .1; layout = refl; nodes = omega arith; positions = omega arith }
+    record { sound = s .0; deepest = s .1; layout = refl; nodes = omega arith; positions = omega arith; are-bytes = λ i. omega arith }
 
 good-wide : (t : Wide) → Converted t → Good (recordBytes t) (indexCount t) (level t)
 unfolding shapeAt
@@ -45,6 +47,7 @@ good-wide t h =
       layout = omega (arith, record-length t);
       nodes = omega (arith, record-count t, h .nodes);
       positions = h .positions;
+      are-bytes = record-bytes t h;
     }
 
 pub good : (leaves indices bytes list : List ℕ) (d : ℕ) → Writes leaves indices bytes list d → Good bytes (length leaves) d

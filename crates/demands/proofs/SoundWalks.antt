@@ -4,9 +4,9 @@ use mathlib.Core.List.{List, List·Nodup}
 use mathlib.Core.Logic.{_↔_}
 use mathlib.Core.Path.{_≡_, sym, ap, subst, _∙_}
 use mathlib.Core.Bool.{true}
-use Prim.Native.Nat.{ℕ, _≤_}
+use Prim.Native.Nat.{ℕ, _≤_, _<_}
 use native.Mathlib.Omega.{arith}
-use lib.ListN.{length, take}
+use lib.ListN.{length, getD, take}
 use lib.Ieee.{Float}
 use Rattle.lists.specs.Counts.{count}
 use Rattle.ray.specs.declared.Vec3.{Vec3}
@@ -15,48 +15,54 @@ use Rattle.ray.specs.Ray.{rayOf, acceptedRay}
 use Rattle.walk.specs.Calls.{All, Op, reported, Answered, Brings}
 use Rattle.walk.specs.Listing.{In}
 use Rattle.walk.specs.Queries.{Reaction, Ended}
-use Rattle.walk.specs.WordStep.{RunWords, freshWords}
+use Rattle.walk.specs.WordStep.{RunWords}
 use Rattle.walk_record.specs.Beam.{Beam, beamOf, beams}
 use Rattle.walk_record.specs.Record.{FieldsFit}
 use Rattle.walk_record.specs.Walk.{queryAt, anyHitAt, listingAt, Reached, Passed}
 use Rattle.walk_record.proofs.Beam.{beam-laws, begun-accepted}
+use Rattle.walk_record.proofs.Laws.{bytes-fit}
 use Rattle.walk_record.proofs.Demands as W
 use Rattle.any_hit.specs.AnyHit.{listed, anyHitOf, listAfter}
+use Rattle.traverse.specs.Walker.{started}
 use Rattle.traverse.specs.Calls.{runBytes}
-use Rattle.traverse.proofs.Calls.{run-whole}
+use Rattle.traverse.proofs.Calls.{run-started}
 use Rattle.demands.proofs.Listed.{answers-listed, list-found}
 use Rattle.demands.proofs.Sound.{Good}
 use Rattle.record_shape.specs.Check.{sound, checkOf}
 use Rattle.record_shape.proofs.Check.{fits, sound-iff}
 
--- A record that the record check finds sound is such a record.
-pub checked-good : (bytes : List ℕ) (n d words : ℕ) → checkOf bytes n words ≡ sound d → Good bytes n d
-checked-good bytes n d words e =
+-- A record, a list of bytes, that the record check finds sound is such a record.
+pub checked-good : (bytes : List ℕ) → ((i : ℕ) → getD bytes i 0 < 256) → (n d words : ℕ) → checkOf bytes n words ≡ sound d → Good bytes n d
+checked-good bytes are-bytes n d words e =
     let h = sound-iff bytes n words d .0 e in
     let f = fits (length bytes) n words (h .0) in
-    record { sound = h .1; deepest = h .2; layout = f .layout; nodes = f .nodes; positions = f .positions }
+    record { sound = h .1; deepest = h .2; layout = f .layout; nodes = f .nodes; positions = f .positions; are-bytes = are-bytes }
 
-module _ (bytes : List ℕ) (n d : ℕ) (good : Good bytes n d) (fit : FieldsFit bytes) (origin direction : Vec3) (tmin tmax : Float) (accepted : acceptedRay (rayOf origin direction tmin tmax) ≡ true) where
+module _ (bytes : List ℕ) (n d : ℕ) (good : Good bytes n d) (origin direction : Vec3) (tmin tmax : Float)
+    (accepted : acceptedRay (rayOf origin direction tmin tmax) ≡ true) where
   abbrev ray : Ray
   ray = rayOf origin direction tmin tmax
 
-  -- ---- every list of steps and tellings from a walker just begun, refused steps included
+  fit : FieldsFit bytes
+  fit = bytes-fit bytes (good .are-bytes)
+
+  -- ---- every list of steps and tellings from a walker just begun, as `Walker::new` promises it, refused steps included
   -- No position is reported twice,
-  pub no-position-twice : (l : List (Op Float)) → List·Nodup (reported (runBytes bytes l (freshWords (beamOf ray)) .answers))
+  pub no-position-twice : (l : List (Op Float)) → List·Nodup (reported (runBytes bytes l (started ray .walker) .answers))
   no-position-twice l =
-      subst (λ (r : RunWords Beam). List·Nodup (reported (r .answers))) (sym (run-whole bytes (good .layout) l (freshWords (beamOf ray))))
+      subst (λ (r : RunWords Beam). List·Nodup (reported (r .answers))) (sym (run-started bytes (good .layout) ray accepted l))
       (W.calls-report-once bytes beams beam-laws fit n (good .sound) (beamOf ray) (begun-accepted origin direction tmin tmax accepted) l)
 
   -- and the waiting groups of the walker then held don't outnumber the deepest level.
-  pub groups-within-level : (l : List (Op Float)) → runBytes bytes l (freshWords (beamOf ray)) .walker .depth ≤ d
+  pub groups-within-level : (l : List (Op Float)) → runBytes bytes l (started ray .walker) .walker .depth ≤ d
   groups-within-level l =
-      subst (λ (r : RunWords Beam). r .walker .depth ≤ d) (sym (run-whole bytes (good .layout) l (freshWords (beamOf ray))))
+      subst (λ (r : RunWords Beam). r .walker .depth ≤ d) (sym (run-started bytes (good .layout) ray accepted l))
       (W.calls-wait-few bytes beams beam-laws fit n (good .sound) (beamOf ray) (begun-accepted origin direction tmin tmax accepted) d (good .deepest) l)
 
   -- Where each step brings the record's own count of positions, none is refused.
-  pub no-step-refused : (l : List (Op Float)) → All (Brings n) l → All Answered (runBytes bytes l (freshWords (beamOf ray)) .answers)
+  pub no-step-refused : (l : List (Op Float)) → All (Brings n) l → All Answered (runBytes bytes l (started ray .walker) .answers)
   no-step-refused l b =
-      subst (λ (r : RunWords Beam). All Answered (r .answers)) (sym (run-whole bytes (good .layout) l (freshWords (beamOf ray))))
+      subst (λ (r : RunWords Beam). All Answered (r .answers)) (sym (run-started bytes (good .layout) ray accepted l))
       (W.calls-answered bytes beams beam-laws fit n (good .sound) (beamOf ray) (begun-accepted origin direction tmin tmax accepted) (good .positions) (good .nodes) l b)
 
   -- ---- any-hit
@@ -64,16 +70,22 @@ module _ (bytes : List ℕ) (n d : ℕ) (good : Good bytes n d) (fit : FieldsFit
   abbrev pub LongEnough : ℕ → Type 0
   LongEnough k = (l : List ℕ) → List·Nodup l → ((p : ℕ) → In p l → Passed bytes n ray p) → length l ≤ k
 
-  -- The answer and the list of the public call: so many positions after so many tests; each position passed stands among them once, and no other;
-  -- and the tests are as many as the nodes reached.
+  -- The answer and the list of the public call: so many positions after so many tests; they are the first node's listing; each position passed stands
+  -- among them once, and no other; and the tests are as many as the nodes reached.
   pub record Lists (before : List ℕ) (k t : ℕ) : Type 0 where
     pub answer : anyHitOf bytes n ray (length before) ≡ listed k t
+    pub listing : take k (listAfter bytes n ray before) ≡ listingAt bytes beams n (beamOf ray)
     pub passed-once : (p : ℕ) → Passed bytes n ray p → count p (take k (listAfter bytes n ray before)) ≡ 1
     pub no-other : (p : ℕ) → ¬ (Passed bytes n ray p) → count p (take k (listAfter bytes n ray before)) ≡ 0
     pub reached : List ℕ
     pub reached-once : List·Nodup reached
     pub reached-all : (v : ℕ) → In v reached ↔ Reached bytes ray v
     pub tests : t ≡ length reached
+
+  -- What any-hit finds is the first node's listing: its passed positions, highest first, then its reached children's listings by falling slot XOR octant.
+  pub any-hit-is-listing : anyHitAt bytes beams n (beamOf ray) .noted ≡ listingAt bytes beams n (beamOf ray)
+  any-hit-is-listing =
+      W.any-hit-listing bytes beams beam-laws fit n (good .sound) (beamOf ray) (begun-accepted origin direction tmin tmax accepted) (good .positions) (good .nodes)
 
   with-room : (before : List ℕ) → length (anyHitAt bytes beams n (beamOf ray) .noted) ≤ length before
       → Lists before (length (anyHitAt bytes beams n (beamOf ray) .noted)) (anyHitAt bytes beams n (beamOf ray) .walker .tests)
@@ -84,6 +96,7 @@ module _ (bytes : List ℕ) (n d : ℕ) (good : Good bytes n d) (fit : FieldsFit
       let t = W.any-hit-tests bytes beams beam-laws fit n (good .sound) (beamOf ray) a (good .positions) (good .nodes) in
       record {
         answer = answers-listed bytes n ray before (good .layout) (good .positions) (good .nodes) accepted done room;
+        listing = same ∙ any-hit-is-listing;
         passed-once = λ p q. ap (count p) same ∙ W.any-hit-counts bytes beams beam-laws fit n (good .sound) (beamOf ray) a (good .positions) (good .nodes) p .0 q;
         no-other = λ p q. ap (count p) same ∙ W.any-hit-counts bytes beams beam-laws fit n (good .sound) (beamOf ray) a (good .positions) (good .nodes) p .1 q;
         reached = t .0;
@@ -113,7 +126,3 @@ module _ (bytes : List ℕ) (n d : ℕ) (good : Good bytes n d) (fit : FieldsFit
   pub query-not-refused : {a : Type 0} (react : ℕ → Beam → a → Reaction Float a) (x : a) → Ended (queryAt bytes beams react x n (beamOf ray) .ended)
   query-not-refused react x =
       W.query-answered bytes beams beam-laws fit n (good .sound) (beamOf ray) (begun-accepted origin direction tmin tmax accepted) (good .positions) (good .nodes) react x
-
-  -- Any-hit's list is the first node's listing: its passed positions, highest first, then its reached children's listings by falling slot XOR octant.
-  pub any-hit-is-listing : anyHitAt bytes beams n (beamOf ray) .noted ≡ listingAt bytes beams n (beamOf ray)
-  any-hit-is-listing = W.any-hit-listing bytes beams beam-laws fit n (good .sound) (beamOf ray) (begun-accepted origin direction tmin tmax accepted) (good .positions) (good .nodes)

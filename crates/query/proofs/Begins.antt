@@ -14,7 +14,7 @@ use Rattle.ray.specs.declared.Ray.{Ray}
 use Rattle.ray.specs.Ray.{octantOf}
 use Rattle.record_shape.specs.Record.{nodeCount, shapeAt}
 use Rattle.walk.specs.Tests.{Tests}
-use Rattle.walk.specs.Step.{fresh, done, stepOf}
+use Rattle.walk.specs.Step.{fresh, done, emptied, stepOf}
 use Rattle.walk.specs.Queries.{Reaction, Outcome, query, stepsFor}
 use Rattle.walk.specs.Slots.{positionsOf, childrenOf, testsOf}
 use Rattle.walk.specs.WordStep.{Decodes}
@@ -38,7 +38,7 @@ no-ones = refl
 
 -- on lists, without nodes a walker just begun is done
 empty-lists : {s d a : Type 0} (m : ℕ) → m ≡ 0 → (T : Tests s d) (react : ℕ → s → a → Reaction d a) (k n : ℕ) (ray : s) (x : a) → n ≤ 65536 → T .forged ray ≡ false
-    → query m T react (suc k) n (fresh ray) x ≡ record { walker = fresh ray; noted = x; ended = done }
+    → query m T react (suc k) n (fresh ray) x ≡ record { walker = emptied (fresh ray) .walker; noted = x; ended = done }
 unfolding query stepOf
 empty-lists zero e T react k n ray x h f = rw (le-leb n 65536 h, f)
 empty-lists (suc m) e T react k n ray x h f = absurd (omega arith)

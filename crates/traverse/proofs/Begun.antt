@@ -23,3 +23,7 @@ module _ (r : Ray) where
   pub refuses : (q : Ray) → q ≡ r → acceptedRay q ≡ false → record { walker = noWalker; refused = 9 } ≡ started r
   unfolding started by
   refuses q e h = sym (ap by (ap acceptedRay (sym e) ∙ h))
+
+  pub starts-fresh : acceptedRay r ≡ true → started r .walker ≡ freshWords (beamOf r)
+  unfolding started by
+  starts-fresh h = ap (λ (a : Bool). by a .walker) h

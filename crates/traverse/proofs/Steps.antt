@@ -11,7 +11,7 @@ use borrow.Author.Tests.{leb-true, eqb-true, ltb-false}
 use Rattle.record_shape.specs.Record.{nodeCount}
 use Rattle.walk.specs.Step as S
 use Rattle.walk.specs.Step.{sizesFit}
-use Rattle.walk.specs.WordStep.{WalkerWords, SteppedWords, stayWords, advanceWords, stepWords}
+use Rattle.walk.specs.WordStep.{WalkerWords, SteppedWords, stayWords, emptiedWords, advanceWords, stepWords}
 use Rattle.walk_record.specs.Beam.{Beam, forgedBeam, reaching, beams}
 use Rattle.walk_record.proofs.Beam.{beam-laws}
 use Rattle.walk_record.specs.Record.{nodeWordsAt}
@@ -47,7 +47,7 @@ module _ (bytes : List ℕ) (n : ℕ) (w : WalkerWords Beam) where
   by a b c d =
       elim a [
         | false ↦ stayWords w (S.refused 1)
-        | true ↦ cond b (cond c (stayWords w (S.refused 10)) (cond d (stayWords w S.done) (advanceWords m (nodeWordsAt bytes beams) n w))) (stayWords w (S.refused 2))
+        | true ↦ cond b (cond c (stayWords w (S.refused 10)) (cond d (emptiedWords w) (advanceWords m (nodeWordsAt bytes beams) n w))) (stayWords w (S.refused 2))
       ]
 
   abbrev forged : Bool
@@ -89,7 +89,7 @@ module _ (bytes : List ℕ) (n : ℕ) (w : WalkerWords Beam) where
     step-forged e = sym (λ i. by (f .whole i) (f .sizes i) (e i) over) ∙ sym is
 
     module _ (own : forged ≡ false) where
-      pub step-over : over ≡ true → stayWords w S.done ≡ stepBytes bytes n w
+      pub step-over : over ≡ true → emptiedWords w ≡ stepBytes bytes n w
       step-over e = sym (λ i. by (f .whole i) (f .sizes i) (own i) (e i)) ∙ sym is
 
       pub step-advances : over ≡ false → advanceWords m (nodeWordsAt bytes beams) n w ≡ stepBytes bytes n w

@@ -1,4 +1,4 @@
--- Demand 3's list: any run of steps and tellings on one record as bytes (01, "Walking").
+-- Runs of steps and tellings over records as bytes (01, "Walking"): on whatever records, and on one, which is demand 3's list.
 use mathlib.Core.List.{List, [], _∷_}
 use lib.Ieee.{Float}
 use Prim.Native.Nat.{ℕ}
@@ -7,11 +7,27 @@ use Rattle.walk.specs.WordStep.{WalkerWords, RunWords}
 use Rattle.walk_record.specs.Beam.{Beam}
 use Rattle.traverse.specs.Walker.{stepBytes, toldWalker}
 
+-- one call: a step that brings a record with its count of positions, or a distance told
+pub data RecordOp : Type 0 where
+  stepOn : List ℕ → ℕ → RecordOp
+  tells : Float → RecordOp
+
 -- Each call takes the walker that the last returned. A refused step returns the walker that it took, so the next takes that one.
-unfoldable pub runBytes : List ℕ → List (Op Float) → WalkerWords Beam → RunWords Beam
+unfoldable pub runEach : List RecordOp → WalkerWords Beam → RunWords Beam
 unfolding stepBytes
-runBytes bytes [] w = record { walker = w; answers = [] }
-runBytes bytes (step n ∷ l) w =
-    let r = runBytes bytes l (stepBytes bytes n w .walker) in
+runEach [] w = record { walker = w; answers = [] }
+runEach (stepOn bytes n ∷ l) w =
+    let r = runEach l (stepBytes bytes n w .walker) in
     record { walker = r .walker; answers = stepBytes bytes n w .answer ∷ r .answers }
-runBytes bytes (tell t ∷ l) w = runBytes bytes l (toldWalker t w)
+runEach (tells t ∷ l) w = runEach l (toldWalker t w)
+
+-- the same record at each step
+abbrev pub onRecord : List ℕ → List (Op Float) → List RecordOp
+onRecord bytes [] = []
+onRecord bytes (step n ∷ l) = stepOn bytes n ∷ onRecord bytes l
+onRecord bytes (tell t ∷ l) = tells t ∷ onRecord bytes l
+
+-- demand 3's list: steps and tellings on one record
+unfoldable pub runBytes : List ℕ → List (Op Float) → WalkerWords Beam → RunWords Beam
+unfolding runEach
+runBytes bytes l w = runEach (onRecord bytes l) w

@@ -7,7 +7,7 @@ ghost use lib.Ieee.{eq};
 ghost use Rattle.ray.specs.Ray.{rayOf};
 ghost use Rattle.walk_record.specs.Beam.{ownInverse, forgedBeam, beams};
 ghost use Rattle.record_shape.specs.Record.{nodeCount};
-ghost use Rattle.walk.specs.WordStep.{advanceWords};
+ghost use Rattle.walk.specs.WordStep.{emptiedWords, advanceWords};
 ghost use Rattle.walk_record.specs.Record.{nodeWordsAt};
 ghost use Rattle.advance.specs.Turn.{groupOf, holding, turnedBy, Walkable};
 ghost use Rattle.traverse.specs.Walker.{wordsOf, steppedOf, startedOf, started, toldWalker, stepBytes, sizesCause, isForged, isOver};
@@ -129,6 +129,18 @@ fn is_over(m: usize, positions: Group, current: Group, depth: u32, octant: u32) 
         return false;
     }
     depth == 0
+}
+
+// The walker with nothing in hand, done.
+fn emptied(w: Walker) -> Stepped
+    ensures { λ r. ⌜ steppedOf r ≡ emptiedWords (wordsOf w) ⌝ }
+{
+    let none = Group { base: 0, bits: 0 };
+    let walker = Walker { current: none, ..w };
+    Stepped {
+        walker,
+        answer: Answer::Done,
+    }
 }
 
 // A turn of a walk whose stack is an array.
@@ -261,10 +273,7 @@ impl Walker {
         let positions = self.positions;
         let current = self.current;
         if is_over(m, positions, current, self.depth, self.octant) {
-            return Stepped {
-                walker: self,
-                answer: Answer::Done,
-            };
+            return emptied(self);
         }
         let mut stack = self.stack;
         let t = turn(

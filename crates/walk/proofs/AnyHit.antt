@@ -14,12 +14,12 @@ use Rattle.lists.proofs.Perms.{no-duplicates}
 use Rattle.soundness.specs.Shape.{Shape}
 use Rattle.soundness.specs.Sound.{Sound}
 use Rattle.walk.specs.Tests.{Tests}
-use Rattle.walk.specs.Step.{Walker, Answer, tested, position, done, refused, fresh, Stepped, afterTest, stepOf}
+use Rattle.walk.specs.Step.{Walker, Answer, tested, position, done, nothing, refused, fresh, Stepped, afterTest, stepOf}
 use Rattle.walk.specs.Listing.{In, flat, Reached, Passed, listing, reachedFrom}
 use Rattle.walk.specs.Queries.{Outcome, follow, query, stepsFor, append, anyHitOf, Going}
 use Rattle.walk.specs.Lawful.{Lawful, Narrow}
 use Rattle.walk.proofs.Dues.{flats, push-flats, report-hand, test-hand, none-hand, test-flat, none-flat}
-use Rattle.walk.proofs.Cases.{Visits, Finished, nothing-due, no-nodes, step-cases}
+use Rattle.walk.proofs.Cases.{due, Visits, step-cases}
 use Rattle.walk.proofs.Gather.{gather-none}
 use Rattle.walk.proofs.Valid.{Valid, no-refusal, report-valid, test-valid, fresh-valid, empty-step}
 use Rattle.walk.proofs.Listing.{listing-is, reached-from-is, listed, listed-once, passed-position, reached-in, reached-once}
@@ -77,9 +77,8 @@ module _ {s d : Type 0} (S : Shape) (Rule : ℕ → Type 0) (T : Tests s d) (L :
       ∙ ap (λ (l : List ℕ). l ++ (flat (reachedFrom (S .nodes) T ray) r ++ flats (reachedFrom (S .nodes) T ray) st)) (reached-from-is S Rule T L sound ray accepted c (v .node))
       ∙ rw (e, push-flats (reachedFrom (S .nodes) T ray) r st)
 
-  finished-takes : 0 < S .nodes → (w : Walker s) → Finished (S .nodes) T (S .positions) w → Takes w done w
-  finished-takes h w (no-nodes z o) = absurd (omega arith)
-  finished-takes h w (nothing-due e) = (
+  nothing-takes : (w : Walker s) → due (S .nodes) T (S .positions) w ≡ nothing → Takes w done w
+  nothing-takes w e = (
     ap (λ (l : List ℕ). l ++ ahead (listing (S .nodes) T ray) w) (none-hand (w .positions) (w .group) (w .stack) e)
         ∙ none-flat (w .positions) (w .group) (w .stack) e (listing (S .nodes) T ray),
     none-flat (w .positions) (w .group) (w .stack) e (reachedFrom (S .nodes) T ray),
@@ -91,7 +90,8 @@ module _ {s d : Type 0} (S : Shape) (Rule : ℕ → Type 0) (T : Tests s d) (L :
       step-cases (S .nodes) T (S .positions) w (After w)
       (record {
         refuses = λ x c. absurd (no-refusal S Rule T L sound few-positions few-nodes w v c);
-        ends = λ f o. record { valid = v; same-ray = e; takes = finished-takes h w o };
+        ends = λ f q. record { valid = v; same-ray = e; takes = nothing-takes w q };
+        empties = λ f z o. absurd (omega arith);
         reports = λ p ps q. record {
           valid = report-valid S Rule T L sound (S .positions) w p ps v q;
           same-ray = e;

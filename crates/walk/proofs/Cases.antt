@@ -1,14 +1,15 @@
 -- The cases of a step: refused, done, a report or a test, each with what is then known.
 use mathlib.Core.Bool.{Bool, true, false, not, _&&_, _||_, cond}
-use mathlib.Core.List.{List}
-use mathlib.Core.Path.{_≡_, refl, sym, ap, _∙_, subst}
-use Prim.Native.Nat.{ℕ, _<_}
+use mathlib.Core.List.{List, [], _∷_}
+use mathlib.Core.Path.{_≡_, refl, subst}
+use Prim.Native.Nat.{ℕ, zero, suc, _<_}
 use native.Mathlib.Omega.{arith}
 use lib.Dec.{leb, ltb}
 use lib.ListN.{length}
 use borrow.Author.Tests.{leb-true, leb-false}
+use Rattle.lists.proofs.Tells.{clash}
 use Rattle.walk.specs.Tests.{Tests}
-use Rattle.walk.specs.Step.{Walker, Answer, tested, position, done, refused, Stepped, Due, report, test, nothing, dueOf, sizesFit, forgedWalker, noRoom, badPosition, badNode, onlyFirst, stay, afterReport, afterTest, advance, stepOf}
+use Rattle.walk.specs.Step.{Walker, Answer, tested, position, done, refused, Stepped, Due, report, test, nothing, dueOf, sizesFit, forgedWalker, noRoom, badPosition, badNode, onlyFirst, stay, emptied, afterReport, afterTest, advance, stepOf}
 
 -- ---- tests
 
@@ -28,6 +29,28 @@ pub not-false-true : (b : Bool) → not b ≡ false → b ≡ true
 not-false-true true e = refl
 not-false-true false e = absurd (let z : _≡_ {A = ℕ} 0 1 = cc in omega arith)
 
+pub and-false : (a : Bool) → a && false ≡ false
+and-false true = refl
+and-false false = refl
+
+-- ---- only the first node in hand
+
+first-put-down : (h g : List ℕ) (st : List (List ℕ)) → onlyFirst h g st ≡ true → dueOf h [] st ≡ nothing
+first-put-down [] (zero ∷ []) [] e = refl
+first-put-down [] (zero ∷ []) (g ∷ st) e = clash e
+first-put-down [] (zero ∷ x ∷ r) st e = clash e
+first-put-down [] (suc c ∷ r) st e = clash e
+first-put-down [] [] st e = clash e
+first-put-down (p ∷ ps) g st e = clash e
+
+nothing-not-first : (h g : List ℕ) (st : List (List ℕ)) → dueOf h g st ≡ nothing → onlyFirst h g st ≡ false
+nothing-not-first [] (zero ∷ []) [] e = absurd (let z : _≡_ {A = ℕ} 0 1 = cc in omega arith)
+nothing-not-first [] (zero ∷ []) (g ∷ st) e = refl
+nothing-not-first [] (zero ∷ x ∷ r) st e = refl
+nothing-not-first [] (suc c ∷ r) st e = refl
+nothing-not-first [] [] st e = refl
+nothing-not-first (p ∷ ps) g st e = refl
+
 -- ---- the cases
 
 module _ {s d : Type 0} (m : ℕ) (T : Tests s d) (n : ℕ) (w : Walker s) where
@@ -41,11 +64,6 @@ module _ {s d : Type 0} (m : ℕ) (T : Tests s d) (n : ℕ) (w : Walker s) where
     forgery : forgedWalker m T w ≡ true → Refusal
     no-position : (p : ℕ) (ps : List ℕ) → due ≡ report p ps → badPosition n p ≡ true → Refusal
     no-node : (c : ℕ) (r : List ℕ) (st : List (List ℕ)) → due ≡ test c r st → badNode m T n (w .tests) c r st ≡ true → Refusal
-
-  -- why it is done: nothing is due, or there are no nodes and only the first is in hand
-  pub data Finished : Type 0 where
-    nothing-due : due ≡ nothing → Finished
-    no-nodes : m ≡ 0 → onlyFirst (w .positions) (w .group) (w .stack) ≡ true → Finished
 
   -- what holds at a report, and at a test
   pub record Reports (p : ℕ) (ps : List ℕ) : Type 0 where
@@ -62,7 +80,8 @@ module _ {s d : Type 0} (m : ℕ) (T : Tests s d) (n : ℕ) (w : Walker s) where
 
   pub record Cases (P : Stepped s → Type 0) : Type 0 where
     pub refuses : (e : ℕ) → Refusal → P (stay w (refused e))
-    pub ends : forgedWalker m T w ≡ false → Finished → P (stay w done)
+    pub ends : forgedWalker m T w ≡ false → due ≡ nothing → P (stay w done)
+    pub empties : forgedWalker m T w ≡ false → m ≡ 0 → onlyFirst (w .positions) (w .group) (w .stack) ≡ true → P (emptied w)
     pub reports : (p : ℕ) (ps : List ℕ) → Reports p ps → P (afterReport w p ps)
     pub visits : (c : ℕ) (r : List ℕ) (st : List (List ℕ)) → Visits c r st → P (afterTest T w c r st)
 
@@ -86,11 +105,11 @@ module _ {s d : Type 0} (m : ℕ) (T : Tests s d) (n : ℕ) (w : Walker s) where
   step-cases P C =
       cond-elim P (sizesFit m n) _ _
       (λ _. cond-elim P (forgedWalker m T w) _ _ (λ f. C .refuses 10 (forgery f))
-      (λ f. cond-elim P (leb m 0 && onlyFirst (w .positions) (w .group) (w .stack)) _ _ (λ a. C .ends f (only a)) (λ a. go f due refl)))
+      (λ f. cond-elim P (leb m 0 && onlyFirst (w .positions) (w .group) (w .stack)) _ _ (λ a. only f a) (λ a. go f due refl)))
       (λ a. C .refuses 2 (too-many a))
     where
-      only : leb m 0 && onlyFirst (w .positions) (w .group) (w .stack) ≡ true → Finished
-      only a = let b = and-true (leb m 0) _ a in no-nodes (omega (arith, leb-true m 0 (b .0))) (b .1)
+      only : forgedWalker m T w ≡ false → leb m 0 && onlyFirst (w .positions) (w .group) (w .stack) ≡ true → P (emptied w)
+      only f a = let b = and-true (leb m 0) _ a in C .empties f (omega (arith, leb-true m 0 (b .0))) (b .1)
 
       go : forgedWalker m T w ≡ false → (x : Due) → due ≡ x → P (advance m T n w x)
       go f (report p ps) e =
@@ -98,39 +117,35 @@ module _ {s d : Type 0} (m : ℕ) (T : Tests s d) (n : ℕ) (w : Walker s) where
           (λ b. C .reports p ps (record { is-due = e; below = leb-false n p b }))
       go f (test c r st) e =
           cond-elim P (badNode m T n (w .tests) c r st) _ _ (λ b. C .refuses 10 (no-node c r st e b)) (λ b. C .visits c r st (visits-if c r st f e b))
-      go f nothing e = C .ends f (nothing-due e)
+      go f nothing e = C .ends f e
 
-  -- a step that is refused, or done, leaves the walker as it was
-  abbrev pub Kept : Answer → Walker s → Type 0
-  Kept (tested v) u = Unit {0}
-  Kept (position p) u = Unit {0}
-  Kept done u = u ≡ w
-  Kept (refused e) u = u ≡ w
+  -- a refused step leaves the walker as it was, and one that is done leaves nothing due
+  abbrev pub Leaves : Answer → Walker s → Type 0
+  Leaves (tested v) u = Unit {0}
+  Leaves (position p) u = Unit {0}
+  Leaves done u = (dueOf (u .positions) (u .group) (u .stack) ≡ nothing) × (forgedWalker m T u ≡ false)
+  Leaves (refused e) u = u ≡ w
 
-  pub step-kept : Kept (stepOf m T n w .answer) (stepOf m T n w .walker)
-  step-kept =
-      step-cases (λ (r : Stepped s). Kept (r .answer) (r .walker))
-      (record { refuses = λ e c. refl; ends = λ f o. refl; reports = λ p ps h. tt; visits = λ c r st h. tt })
+  pub step-leaves : Leaves (stepOf m T n w .answer) (stepOf m T n w .walker)
+  step-leaves =
+      step-cases (λ (r : Stepped s). Leaves (r .answer) (r .walker))
+      (record {
+        refuses = λ e c. refl;
+        ends = λ f e. (e, f);
+        empties = λ f z o. (first-put-down (w .positions) (w .group) (w .stack) o, f);
+        reports = λ p ps h. tt;
+        visits = λ c r st h. tt;
+      })
 
-  abbrev IsDone : Answer → Type 0
-  IsDone (tested v) = ⊥
-  IsDone (position p) = ⊥
-  IsDone done = Unit {0}
-  IsDone (refused e) = ⊥
+-- where nothing is due a step leaves the walker as it is, and is done if nothing refuses it
+pub nothing-due-done : {s d : Type 0} (m : ℕ) (T : Tests s d) (n : ℕ) (w : Walker s) → due m T n w ≡ nothing → sizesFit m n ≡ true → forgedWalker m T w ≡ false
+    → stepOf m T n w ≡ stay w done
+unfolding stepOf
+nothing-due-done m T n w e z f = rw (z, f, nothing-not-first (w .positions) (w .group) (w .stack) e, and-false (leb m 0), e)
 
-  -- done stays done, whatever count a later step brings, if it is no cause of refusal
-  pub done-stays : stepOf m T n w .answer ≡ done → (k : ℕ) → sizesFit m k ≡ true → stepOf m T k (stepOf m T n w .walker) ≡ stay w done
-  unfolding stepOf
-  done-stays e k z =
-      ap (stepOf m T k) (subst (λ (a : Answer). Kept a (stepOf m T n w .walker)) e step-kept)
-      ∙ step-cases (λ (r : Stepped s). IsDone (r .answer) → stepOf m T k w ≡ stay w done)
-      (record { refuses = λ e c i. absurd i; ends = λ f o i. over f o; reports = λ p ps h i. absurd i; visits = λ c r st h i. absurd i })
-      (subst IsDone (sym e) tt)
-    where
-      over : forgedWalker m T w ≡ false → Finished → stepOf m T k w ≡ stay w done
-      over f (nothing-due d) = rw (z, f, d) (pick (leb m 0 && onlyFirst (w .positions) (w .group) (w .stack)))
-        where
-          pick : (b : Bool) → cond b (stay w done) (stay w done) ≡ stay w done
-          pick true = refl
-          pick false = refl
-      over f (no-nodes h o) = rw (z, f, h, o)
+-- done stays done, whatever count a later step brings, if it is no cause of refusal
+pub done-stays : {s d : Type 0} (m : ℕ) (T : Tests s d) (n : ℕ) (w : Walker s) → stepOf m T n w .answer ≡ done → (k : ℕ) → sizesFit m k ≡ true
+    → stepOf m T k (stepOf m T n w .walker) ≡ stay (stepOf m T n w .walker) done
+done-stays m T n w e k z =
+    let l = subst (λ (a : Answer). Leaves m T n w a (stepOf m T n w .walker)) e (step-leaves m T n w) in
+    nothing-due-done m T k (stepOf m T n w .walker) (l .0) z (l .1)

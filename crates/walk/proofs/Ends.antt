@@ -45,7 +45,8 @@ module _ {s d : Type 0} (m : ℕ) (T : Tests s d) (narrow : Narrow m T) where
       step-cases m T n w (λ (r : Stepped s). Going (r .answer) → stepsLeft m (r .walker) < stepsLeft m w)
       (record {
         refuses = λ e c g. absurd g;
-        ends = λ f o g. absurd g;
+        ends = λ f e g. absurd g;
+        empties = λ f z o g. absurd g;
         reports = λ p ps h g. let e : length (w .positions) ≡ suc (length ps) = ap length (report-hand (w .positions) (w .group) (w .stack) p ps (h .is-due)) in omega arith;
         visits = λ c r st v g. omega (arith, v .untested, narrow (w .ray) n c (v .accepted) (v .node) (v .rule));
       })

@@ -111,7 +111,8 @@ module _ {s d : Type 0} (S : Shape) (Rule : ℕ → Type 0) (T : Tests s d) (L :
       step-cases (S .nodes) T n w (λ (r : Stepped s). Levels (r .walker))
       (record {
         refuses = λ e c. l;
-        ends = λ f o. l;
+        ends = λ f e. l;
+        empties = λ f z o. record { in-hand = tt; waiting = l .waiting };
         reports = λ p ps h. record { in-hand = l .in-hand; waiting = l .waiting };
         visits = λ c r st v. test-levels n w c r st l v;
       })

@@ -47,12 +47,13 @@ module _ {s d : Type 0} (S : Shape) (Rule : ℕ → Type 0) (T : Tests s d) (L :
   remaining x w = count x (w .positions) + left (total S (λ v. held S v x)) w
 
   step-remaining : (x n : ℕ) (w : Walker s) → count x (reportOf (stepOf (S .nodes) T n w .answer)) + remaining x (stepOf (S .nodes) T n w .walker) ≤ remaining x w
-  unfolding count
+  unfolding count sumOver
   step-remaining x n w =
       step-cases (S .nodes) T n w (λ (r : Stepped s). count x (reportOf (r .answer)) + remaining x (r .walker) ≤ remaining x w)
       (record {
         refuses = λ e c. omega arith;
-        ends = λ f o. omega arith;
+        ends = λ f e. omega arith;
+        empties = λ f z o. omega arith;
         reports = λ p ps h. let e : count x (w .positions) ≡ same x p + count x ps = ap (count x) (report-hand (w .positions) (w .group) (w .stack) p ps (h .is-due)) in omega arith;
         visits = λ c r st v.
             let e : count x (w .positions) ≡ 0 = ap (count x) (test-hand (w .positions) (w .group) (w .stack) c r st (v .is-due)) in

@@ -13,13 +13,13 @@ use Rattle.lists.proofs.Tells.{clash}
 use Rattle.soundness.specs.Shape.{Shape}
 use Rattle.soundness.specs.Sound.{Sound}
 use Rattle.walk.specs.Tests.{Tests}
-use Rattle.walk.specs.Step.{Walker, done, fresh, Stepped, Due, report, test, nothing, dueOnStack, dueOf, sizesFit, forgedWalker, noRoom, badNode, stay, afterReport, afterTest, stepOf, tellOf}
+use Rattle.walk.specs.Step.{Walker, done, fresh, Stepped, Due, report, test, nothing, dueOnStack, dueOf, sizesFit, forgedWalker, noRoom, badNode, stay, emptied, afterReport, afterTest, stepOf, tellOf}
 use Rattle.walk.specs.Calls.{All, Op, step, tell, runOps, Answered, Brings}
 use Rattle.walk.specs.Listing.{In}
 use Rattle.walk.specs.Lawful.{Lawful}
 use Rattle.walk.proofs.Lists.{in-head, in-tail, in-none, in-one}
 use Rattle.walk.proofs.Dues.{report-hand, test-hand, test-sum, no-hand}
-use Rattle.walk.proofs.Cases.{Refusal, too-many, forgery, no-position, no-node, Visits, Reports, step-cases}
+use Rattle.walk.proofs.Cases.{Refusal, too-many, forgery, no-position, no-node, Visits, Reports, step-cases, nothing-due-done}
 use Rattle.walk.proofs.Subtrees.{total, total-is, child-rises, held-ends, total-ones}
 use Rattle.walk.proofs.Once.{left, left-falls, children-part}
 use Rattle.walk.proofs.Levels.{Waiting, Levels, at-node, test-levels, fresh-levels, waiting-few}
@@ -125,15 +125,38 @@ module _ {s d : Type 0} (S : Shape) (Rule : ℕ → Type 0) (T : Tests s d) (L :
         few = v .few;
       }
 
+  empty-valid : (w : Walker s) → Valid w → Valid (emptied w .walker)
+  unfolding sumOver
+  empty-valid w v =
+      record {
+        accepted = v .accepted;
+        levels = record { in-hand = tt; waiting = v .levels .waiting };
+        positions = v .positions;
+        nodes = λ c i. in-none c i;
+        few = omega (arith, v .few);
+      }
+
   pub step-valid : (n : ℕ) (w : Walker s) → Valid w → Valid (stepOf (S .nodes) T n w .walker)
   step-valid n w v =
       step-cases (S .nodes) T n w (λ (r : Stepped s). Valid (r .walker))
-      (record { refuses = λ e c. v; ends = λ f o. v; reports = λ p ps h. report-valid n w p ps v h; visits = λ c r st h. test-valid n w c r st v h })
+      (record {
+        refuses = λ e c. v;
+        ends = λ f e. v;
+        empties = λ f z o. empty-valid w v;
+        reports = λ p ps h. report-valid n w p ps v h;
+        visits = λ c r st h. test-valid n w c r st v h;
+      })
 
   pub step-answered : S .positions ≤ 65536 → S .nodes ≤ 65535 → (w : Walker s) → Valid w → Answered (stepOf (S .nodes) T (S .positions) w .answer)
   step-answered hp hn w v =
       step-cases (S .nodes) T (S .positions) w (λ (r : Stepped s). Answered (r .answer))
-      (record { refuses = λ e c. absurd (no-refusal hp hn w v c); ends = λ f o. tt; reports = λ p ps h. tt; visits = λ c r st h. tt })
+      (record {
+        refuses = λ e c. absurd (no-refusal hp hn w v c);
+        ends = λ f e. tt;
+        empties = λ f z o. tt;
+        reports = λ p ps h. tt;
+        visits = λ c r st h. tt;
+      })
 
   pub tell-valid : (x : d) (w : Walker s) → Valid w → Valid (tellOf T x w)
   tell-valid x w v =
@@ -168,19 +191,30 @@ module _ {s d : Type 0} (S : Shape) (Rule : ℕ → Type 0) (T : Tests s d) (L :
   run-answered hp hn (tell x ∷ l) w a v = run-answered hp hn l (tellOf T x w) (a .1) (tell-valid x w v)
 
 -- without nodes a walker just begun is done without a test
-pub empty-step : {s d : Type 0} (T : Tests s d) (n : ℕ) (ray : s) → n ≤ 65536 → T .forged ray ≡ false → stepOf 0 T n (fresh ray) ≡ stay (fresh ray) done
+pub empty-step : {s d : Type 0} (T : Tests s d) (n : ℕ) (ray : s) → n ≤ 65536 → T .forged ray ≡ false → stepOf 0 T n (fresh ray) ≡ emptied (fresh ray)
 unfolding stepOf
 empty-step T n ray h f = rw (le-leb n 65536 h, f)
 
 module _ {s d : Type 0} (S : Shape) (Rule : ℕ → Type 0) (T : Tests s d) (L : Lawful S Rule T) (sound : Sound S Rule) where
+  -- a walker that holds nothing is done at every step
+  over-answered : S .nodes ≡ 0 → S .positions ≤ 65536 → (l : List (Op d)) (ray : s) → T .forged ray ≡ false → All (Brings (S .positions)) l
+      → All Answered (runOps (S .nodes) T l (emptied (fresh ray) .walker) .answers)
+  unfolding runOps
+  over-answered e h [] ray f a = tt
+  over-answered e h (step n ∷ l) ray f a =
+      let z : stepOf (S .nodes) T n (emptied (fresh ray) .walker) ≡ stay (emptied (fresh ray) .walker) done =
+      nothing-due-done (S .nodes) T n (emptied (fresh ray) .walker) refl (fits (S .nodes) n (omega (arith, a .0)) (omega arith)) (rw (f, le-ltb (S .nodes) 0 (omega arith))) in
+      rw z (tt, over-answered e h l ray f (a .1))
+  over-answered e h (tell x ∷ l) ray f a = over-answered e h l (T .told x ray) (L .told-accepted x ray f) (a .1)
+
   empty-answered : S .nodes ≡ 0 → S .positions ≤ 65536 → (l : List (Op d)) (ray : s) → T .forged ray ≡ false → All (Brings (S .positions)) l
       → All Answered (runOps (S .nodes) T l (fresh ray) .answers)
   unfolding runOps
   empty-answered e h [] ray f a = tt
   empty-answered e h (step n ∷ l) ray f a =
       let k : n ≤ 65536 = omega (arith, a .0) in
-      let z : stepOf (S .nodes) T n (fresh ray) ≡ stay (fresh ray) done = rw e (empty-step T n ray k f) in
-      rw z (tt, empty-answered e h l ray f (a .1))
+      let z : stepOf (S .nodes) T n (fresh ray) ≡ emptied (fresh ray) = rw e (empty-step T n ray k f) in
+      rw z (tt, over-answered e h l ray f (a .1))
   empty-answered e h (tell x ∷ l) ray f a = empty-answered e h l (T .told x ray) (L .told-accepted x ray f) (a .1)
 
   -- no step of any list that brings the record's own count is refused

@@ -16,7 +16,7 @@ use Rattle.walk.specs.Tests.{Tests}
 use Rattle.walk.specs.Step.{Stepped, refused, fresh, sizesFit, badPosition, tellOf}
 use Rattle.walk.specs.Calls.{Op, step, tell, Run, runOps}
 use Rattle.walk.specs.Words.{Group, packed, unpacked, positionsIn, childrenIn, groupsIn, restOf, firstPosition, firstChild, hasChild, waitingDepth}
-use Rattle.walk.specs.WordStep.{WalkerWords, SteppedWords, NodeWords, freshWords, forgedWords, onlyFirstWords, badChild, stayWords, afterReportWords, afterTestWords, visitWords, reportWords, popWords, advanceWords, stepWords, tellWords, RunWords, runWords, decoded, InRange, testsWith, Decodes}
+use Rattle.walk.specs.WordStep.{WalkerWords, SteppedWords, NodeWords, freshWords, forgedWords, onlyFirstWords, badChild, stayWords, emptiedWords, afterReportWords, afterTestWords, visitWords, reportWords, popWords, advanceWords, stepWords, tellWords, RunWords, runWords, decoded, InRange, testsWith, Decodes}
 use Rattle.walk.proofs.Cases.{cond-elim}
 use Rattle.walk.proofs.Words.{positions-none, children-none, children-first, rest-lt}
 use Rattle.walk.proofs.Stacks.{top-bits, pushed-length, pushed-words}
@@ -70,12 +70,15 @@ module _ {s d : Type 0} (m : ℕ) (N : NodeWords s d) (ps cs : s → ℕ → Lis
   report-range w i =
       record { positions = rest-lt (w .positions) (i .positions); base = i .base; bits = i .bits; room = i .room; words = i .words }
 
+  empty-range : (w : WalkerWords s) → InRange w → InRange (emptiedWords w .walker)
+  empty-range w i = record { positions = i .positions; base = omega arith; bits = omega arith; room = i .room; words = i .words }
+
   pub step-range : (n : ℕ) (w : WalkerWords s) → InRange w → InRange (stepWords m N n w .walker)
   unfolding stepWords advanceWords reportWords popWords
   step-range n w i =
       cond-elim StaysIn (sizesFit m n) _ _
       (λ _. cond-elim StaysIn (forgedWords m N w) _ _ (λ _. i)
-      (λ _. cond-elim StaysIn (leb m 0 && onlyFirstWords m N w) _ _ (λ _. i)
+      (λ _. cond-elim StaysIn (leb m 0 && onlyFirstWords m N w) _ _ (λ _. empty-range w i)
       (λ _. cond-elim StaysIn (ltb 0 (w .positions .bits)) _ _
       (λ _. cond-elim StaysIn (badPosition n (firstPosition (w .positions))) _ _ (λ _. i) (λ _. report-range w i))
       (λ _. cond-elim StaysIn (hasChild (w .current)) _ _ (λ _. visit-range n w (w .current) (w .depth) i (i .bits) (i .base))

@@ -10,9 +10,9 @@ use lib.ListN.{length}
 use borrow.Author.Tests.{leb-true, leb-false, ltb-true, ltb-false, lt-ltb, le-ltb, le-leb, lt-leb, eq-eqb, ne-eqb}
 use Rattle.faststack.specs.Stack.{capacity, hasRoom, topOf}
 use Rattle.walk.specs.Tests.{Tests}
-use Rattle.walk.specs.Step.{Walker, tested, done, refused, Due, report, test, dueOf, sizesFit, forgedWalker, noRoom, badPosition, badNode, onlyFirst, stay, afterReport, afterTest, advance, stepOf}
+use Rattle.walk.specs.Step.{Walker, tested, done, refused, Due, report, test, dueOf, sizesFit, forgedWalker, noRoom, badPosition, badNode, onlyFirst, stay, emptied, afterReport, afterTest, advance, stepOf}
 use Rattle.walk.specs.Words.{Group, unpacked, positionsIn, childrenIn, groupsIn, restOf, firstPosition, firstChild, hasChild, waitingDepth}
-use Rattle.walk.specs.WordStep.{WalkerWords, SteppedWords, NodeWords, forgedWords, onlyFirstWords, badChild, stayWords, afterReportWords, afterTestWords, reportWords, visitWords, popWords, advanceWords, stepWords, decoded, decodedStep, InRange, testsWith, Decodes}
+use Rattle.walk.specs.WordStep.{WalkerWords, SteppedWords, NodeWords, noGroup, forgedWords, onlyFirstWords, badChild, stayWords, emptiedWords, afterReportWords, afterTestWords, reportWords, visitWords, popWords, advanceWords, stepWords, decoded, decodedStep, InRange, testsWith, Decodes}
 use Rattle.walk.proofs.Cases.{cond-elim, or-false, not-false-true}
 use Rattle.walk.proofs.Words.{positions-first, positions-none, children-none, children-first, rest-lt}
 use Rattle.walk.proofs.Stacks.{groups-length, top-bits, dueWords, due-stack, waiting-child, groups-pushed}
@@ -195,25 +195,30 @@ module _ {s d : Type 0} (m : ℕ) (N : NodeWords s d) (ps cs : s → ℕ → Lis
   pub forged-ray : (w : WalkerWords s) → forgedWords m N w ≡ false → T .forged (w .ray) ≡ false
   forged-ray w a = or-false (T .forged (w .ray)) (ltb capacity (w .depth)) (or-false (T .forged (w .ray) || ltb capacity (w .depth)) (ltb m (w .tests)) a .0) .0
 
+  empty-decoded : (w : WalkerWords s) → decodedStep N (emptiedWords w) ≡ emptied (decoded N w)
+  empty-decoded w =
+      ap (λ (u : Walker s). stay u done)
+      (same-walker (w .ray) (w .tests) _ _ _ _ _ _ refl (children-none (N .octant (w .ray)) noGroup (omega arith)) refl)
+
   unforged-decoded : (n : ℕ) (w : WalkerWords s) → InRange w → forgedWords m N w ≡ false
-      → decodedStep N (cond (leb m 0 && onlyFirstWords m N w) (stayWords w done) (advanceWords m N n w))
-      ≡ cond (leb m 0 && onlyIn w) (stay (decoded N w) done) (advance m T n (decoded N w) (dueIn w))
+      → decodedStep N (cond (leb m 0 && onlyFirstWords m N w) (emptiedWords w) (advanceWords m N n w))
+      ≡ cond (leb m 0 && onlyIn w) (emptied (decoded N w)) (advance m T n (decoded N w) (dueIn w))
   unforged-decoded n w i a =
-      cond-same (decodedStep N) (leb m 0 && onlyFirstWords m N w) (leb m 0 && onlyIn w) (stayWords w done) (advanceWords m N n w)
-      (stay (decoded N w) done) (advance m T n (decoded N w) (dueIn w))
-      (ap (λ (x : Bool). leb m 0 && x) (only-same w i (D .octant-lt (w .ray) (forged-ray w a)))) (λ _. refl) (λ _. advance-decoded n w i (forged-ray w a))
+      cond-same (decodedStep N) (leb m 0 && onlyFirstWords m N w) (leb m 0 && onlyIn w) (emptiedWords w) (advanceWords m N n w)
+      (emptied (decoded N w)) (advance m T n (decoded N w) (dueIn w))
+      (ap (λ (x : Bool). leb m 0 && x) (only-same w i (D .octant-lt (w .ray) (forged-ray w a)))) (λ _. empty-decoded w) (λ _. advance-decoded n w i (forged-ray w a))
 
   pub step-decoded : (n : ℕ) (w : WalkerWords s) → InRange w → decodedStep N (stepWords m N n w) ≡ stepOf m T n (decoded N w)
   unfolding stepWords stepOf
   step-decoded n w i =
       cond-same (decodedStep N) (sizesFit m n) (sizesFit m n)
-      (cond (forgedWords m N w) (stayWords w (refused 10)) (cond (leb m 0 && onlyFirstWords m N w) (stayWords w done) (advanceWords m N n w)))
+      (cond (forgedWords m N w) (stayWords w (refused 10)) (cond (leb m 0 && onlyFirstWords m N w) (emptiedWords w) (advanceWords m N n w)))
       (stayWords w (refused 2))
       (cond (forgedWalker m T (decoded N w)) (stay (decoded N w) (refused 10))
-      (cond (leb m 0 && onlyIn w) (stay (decoded N w) done) (advance m T n (decoded N w) (dueIn w))))
+      (cond (leb m 0 && onlyIn w) (emptied (decoded N w)) (advance m T n (decoded N w) (dueIn w))))
       (stay (decoded N w) (refused 2)) refl
       (λ _. cond-same (decodedStep N) (forgedWords m N w) (forgedWalker m T (decoded N w)) (stayWords w (refused 10))
-      (cond (leb m 0 && onlyFirstWords m N w) (stayWords w done) (advanceWords m N n w)) (stay (decoded N w) (refused 10))
-      (cond (leb m 0 && onlyIn w) (stay (decoded N w) done) (advance m T n (decoded N w) (dueIn w)))
+      (cond (leb m 0 && onlyFirstWords m N w) (emptiedWords w) (advanceWords m N n w)) (stay (decoded N w) (refused 10))
+      (cond (leb m 0 && onlyIn w) (emptied (decoded N w)) (advance m T n (decoded N w) (dueIn w)))
       (same-forged w) (λ _. refl) (λ a. unforged-decoded n w i a))
       (λ _. refl)

@@ -91,6 +91,10 @@ onlyFirst (p ∷ ps) g st = false
 abbrev pub stay : {s : Type 0} → Walker s → Answer → Stepped s
 stay w a = record { walker = w; answer = a }
 
+-- the group in hand is emptied, and the walk is done
+abbrev pub emptied : {s : Type 0} → Walker s → Stepped s
+emptied w = record { walker = record { ray = w .ray; tests = w .tests; positions = w .positions; group = []; stack = w .stack }; answer = done }
+
 -- position p was reported
 abbrev pub afterReport : {s : Type 0} → Walker s → ℕ → List ℕ → Stepped s
 afterReport w p ps =
@@ -115,12 +119,12 @@ advance m T n w (report p ps) = cond (badPosition n p) (stay w (refused 10)) (af
 advance m T n w (test c r st) = cond (badNode m T n (w .tests) c r st) (stay w (refused 10)) (afterTest T w c r st)
 advance m T n w nothing = stay w done
 
--- One step on a record of m nodes, taken to have n positions. Without nodes a walker that holds only the first is done.
+-- One step on a record of m nodes, taken to have n positions. Without nodes a walker that holds only the first is done, and holds nothing then.
 unfoldable pub stepOf : {s d : Type 0} → ℕ → Tests s d → ℕ → Walker s → Stepped s
 stepOf m T n w =
     cond (sizesFit m n)
     (cond (forgedWalker m T w) (stay w (refused 10))
-    (cond (leb m 0 && onlyFirst (w .positions) (w .group) (w .stack)) (stay w done)
+    (cond (leb m 0 && onlyFirst (w .positions) (w .group) (w .stack)) (emptied w)
     (advance m T n w (dueOf (w .positions) (w .group) (w .stack)))))
     (stay w (refused 2))
 

@@ -54,6 +54,14 @@ pub record InRange {s : Type 0} (w : WalkerWords s) : Type 0 where
 abbrev pub stayWords : {s : Type 0} → WalkerWords s → Answer → SteppedWords s
 stayWords w a = record { walker = w; answer = a }
 
+-- the group in hand is emptied, and the walk is done
+abbrev pub emptiedWords : {s : Type 0} → WalkerWords s → SteppedWords s
+emptiedWords w =
+    record {
+      walker = record { ray = w .ray; tests = w .tests; positions = w .positions; current = noGroup; depth = w .depth; stack = w .stack };
+      answer = done;
+    }
+
 -- the position of the highest bit was reported
 abbrev pub afterReportWords : {s : Type 0} → WalkerWords s → SteppedWords s
 afterReportWords w =
@@ -171,7 +179,7 @@ module _ {s d : Type 0} (m : ℕ) (N : NodeWords s d) where
   unfoldable pub stepWords : ℕ → WalkerWords s → SteppedWords s
   stepWords n w =
       cond (sizesFit m n)
-      (cond (forgedWords w) (stayWords w (refused 10)) (cond (leb m 0 && onlyFirstWords w) (stayWords w done) (advanceWords n w)))
+      (cond (forgedWords w) (stayWords w (refused 10)) (cond (leb m 0 && onlyFirstWords w) (emptiedWords w) (advanceWords n w)))
       (stayWords w (refused 2))
 
   -- ---- lists of calls

@@ -87,6 +87,8 @@ pub record Examples : Type 0 where
   -- without nodes a position in hand is reported if it is below the count, and a group other than the first node is refused
   pub position-without-nodes : runAt [] beams (step 0 ∷ step 5 ∷ []) (holds (record { base = 0; bits = 1 }) noGroup) .answers ≡ refused 10 ∷ position 0 ∷ []
   pub group-without-nodes : runAt [] beams (step 5 ∷ []) (holds noGroup (record { base = 1; bits = 0x8000_0000 })) .answers ≡ refused 10 ∷ []
+  -- a walker that was done on a record without nodes is done on one with nodes too
+  pub done-elsewhere : runAt three beams (step 4 ∷ step 4 ∷ []) (runAt [] beams (step 0 ∷ []) (freshWords along) .walker) .answers ≡ done ∷ done ∷ []
   -- a walker with another octant than its ray's is forged
   pub forged : runAt three beams (step 4 ∷ []) (freshWords (record { ray = along .ray; octant = 3 })) .answers ≡ refused 10 ∷ []
 
@@ -104,5 +106,6 @@ examples = record {
   mixed = refl;
   position-without-nodes = refl;
   group-without-nodes = refl;
+  done-elsewhere = refl;
   forged = refl;
 }

@@ -1,20 +1,20 @@
 -- Steps on the bytes of any record, sound or not: what they are on lists, what they keep, and a measure for loops over them.
-use mathlib.Core.Bool.{true}
+use mathlib.Core.Bool.{true, cond}
 use mathlib.Core.List.{List}
 use mathlib.Core.Path.{_≡_}
 use Prim.Native.Nat.{ℕ, _<_}
 use Rattle.record_shape.specs.Record.{nodeCount, shapeAt}
-use Rattle.walk.specs.Step.{done, sizesFit, stepOf}
+use Rattle.walk.specs.Step.{done, refused, sizesFit, stepOf}
 use Rattle.walk.specs.Queries.{Reaction, Going}
 use Rattle.walk.specs.Slots.{positionsOf, childrenOf, testsOf}
-use Rattle.walk.specs.WordStep.{WalkerWords, stayWords, decodedStep, decoded, InRange, Decodes}
+use Rattle.walk.specs.WordStep.{WalkerWords, stayWords, forgedWords, decodedStep, decoded, InRange, Decodes}
 use Rattle.walk.specs.WordQueries.{queryWords}
 use Rattle.walk.proofs.Slots.{slots-narrow}
 use Rattle.walk.proofs.Masks.{masks-decode}
 use Rattle.walk.proofs.WordStep.{step-decoded}
 use Rattle.walk.proofs.WordRuns
 use Rattle.walk.proofs.WordEnds.{stepsLeftWords, words-fall, query-words-enough}
-use Rattle.walk.proofs.WordKept.{Kept, words-kept, words-done-stays}
+use Rattle.walk.proofs.WordKept.{Finished, LeavesOf, words-leave, finished-step, words-done-stays}
 use Rattle.walk_record.specs.Record.{Rays, RayLaws, FieldsFit, slotsAt, maskAt, nodeWordsAt}
 use Rattle.walk_record.specs.Walk.{stepAt}
 use Rattle.walk_record.proofs.Laws.{mask-laws}
@@ -22,13 +22,22 @@ use Rattle.walk_record.proofs.Laws.{mask-laws}
 -- ---- for any walker of words
 
 module _ {s d : Type 0} (bytes : List ℕ) (R : Rays s d) (n : ℕ) (w : WalkerWords s) where
-  -- a step that is refused, or done, leaves the walker as it was,
-  pub step-kept : Kept (nodeCount bytes) (nodeWordsAt bytes R) n w (stepAt bytes R n w)
+  -- a step that is refused leaves the walker as it was, and one that is done leaves nothing to do;
+  pub step-leaves : LeavesOf (nodeCount bytes) (nodeWordsAt bytes R) n w (stepAt bytes R n w)
   unfolding stepAt
-  step-kept = words-kept (nodeCount bytes) (nodeWordsAt bytes R) n w
+  step-leaves = words-leave (nodeCount bytes) (nodeWordsAt bytes R) n w
+
+  -- where nothing is left to do every step leaves the walker as it is, done if nothing refuses it;
+  pub step-finished : Finished w
+      → stepAt bytes R n w
+      ≡ cond (sizesFit (nodeCount bytes) n) (cond (forgedWords (nodeCount bytes) (nodeWordsAt bytes R) w) (stayWords w (refused 10)) (stayWords w done))
+      (stayWords w (refused 2))
+  unfolding stepAt
+  step-finished = finished-step (nodeCount bytes) (nodeWordsAt bytes R) n w
 
   -- and done stays done
-  pub done-stays : stepAt bytes R n w .answer ≡ done → (k : ℕ) → sizesFit (nodeCount bytes) k ≡ true → stepAt bytes R k (stepAt bytes R n w .walker) ≡ stayWords w done
+  pub done-stays : stepAt bytes R n w .answer ≡ done → (k : ℕ) → sizesFit (nodeCount bytes) k ≡ true
+      → stepAt bytes R k (stepAt bytes R n w .walker) ≡ stayWords (stepAt bytes R n w .walker) done
   unfolding stepAt
   done-stays = words-done-stays (nodeCount bytes) (nodeWordsAt bytes R) n w
 

@@ -31,12 +31,17 @@ is-over-requires c κs =
     let f = fits (a .«record» .now) (a .n) (wordsOf (a .self)) (c .before .before .before .before .before .sizes-cause .result) (c .before .before .before .before .before .sizes-cause .ensures) (c .before .before .before .before .if1 .left) in
     walks (a .«record» .now) (a .n) (wordsOf (a .self)) f (sym (c .before .before .before .is-forged .ensures) ∙ c .before .before .if2 .left) .eight
 
+emptied-requires : tie.Need-emptied-requires
+emptied-requires c κs = search needs
+
 returns-3 : tie.Need-returns-3
-unfolding answerOf
 returns-3 c =
-    let a = c .before .before .before .before .before .before .before .before .before .args in
-    let f = fits (a .«record» .now) (a .n) (wordsOf (a .self)) (c .before .before .before .before .before .before .before .sizes-cause .result) (c .before .before .before .before .before .before .before .sizes-cause .ensures) (c .before .before .before .before .before .before .if1 .left) in
-    step-over (a .«record» .now) (a .n) (wordsOf (a .self)) f (sym (c .before .before .before .before .before .is-forged .ensures) ∙ c .before .before .before .before .if2 .left) (sym (c .before .is-over .ensures) ∙ c .if3 .taken)
+    let b = c .before .before .before .before .before .before .before in
+    let a = b .before .before .before .args in
+    let f = fits (a .«record» .now) (a .n) (wordsOf (a .self)) (b .before .sizes-cause .result) (b .before .sizes-cause .ensures) (b .if1 .left) in
+    c .emptied .ensures
+    ∙ step-over (a .«record» .now) (a .n) (wordsOf (a .self)) f (sym (c .before .before .before .before .before .before .is-forged .ensures) ∙ c .before .before .before .before .before .if2 .left)
+    (sym (c .before .before .is-over .ensures) ∙ c .before .if3 .taken)
 
 turn-requires : tie.Need-turn-requires
 turn-requires c κs =
@@ -57,4 +62,4 @@ returns-4 c =
     c .after .ensures ∙ c .before .turn .ensures ∙ step-advances (a .«record» .now) (a .n) (wordsOf (a .self)) f (sym (c .before .before .before .before .before .before .before .before .before .is-forged .ensures) ∙ c .before .before .before .before .before .before .before .before .if2 .left) (sym (c .before .before .before .before .before .is-over .ensures) ∙ c .before .before .before .before .if3 .left)
 
 pub step-spec : {M : Type 1} → statement M
-step-spec = tie.close (tie.spec sizes-cause-requires returns is-forged-requires returns-2 is-over-requires returns-3 turn-requires after-requires returns-4)
+step-spec = tie.close (tie.spec sizes-cause-requires returns is-forged-requires returns-2 is-over-requires emptied-requires returns-3 turn-requires after-requires returns-4)
