@@ -1,7 +1,5 @@
 // Boxes (aabb.rs): half areas, centres, unions, the distance at which a ray enters, and which boxes are accepted.
 ghost use mathlib.Core.Path.{_≡_};
-ghost use mathlib.Core.Bool.{_&&_};
-ghost use lib.Ieee.{le};
 ghost use Rattle.float.specs.Compare.{minOf, maxOf, unsignedZero};
 ghost use Rattle.aabb.specs.Aabb.{halfArea, centerOf, unionOf, slabNear, slabFar, boxNear, boxFar, entryDistance, inOrder, acceptedBox};
 use ray::Ray;

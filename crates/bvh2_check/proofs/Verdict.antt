@@ -99,7 +99,3 @@ marks-count n z = omega arith
 
 pub rest-marks : (n : ℕ) (o l : List ℕ) → (n ≡ 0 → ⊥) → l ≡ replicate (markCount n) 0 → l ++ drop (3 * n - 1) o ≡ replicate (markCount n) 0 ++ drop (markCount n) o
 rest-marks n o l z e = rw (e, marks-count n z)
-
--- conversion's decision words are room enough: seven a node
-pub marks-fit : (n : ℕ) → markCount n ≤ nodeCount n * 7
-marks-fit n = omega arith

@@ -1,5 +1,5 @@
--- The walk that marks a tree's nodes and positions in working words, as the code makes it: what its private functions promise, and how many
--- calls they take. What the public functions promise does not lean on it.
+-- The walk that marks a tree's nodes and positions in working words, as the code makes it: what its private functions promise. What the public
+-- functions promise does not lean on it.
 use mathlib.Core.Bool.{Bool, true, false}
 use mathlib.Core.List.{List}
 use Prim.Native.Nat.{ℕ, zero, suc, _+_, _<_, _≤_}
@@ -39,7 +39,8 @@ walk ws m (inner v b l r) o =
       | go o₁ ↦ elim (walk ws m l o₁) [ stop o₂ ↦ stop o₂ | go o₂ ↦ walk ws m r o₂ ]
     ]
 
--- how many calls the walk makes, this one included: a child is called for exactly where the walk comes to it
+-- how many calls of itself this walk makes, this one included, which law `linear` bounds. No contract ties the code's own calls to it: it is read off
+-- the code, which comes to a node exactly where this walk does
 unfoldable pub calls : List ℕ → ℕ → Tree ℕ → List ℕ → ℕ
 calls ws m (leaf v b p) o = 1
 calls ws m (inner v b l r) o =

@@ -1,7 +1,7 @@
 // Internal: whether the words of a binary tree are accepted, in two parts: conversion looks at causes 3 and 4 between them.
 ghost use mathlib.Core.Path.{_≡_};
 ghost use mathlib.Core.List.{_++_};
-ghost use Prim.Native.Nat.{_+_, _*_, _<_, _≤_};
+ghost use Prim.Native.Nat.{_<_, _≤_};
 ghost use lib.ListN.{length, replicate, drop};
 ghost use Rattle.bvh2.specs.Words.{nodeCount, linkOf, treeAt};
 ghost use Rattle.bvh2.specs.Causes.{Sized};

@@ -1,20 +1,16 @@
 -- Opening a node gives at most eight children, parts of it that together hold its positions in order.
 use mathlib.Core.Path.{_≡_, refl, sym, ap₂, _∙_}
-use mathlib.Core.List.{List, [], _∷_, _++_, map, map-append, append-assoc, append-nil}
-use Prim.Native.Nat.{ℕ, _+_, _*_, _^_, _≤_, _<_}
+use mathlib.Core.List.{List, [], _∷_, _++_, append-assoc, append-nil}
+use Prim.Native.Nat.{ℕ, _+_, _^_, _≤_, _<_}
 use native.Mathlib.Omega.{arith}
 use lib.ListN.{length, length-append}
-use Rattle.lists.specs.Counts.{count}
-use Rattle.lists.proofs.Counts.{count-append}
 use Rattle.aabb.specs.declared.Aabb.{Aabb}
-use Rattle.bvh2.specs.Tree.{Tree, leaf, inner, leaves, labels, positions, relabel}
+use Rattle.bvh2.specs.Tree.{Tree, leaf, inner, leaves, positions}
 use Rattle.bvh2.specs.Decoded.{BoxesAccepted}
-use Rattle.bvh2.proofs.Counts.{labelCount, count-labels}
 use Rattle.cost.specs.Table.{Kind, LEAF, INTERNAL, DISTRIBUTE, table}
 use Rattle.cost.proofs.Bound.{first-splits}
-use Rattle.cost.proofs.Splits.{leaf-distribute, leaf-kind, distribute-splits, leaf-limit}
-use Rattle.cost.proofs.Labels.{table-relabel}
-use Rattle.children.specs.Gather.{opened, gather, part, positionsOf, labelsOf, leavesAs, ownLeaves, Each}
+use Rattle.cost.proofs.Splits.{leaf-distribute, leaf-kind, distribute-splits}
+use Rattle.children.specs.Gather.{opened, gather, part, positionsOf, Each}
 
 -- what holds of the child alone and of what it opens into holds of its part
 part-is : {A : Type 0} (P : List (Tree A) → Type 0) (k : Kind) (t : Tree A) (g : List (Tree A)) → P (t ∷ []) → (k ≡ DISTRIBUTE → P g) → P (opened k t g)
@@ -124,68 +120,3 @@ module _ {A : Type 0} (limit : ℕ) where
         let d = table limit (inner v box a b) i in
         each-append P (part limit a (d .left)) (part limit b (d .right))
         (part-each a (d .left) p (gather-each a (d .left) p)) (part-each b (d .right) q (gather-each b (d .right) q))
-
-  -- ---- how many positions a wide node has of its own
-  own-few : (ts : List (Tree A)) → limit ≤ 3 → ownLeaves limit ts ≤ length ts * 3
-  unfolding ownLeaves
-  own-few [] h = omega arith
-  own-few (t ∷ ts) h =
-      let x = few (table limit t 0 .kind) (λ e. let y = leaf-limit limit t e in omega arith) in
-      let y = own-few ts h in
-      omega arith
-    where
-      few : (k : Kind) → (k ≡ LEAF → leaves t ≤ 3) → leavesAs k (leaves t) ≤ 3
-      few LEAF f = f refl
-      few INTERNAL f = omega arith
-      few DISTRIBUTE f = omega arith
-
-  pub own-24 : (t : Tree A) → limit ≤ 3 → BoxesAccepted t → leaves t < 2 ^ 23 → ownLeaves limit (gather limit t 0) ≤ 24
-  own-24 t u h s =
-      let x = own-few (gather limit t 0) u in
-      let y = gather-width t h s in
-      omega arith
-
--- ---- labels
-labels-append : {A : Type 0} (s t : List (Tree A)) → labelsOf (s ++ t) ≡ labelsOf s ++ labelsOf t
-unfolding labelsOf
-labels-append [] t = refl
-labels-append (x ∷ s) t = rw (labels-append s t) (sym (append-assoc (labels x) (labelsOf s) (labelsOf t)))
-
-module _ (limit : ℕ) where
-  part-labels : (t : Tree ℕ) (i x : ℕ) → count x (labelsOf (gather limit t i)) ≤ labelCount x t → count x (labelsOf (part limit t i)) ≤ labelCount x t
-  unfolding labelsOf
-  part-labels t i x h =
-      part-is (λ (g : List (Tree ℕ)). count x (labelsOf g) ≤ labelCount x t) (table limit t i .kind) t (gather limit t i)
-      (rw append-nil (omega (arith, count-labels x t))) (λ q. h)
-
-  labels-most : (t : Tree ℕ) (i x : ℕ) → count x (labelsOf (gather limit t i)) ≤ labelCount x t
-  unfolding gather labelsOf labelCount
-  labels-most (leaf v box p) i x = rw append-nil (omega (arith, count-labels x (leaf v box p)))
-  labels-most (inner v box a b) i x =
-      let d = table limit (inner v box a b) i in
-      let l = part-labels a (d .left) x (labels-most a (d .left) x) in
-      let r = part-labels b (d .right) x (labels-most b (d .right) x) in
-      rw (labels-append (part limit a (d .left)) (part limit b (d .right))) (omega (arith, count-append x (labelsOf (part limit a (d .left))) (labelsOf (part limit b (d .right)))))
-
-  -- a gathered tree's labels are the tree's, each at most as often
-  pub gather-labels : (t : Tree ℕ) (i x : ℕ) → count x (labelsOf (gather limit t i)) ≤ count x (labels t)
-  gather-labels t i x = omega (arith, labels-most t i x, count-labels x t)
-
--- gathering does not look at labels
-part-relabel : {A B : Type 0} (limit : ℕ) (f : A → B) (t : Tree A) (i : ℕ) → gather limit (relabel f t) i ≡ map (relabel f) (gather limit t i)
-    → part limit (relabel f t) i ≡ map (relabel f) (part limit t i)
-part-relabel {A} {B} limit f t i h = rw (table-relabel limit f t i) (go (table limit t i .kind))
-  where
-    go : (k : Kind) → opened k (relabel f t) (gather limit (relabel f t) i) ≡ map (relabel f) (opened k t (gather limit t i))
-    go LEAF = refl
-    go INTERNAL = refl
-    go DISTRIBUTE = h
-
-pub gather-relabel : {A B : Type 0} (limit : ℕ) (f : A → B) (t : Tree A) (i : ℕ) → gather limit (relabel f t) i ≡ map (relabel f) (gather limit t i)
-unfolding gather relabel
-gather-relabel limit f (leaf v box p) i = refl
-gather-relabel {A} {B} limit f (inner v box a b) i =
-    let d = table limit (inner v box a b) i in
-    rw (table-relabel limit f (inner v box a b) i)
-    (ap₂ (λ (x y : List (Tree B)). x ++ y) (part-relabel limit f a (d .left) (gather-relabel limit f a (d .left))) (part-relabel limit f b (d .right) (gather-relabel limit f b (d .right)))
-    ∙ sym (map-append (relabel f) (part limit a (d .left)) (part limit b (d .right))))

@@ -1,7 +1,7 @@
 -- The children that a node of a binary tree gives to a wide node (01, "Corners of each file", bvh2_to_cwbvh.rs), in gathered order.
 use mathlib.Core.List.{List, [], _∷_, _++_}
-use Prim.Native.Nat.{ℕ, _+_}
-use Rattle.bvh2.specs.Tree.{Tree, leaf, inner, leaves, labels, positions}
+use Prim.Native.Nat.{ℕ}
+use Rattle.bvh2.specs.Tree.{Tree, leaf, inner, positions}
 use Rattle.cost.specs.Table.{Kind, LEAF, INTERNAL, DISTRIBUTE, table}
 
 -- a child alone, or where its decision is DISTRIBUTE, what it opens into
@@ -24,26 +24,11 @@ gather limit (inner v box a b) i =
 abbrev pub part : {A : Type 0} → ℕ → Tree A → ℕ → List (Tree A)
 part limit t i = opened (table limit t i .kind) t (gather limit t i)
 
--- ---- what the trees of a list hold together
--- the positions, in order
+-- ---- the trees of a list
+-- the positions that they hold together, in order
 unfoldable pub positionsOf : {A : Type 0} → List (Tree A) → List ℕ
 positionsOf [] = []
 positionsOf (t ∷ ts) = positions t ++ positionsOf ts
-
--- the labels
-unfoldable pub labelsOf : {A : Type 0} → List (Tree A) → List A
-labelsOf [] = []
-labelsOf (t ∷ ts) = labels t ++ labelsOf ts
-
--- how many positions a node has of its own: those of the children that become leaves
-abbrev pub leavesAs : Kind → ℕ → ℕ
-leavesAs LEAF n = n
-leavesAs INTERNAL n = 0
-leavesAs DISTRIBUTE n = 0
-
-unfoldable pub ownLeaves : {A : Type 0} → ℕ → List (Tree A) → ℕ
-ownLeaves limit [] = 0
-ownLeaves limit (t ∷ ts) = leavesAs (table limit t 0 .kind) (leaves t) + ownLeaves limit ts
 
 -- each tree of a list
 unfoldable pub Each : {A : Type 0} → (Tree A → Type 0) → List (Tree A) → Type 0

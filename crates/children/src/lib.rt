@@ -31,7 +31,7 @@ fn open_child(
 }
 
 // Writes what the inner node v opens into at an entry behind `count` children: what its two children contribute, each at the entry that the decision
-// says. Only a child that is opened itself is called for. Returns the count after them.
+// says. Returns the count after them.
 fn open_node(
     words: &[u32],
     decisions: &[u32],

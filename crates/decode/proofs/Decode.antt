@@ -1,7 +1,7 @@
 -- The decoding of eight bytes at once does to each byte what `specs/Meta.antt` says: a word operation works on each byte apart, and what is
 -- left is a fact of one byte, computed at every byte.
 use mathlib.Core.Path.{_≡_, sym, ap, ap₂, _∙_}
-use Prim.Native.Nat.{ℕ, zero, suc, _+_, _-_, _*_, _/_, _%_, _^_, _≤_, _<_}
+use Prim.Native.Nat.{ℕ, zero, suc, _+_, _-_, _*_, _/_, _%_, _^_, _<_}
 use native.Mathlib.Nat.{lt-of-le-of-lt}
 use native.Mathlib.Omega.{arith}
 use lib.Dec.{lit≤, lit<}
@@ -117,9 +117,6 @@ index-lt o m h = go (innerCode m)
     go zero = omega arith
     go (suc b) = xor-lt 5 (m % 32) o (omega arith) (omega arith)
 
-pub child-lt : (m : ℕ) → m < 256 → childBits m < 8
-child-lt m h = omega arith
-
 -- a byte of the words
 pub child-byte : (m k : ℕ) → k < 8 → field 8 k (eachByte childBits m) ≡ childBits (field 8 k m)
 unfolding eachByte
@@ -135,9 +132,3 @@ inner-place = equal₂ (λ s o. bitIndex o (32 + 24 + s)) (λ s o. 24 + bitXor s
 
 pub slot-back : (s o : ℕ) → s < 8 → o < 8 → bitXor (bitXor s o) o ≡ s
 slot-back = equal₂ (λ s o. bitXor (bitXor s o) o) (λ s o. s) 8 8 tt
-
--- from the place of an inner child's bit to its slot
-pub slot-of : (s o r : ℕ) → s < 8 → o < 8 → 24 + bitXor s o ≤ r → r < 24 + bitXor s o + 1 → bitXor (r - 24) o ≡ s
-slot-of s o r hs ho l u =
-    let e : r - 24 ≡ bitXor s o = omega arith in
-    ap (λ (x : ℕ). bitXor x o) e ∙ slot-back s o hs ho

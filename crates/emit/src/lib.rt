@@ -1,8 +1,7 @@
 // Internal: a wide tree's record and index list, written into lent slices (bvh2_to_cwbvh.rs: convert_to_cwbvh_impl, count_primitives).
 ghost use mathlib.Core.Path.{_≡_};
 ghost use mathlib.Core.Bool.{true};
-ghost use mathlib.Core.List.{map};
-ghost use Prim.Native.Nat.{ℕ, _+_, _*_, _^_, _<_, _≤_};
+ghost use Prim.Native.Nat.{_+_, _*_, _^_, _<_, _≤_};
 ghost use lib.ListN.{length};
 ghost use Rattle.aabb.specs.Aabb.{acceptedBox};
 ghost use Rattle.bvh2.specs.Words.{boxAt, treeAt};

@@ -58,7 +58,7 @@ pub fn slots_of(words: &[u32], decisions: &[u32], v: usize, depth: u32, ordered:
     }
     let parent = bvh2::node_box(words, v);
     let boxes = child_boxes(words, parent, found, count);
-    order::order_children(true, parent, boxes, found, count)
+    order::order_children(parent, boxes, found, count)
 }
 
 // Writes node `number`, which node v becomes, with all below it; the next free node and position after it.

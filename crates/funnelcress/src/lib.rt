@@ -1,9 +1,9 @@
 // The library for C and Rust: each function is exported under its name. Numbers that are returned are those of
 // refusals, 0 for none, but the record check's and conversion's, which also hold what they answer.
 ghost use mathlib.Core.Path.{_≡_};
-ghost use Prim.Native.Nat.{_+_, _*_, _/_, _≤_, _<_};
+ghost use Prim.Native.Nat.{_+_, _*_, _/_, _≤_};
 ghost use lib.ListN.{length};
-ghost use Rattle.aabb.specs.Aabb.{halfArea, entryDistance};
+ghost use Rattle.aabb.specs.Aabb.{entryDistance};
 ghost use Rattle.record_shape.specs.Check.{checkOf, wordsAfter};
 ghost use Rattle.validate.specs.Validity.{answerOf};
 ghost use Rattle.bvh2_to_cwbvh.specs.Answer.{answerOf as conversionAnswer};

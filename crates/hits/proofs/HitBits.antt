@@ -1,5 +1,5 @@
 -- Which bits of a hit mask are set, on a node whose slots meet the rule: each passed slot puts in a run of ones, as many as its code has,
--- a child one at 24 + (slot XOR octant), a leaf its positions' below 24. And ranks: each child has its own number, past its parent's.
+-- a child one at 24 + (slot XOR octant), a leaf its positions' below 24.
 use mathlib.Core.Path.{_≡_, refl, sym, ap, _∙_, subst}
 use mathlib.Core.Bool.{Bool, true, false}
 use mathlib.Core.Logic.{⊎-elim}
@@ -12,14 +12,13 @@ use lib.Pow.{pow-pos, ones-lt}
 use Rattle.words.specs.Fields.{field}
 use Rattle.words.specs.Ones.{onesBelow}
 use Rattle.words.proofs.Ors.{or-of-lt, bit-from, bit-to, zero-bit, shl-bit, shl-low, run-bit, bit-past}
-use Rattle.words.proofs.Ranks.{bit-is, rank-lt, rank-inj}
 use Rattle.words.proofs.Upto.{lt-or-ge}
 use Rattle.ray.specs.declared.Ray.{Ray}
 use Rattle.node.specs.declared.Node.{Node}
-use Rattle.node.specs.Node.{innerBit, codeCount, childIndex}
+use Rattle.node.specs.Node.{innerBit, codeCount}
 use Rattle.decode.specs.Meta.{childBits, pick, innerCode, bitIndex}
 use Rattle.decode.proofs.Decode.{index-lt, inner-place, slot-back}
-use Rattle.rule.specs.Rule.{Children, LeafTop, one, two, three, SlotRule, empty, child, leaf, SlotOf}
+use Rattle.rule.specs.Rule.{LeafTop, one, two, three, SlotRule, empty, child, leaf, SlotOf}
 use Rattle.rule.proofs.Slots.{some-ones}
 use Rattle.slot.specs.Mask.{onlyIf, hitBits, passesSlot, slotHit, hitMask}
 
@@ -72,7 +71,17 @@ leaf-place meta octant h =
     let e : innerCode meta ≡ 0 = no-product (meta / 8 % 2) (meta / 16 % 2) (omega arith) (omega arith) (both-bits meta h) in
     ap (λ (c : ℕ). pick c (bitXor (meta % 32) octant) (meta % 32)) e
 
--- ---- the mask, bit by bit
+-- ---- the mask
+-- whatever the node, it is a word of 32 bits
+pub mask-lt : (v : Node) (r : Ray) (octant : ℕ) → hitMask v r octant < 2 ^ 32
+unfolding hitMask slotHit hitBits
+mask-lt v r octant = or-of-lt 32 8 (slotHit v r octant) (λ k l. small (passesSlot v r k) (getD (v .«child_meta») k 0))
+  where
+    small : (b : Bool) (meta : ℕ) → onlyIf b ((childBits meta * 2 ^ bitIndex octant meta) % 2 ^ 32) < 2 ^ 32
+    small true meta = mod-lt (childBits meta * 2 ^ bitIndex octant meta) (pow-pos 32)
+    small false meta = pow-pos 32
+
+-- bit by bit
 module _ (v : Node) (r : Ray) (octant n : ℕ) (small : octant < 8) (rule : (k : ℕ) → k < 8 → SlotOf v n k) where
   abbrev meta : ℕ → ℕ
   meta k = getD (v .«child_meta») k 0
@@ -89,14 +98,6 @@ module _ (v : Node) (r : Ray) (octant n : ℕ) (small : octant < 8) (rule : (k :
 
   run : (k : ℕ) → k < 8 → childBits (meta k) ≡ 2 ^ codeCount (meta k) - 1
   run k l = code-run (meta k) (innerBit (v .imask) k) k (v .«primitive_base_idx») n l (rule k l)
-
-  hit-lt : (b : Bool) (x : ℕ) → onlyIf b (x % 2 ^ 32) < 2 ^ 32
-  hit-lt true x = mod-lt x (pow-pos 32)
-  hit-lt false x = pow-pos 32
-
-  pub mask-lt : mask < 2 ^ 32
-  unfolding hitMask slotHit hitBits
-  mask-lt = or-of-lt 32 8 (slotHit v r octant) (λ k l. hit-lt (passesSlot v r k) (childBits (meta k) * 2 ^ bitIndex octant (meta k)))
 
   taken : (k j : ℕ) (b : Bool) → field 1 j (onlyIf b (hitBits octant (meta k))) ≡ 1 → (b ≡ true) × (field 1 j (hitBits octant (meta k)) ≡ 1)
   taken k j true e = (refl, e)
@@ -120,7 +121,7 @@ module _ (v : Node) (r : Ray) (octant n : ℕ) (small : octant < 8) (rule : (k :
       shl-bit 32 at j (childBits (meta k)) low hj ∙ ap (field 1 (j - at)) (run k l) ∙ run-bit (codeCount (meta k)) (j - at) (omega arith)
 
   none-past : (j : ℕ) → field 1 j mask ≡ 1 → j < 32
-  none-past j e = ⊎-elim (λ q. q) (λ q. absurd (omega (arith, bit-past 32 j mask mask-lt q))) (lt-or-ge j 32)
+  none-past j e = ⊎-elim (λ q. q) (λ q. absurd (omega (arith, bit-past 32 j mask (mask-lt v r octant) q))) (lt-or-ge j 32)
 
   -- a bit of the mask stands in the run of a slot passed, and each bit of such a run is a bit of the mask
   pub bit-of : (j : ℕ) → field 1 j mask ≡ 1 → (k : ℕ) × InRun j k
@@ -213,36 +214,3 @@ module _ (v : Node) (r : Ray) (octant n : ℕ) (small : octant < 8) (rule : (k :
           let s = some-ones (meta k) t in
           let q = leaf-place (meta k) octant (omega arith) in
           bit-set j k (omega arith) (record { slot = l; passed = p; from = omega arith; upto = omega arith })
-
--- ---- ranks
-module _ (imask : ℕ) where
-  bit-one : (k : ℕ) → innerBit imask k ≡ 1 → field 1 k imask ≡ 1
-  bit-one k h = bit-is k imask ∙ h
-
-  -- a child's rank is below the number of children, and no two have the same
-  pub rank-below : (k : ℕ) → k < 8 → innerBit imask k ≡ 1 → onesBelow k imask < onesBelow 8 imask
-  rank-below k l h = rank-lt k 8 imask l (bit-one k h)
-
-  pub rank-distinct : (j k : ℕ) → innerBit imask j ≡ 1 → innerBit imask k ≡ 1 → onesBelow j imask ≡ onesBelow k imask → j ≡ k
-  rank-distinct j k h l e = rank-inj j k imask (bit-one j h) (bit-one k l) e
-
-some-child : (imask : ℕ) → 0 < onesBelow 8 imask → 0 < imask
-unfolding onesBelow
-some-child zero h = absurd (omega arith)
-some-child (suc i) h = omega arith
-
--- the children's numbers lie past their parent's and below m, each its own
-module _ (v : Node) (m i : ℕ) (c : Children v m i) where
-  pub child-range : (k : ℕ) → k < 8 → innerBit (v .imask) k ≡ 1
-      → (i < childIndex (v .«child_base_idx») (v .imask) k) × (childIndex (v .«child_base_idx») (v .imask) k < m)
-  unfolding childIndex
-  child-range k l h =
-      let r = rank-below (v .imask) k l h in
-      let p = some-child (v .imask) (omega arith) in
-      let a = c .later p in
-      let b = c .exist p in
-      (omega arith, omega arith)
-
-pub child-distinct : (base imask j k : ℕ) → innerBit imask j ≡ 1 → innerBit imask k ≡ 1 → childIndex base imask j ≡ childIndex base imask k → j ≡ k
-unfolding childIndex
-child-distinct base imask j k h l e = rank-distinct imask j k h l (omega arith)

@@ -1,3 +1,4 @@
 pub mod Terms
 pub mod Passing
+pub mod Reach
 pub mod HitBits

@@ -1,5 +1,5 @@
 -- When a ray passes a slot box, value by value: each near value and the near limit are at most each far value and tmax.
--- So the nesting of the maxima and minima does not matter, and a lower tmax passes no more slots.
+-- So the nesting of the maxima and minima does not matter.
 use mathlib.Core.Path.{_≡_, refl, subst}
 use mathlib.Core.Bool.{Bool, true, false, not, cond}
 use mathlib.Core.Logic.{_↔_}
@@ -8,10 +8,12 @@ use lib.Ieee.{Float, nan, inf, fin, lt, le, eq, isNan}
 use Rattle.float.specs.Compare.{minOf, maxOf}
 use Rattle.float.proofs.Order.{le-transitive, le-of-lt-test, le-of-lt-left}
 use Rattle.ray.specs.declared.Ray.{Ray}
+use Rattle.ray.proofs.Bounds.{Accepted}
 use Rattle.node.specs.declared.Slot.{Slot}
 use Rattle.node.specs.declared.Node.{Node}
+use Rattle.rule.specs.Rule.{Head}
 use Rattle.slot.specs.Slot.{nearLimit, nearX, nearY, nearZ, farX, farY, farZ, nearOf, farOf, passes}
-use Rattle.hits.proofs.Terms.{Terms, max-no-nan, min-no-nan, within-no-nan, finite-no-nan}
+use Rattle.hits.proofs.Terms.{Inverted, SlotBytes, Terms, terms-finite, max-no-nan, min-no-nan, within-no-nan, finite-no-nan}
 
 -- a value is at most each far value and tmax
 pub record AtMostFar (v : Node) (t : Slot) (r : Ray) (a : Float) : Type 0 where
@@ -21,20 +23,20 @@ pub record AtMostFar (v : Node) (t : Slot) (r : Ray) (a : Float) : Type 0 where
   pub tmax : T (le a (r .tmax))
 
 -- of two values that are no NaN one is at most the other
-turned : (x y : Float) → T (not (isNan x)) → T (not (isNan y)) → lt x y ≡ false → T (le y x)
+pub le-unless-below : (x y : Float) → T (not (isNan x)) → T (not (isNan y)) → lt x y ≡ false → T (le y x)
 unfolding lt le eq isNan
-turned nan y p q h = absurd p
-turned (inf s) nan p q h = absurd q
-turned (inf true) (inf true) p q h = tt
-turned (inf true) (inf false) p q h = absurd (subst T h tt)
-turned (inf false) (inf true) p q h = tt
-turned (inf false) (inf false) p q h = tt
-turned (inf true) (fin t n d) p q h = absurd (subst T h tt)
-turned (inf false) (fin t n d) p q h = tt
-turned (fin s m e) nan p q h = absurd q
-turned (fin s m e) (inf true) p q h = tt
-turned (fin s m e) (inf false) p q h = absurd (subst T h tt)
-turned (fin s m e) (fin t n d) p q h = le-of-lt-left (fin s m e) (fin t n d) tt tt h
+le-unless-below nan y p q h = absurd p
+le-unless-below (inf s) nan p q h = absurd q
+le-unless-below (inf true) (inf true) p q h = tt
+le-unless-below (inf true) (inf false) p q h = absurd (subst T h tt)
+le-unless-below (inf false) (inf true) p q h = tt
+le-unless-below (inf false) (inf false) p q h = tt
+le-unless-below (inf true) (fin t n d) p q h = absurd (subst T h tt)
+le-unless-below (inf false) (fin t n d) p q h = tt
+le-unless-below (fin s m e) nan p q h = absurd q
+le-unless-below (fin s m e) (inf true) p q h = tt
+le-unless-below (fin s m e) (inf false) p q h = absurd (subst T h tt)
+le-unless-below (fin s m e) (fin t n d) p q h = le-of-lt-left (fin s m e) (fin t n d) tt tt h
 
 -- the greater of two is at most x exactly if both are
 module _ (a b x : Float) (p : T (not (isNan a))) (q : T (not (isNan b))) where
@@ -44,7 +46,7 @@ module _ (a b x : Float) (p : T (not (isNan a))) (q : T (not (isNan b))) where
     where
       go : (c : Bool) → lt b a ≡ c → T (le (cond c a b) x) → T (le a x) × T (le b x)
       go true e h = (h, le-transitive b a x (le-of-lt-test b a e) h)
-      go false e h = (le-transitive a b x (turned b a q p e) h, h)
+      go false e h = (le-transitive a b x (le-unless-below b a q p e) h, h)
 
   pub max-from : T (le a x) → T (le b x) → T (le (maxOf a b) x)
   unfolding maxOf
@@ -61,7 +63,7 @@ module _ (a b x : Float) (p : T (not (isNan a))) (q : T (not (isNan b))) where
     where
       go : (c : Bool) → lt a b ≡ c → T (le x (cond c a b)) → T (le x a) × T (le x b)
       go true e h = (h, le-transitive x a b h (le-of-lt-test a b e))
-      go false e h = (le-transitive x b a h (turned a b p q e), h)
+      go false e h = (le-transitive x b a h (le-unless-below a b p q e), h)
 
   pub min-from : T (le x a) → T (le x b) → T (le x (minOf a b))
   unfolding minOf
@@ -145,6 +147,6 @@ module _ (v : Node) (t : Slot) (r : Ray) (f : Terms v t r) where
       (max-from (nearX v t r) (nearY v t r) far near-nan-x near-nan-y (far-from (nearX v t r) (h .near-x)) (far-from (nearY v t r) (h .near-y))) (far-from (nearZ v t r) (h .near-z)))
       (far-from (nearLimit r) (h .limit))
 
-  -- the box is passed exactly if every near value is at most every far value
-  pub passes-iff : T (passes v t r) ↔ Passing v t r
-  passes-iff = (passes-to, passes-from)
+-- On a node that meets the rule, for an accepted ray: the box is passed exactly if every near value is at most every far value.
+pub passes-iff : (v : Node) (t : Slot) (r : Ray) → Head v → SlotBytes t → Accepted r → Inverted r → T (passes v t r) ↔ Passing v t r
+passes-iff v t r h b a i = let f = terms-finite v t r h b a i in (passes-to v t r f, passes-from v t r f)

@@ -100,7 +100,7 @@ fn order_case(words: &[u32], cases: &[u32], at: usize) -> [u32; 8]
         }
         i += 1;
     }
-    order::order_children(true, parent, boxes, children, count)
+    order::order_children(parent, boxes, children, count)
 }
 
 // Eight words from a place on.

@@ -1,13 +1,12 @@
--- Bytes and value of a node are each other's, and a node written into a record is read back while the others stay.
+-- Bytes and value of a node are each other's, and what the accessors read and `write_node` writes.
 use mathlib.Core.Path.{_≡_, refl, sym, ap, ap₂, _∙_, subst}
 use mathlib.Core.Logic.{_⊎_, inl, inr, ⊎-elim}
 use mathlib.Core.List.{List, [], _∷_, _++_}
 use Prim.Native.Nat.{ℕ, zero, suc, _+_, _-_, _/_, _^_, _≤_, _<_}
-use native.Mathlib.Nat.{add-assoc, zero-add, add-zero, eq-or-lt-of-le, le-of-suc-le-suc}
-use native.Mathlib.Numerals.{add-one}
+use native.Mathlib.Nat.{add-assoc, zero-add, add-zero}
 use native.Mathlib.Omega.{arith}
-use lib.ListN.{length, take, drop, set, getD, replicate, length-drop, List·getD-append}
-use lib.Seq.{getD-set-same, getD-set-other, ext-getD, getD-take, getD-drop, length-take-le, take-add, drop-drop}
+use lib.ListN.{length, take, drop, getD, replicate, length-drop, List·getD-append}
+use lib.Seq.{ext-getD, getD-take, getD-drop, length-take-le, take-add, drop-drop}
 use Rattle.words.specs.Fields.{field}
 use Rattle.words.specs.Le.{leAt, storeLe}
 use Rattle.words.specs.Loaded.{Loaded}
@@ -34,18 +33,6 @@ eight-congr f g h =
 
 pub eight-list : {A : Type 0} (l : List A) (d : A) → length l ≡ 8 → eight (λ i. getD l i d) ≡ l
 eight-list l d e = ext-getD d (eight (λ i. getD l i d)) l (sym e) (λ i h. eight-at (λ i. getD l i d) d i h)
-
--- a table of eight filled one by one
-pub table-next : {A : Type 0} (d : A) (p : List A) (k : ℕ) (v : A) (f : ℕ → A) → k < length p → ((j : ℕ) → j < k → getD p j d ≡ f j) → v ≡ f k
-    → (j : ℕ) → j < k + 1 → getD (set p k v) j d ≡ f j
-table-next d p k v f h t e j l = go (eq-or-lt-of-le (le-of-suc-le-suc (rw add-one at l)))
-  where
-    go : (j ≡ k) ⊎ (j < k) → getD (set p k v) j d ≡ f j
-    go (inl q) = rw q (getD-set-same p k v d h ∙ e)
-    go (inr q) = getD-set-other p k j v d (λ z. omega (arith, q, z)) ∙ t j q
-
-pub table-all : {A : Type 0} (d : A) (p : List A) (f : ℕ → A) (k : ℕ) → 8 ≤ k → length p ≡ 8 → ((j : ℕ) → j < k → getD p j d ≡ f j) → p ≡ eight f
-table-all d p f k h e t = ext-getD d p (eight f) e (λ i l. t i (omega arith) ∙ sym (eight-at f d i (omega arith)))
 
 -- ---- the bytes
 pub length-node : (n : Node) → length (nodeBytes n) ≡ 80
@@ -221,19 +208,6 @@ module _ (n : Node) (r : InRange n) where
         eight-list (n .slots) noSlot (r .slots),
       )
 
-  -- the node is read back from a record into which it was written
-  pub written-back : (s : List ℕ) (o : ℕ) → o + 80 ≤ length s → nodeFrom (splice s o (nodeBytes n)) o ≡ n
-  written-back s o h =
-      same-node (splice s o (nodeBytes n)) o (nodeBytes n) 0
-      (λ k l. splice-in s o (nodeBytes n) (omega (arith, length-node n)) k 0 (omega (arith, length-node n)) ∙ ap (λ (x : ℕ). getD (nodeBytes n) x 0) (sym (zero-add k)))
-      ∙ node-of-bytes
-
--- the other nodes stay
-pub written-other : (s b : List ℕ) (o q : ℕ) → length b ≡ 80 → o + 80 ≤ length s → (q + 80 ≤ o) ⊎ (o + 80 ≤ q) → nodeFrom (splice s o b) q ≡ nodeFrom s q
-written-other s b o q e h apart =
-    same-node (splice s o b) q s q
-    (λ k l. ⊎-elim (λ p. splice-before s o b (omega arith) (q + k) 0 (omega arith)) (λ p. splice-after s o b (omega arith) (q + k) 0 (omega arith)) apart)
-
 -- ---- bytes to value to bytes
 part-is : (s : List ℕ) (at : ℕ) (l : List ℕ) (n : ℕ) → length l ≡ n → at + n ≤ length s → ((i : ℕ) → i < n → getD l i 0 ≡ getD s (at + i) 0) → l ≡ take n (drop at s)
 part-is s at l n e h f =
@@ -331,14 +305,6 @@ meta-word s o w h = record {
       ∙ sum-congr 8 8 (λ i. getD s (o + 24 + i) 0) (λ i. getD (nodeFrom s o .«child_meta») i 0) (λ i l. sym (metas-at s o i l));
   bytes = λ i l. h .bytes i l ∙ sym (metas-at s o i l);
 }
-
-pub table-metas : (s : List ℕ) (o : ℕ) → eight (λ i. getD (nodeFrom s o .«child_meta») i 0) ≡ nodeFrom s o .«child_meta»
-unfolding nodeFrom
-table-metas s o = eight-list (nodeFrom s o .«child_meta») 0 refl
-
-pub table-slots : (s : List ℕ) (o : ℕ) → eight (slotFrom s o) ≡ nodeFrom s o .slots
-unfolding nodeFrom
-table-slots s o = refl
 
 -- how many ones the three high bits of a meta byte have
 pub count-ones : (m : ℕ) → m < 256 → ones (m / 32) ≡ codeCount m

@@ -1,11 +1,11 @@
 // Internal: a record's node of 80 bytes, as a value and in the record.
 ghost use mathlib.Core.Path.{_≡_};
 ghost use mathlib.Core.List.{[], _∷_};
-ghost use Prim.Native.Nat.{ℕ, _+_, _-_, _*_, _%_, _≤_, _<_};
+ghost use Prim.Native.Nat.{_+_, _*_, _%_, _≤_, _<_};
 ghost use lib.Dec.{eqb};
 ghost use lib.ListN.{length, getD, set};
 ghost use Rattle.lists.specs.Splice.{splice};
-ghost use Rattle.node.specs.Node.{eight, slotOffset, slotFrom, nodeFrom, nodeAt, MetaWord, innerBit, codeCount, childIndex, putSlot, putSlots, headBytes, nodeBytes};
+ghost use Rattle.node.specs.Node.{eight, slotOffset, nodeFrom, MetaWord, innerBit, codeCount, putSlot, putSlots, headBytes, nodeBytes};
 
 // The six bytes of a slot's box on the node's grid.
 pub struct Slot {
@@ -136,80 +136,6 @@ pub fn metas(s: &[u8], o: usize) -> u64
     words::load_u64(s, o + 24)
 }
 
-// A slot of the node at o.
-pub fn read_slot(s: &[u8], o: usize, slot: usize) -> Slot
-    requires { ⌜ (o + 80 ≤ length (now s)) × (slot < 8) ⌝ }
-    ensures { λ r. ⌜ r ≡ slotFrom (now (s .entry)) o slot ⌝ }
-{
-    Slot {
-        min_x: corner(s, o, 0, 0, slot),
-        min_y: corner(s, o, 1, 0, slot),
-        min_z: corner(s, o, 2, 0, slot),
-        max_x: corner(s, o, 0, 1, slot),
-        max_y: corner(s, o, 1, 1, slot),
-        max_z: corner(s, o, 2, 1, slot),
-    }
-}
-
-// Node i of a record.
-pub fn read_node(s: &[u8], i: usize) -> Node
-    requires { ⌜ 80 * i + 80 ≤ length (now s) ⌝ }
-    ensures { λ r. ⌜ r ≡ nodeAt (now (s .entry)) i ⌝ }
-{
-    let o = 80 * i;
-    let child_meta = read_metas(s, o);
-    let slots = read_slots(s, o);
-    Node {
-        px: px(s, o),
-        py: py(s, o),
-        pz: pz(s, o),
-        ex: ex(s, o),
-        ey: ey(s, o),
-        ez: ez(s, o),
-        imask: imask(s, o),
-        child_base_idx: child_base_idx(s, o),
-        primitive_base_idx: primitive_base_idx(s, o),
-        child_meta,
-        slots,
-    }
-}
-
-// The eight metas of the node at o.
-fn read_metas(s: &[u8], o: usize) -> [u8; 8]
-    requires { ⌜ o + 80 ≤ length (now s) ⌝ }
-    ensures { λ r. ⌜ r ≡ nodeFrom (now (s .entry)) o .«child_meta» ⌝ }
-{
-    let mut metas = [0u8; 8];
-    let mut k: usize = 0;
-    while k < 8 {
-        metas[k] = child_meta(s, o, k);
-        k += 1;
-    }
-    metas
-}
-
-// The eight slots of the node at o.
-fn read_slots(s: &[u8], o: usize) -> [Slot; 8]
-    requires { ⌜ o + 80 ≤ length (now s) ⌝ }
-    ensures { λ r. ⌜ r ≡ nodeFrom (now (s .entry)) o .slots ⌝ }
-{
-    let none = Slot {
-        min_x: 0,
-        min_y: 0,
-        min_z: 0,
-        max_x: 0,
-        max_y: 0,
-        max_z: 0,
-    };
-    let mut slots = [none; 8];
-    let mut k: usize = 0;
-    while k < 8 {
-        slots[k] = read_slot(s, o, k);
-        k += 1;
-    }
-    slots
-}
-
 // Writes a byte of a slot's box.
 pub fn set_corner(s: &mut [u8], o: usize, axis: usize, end: usize, slot: usize, v: u8)
     requires { ⌜ (o + 80 ≤ length (now s)) × (axis < 3) × (end < 2) × (slot < 8) ⌝ }
@@ -301,13 +227,6 @@ pub fn is_leaf(imask: u8, child: u32) -> bool
     (imask as u32 >> child) % 2 == 0
 }
 
-// Whether a slot with this meta byte holds nothing.
-pub fn is_child_empty(meta: u8) -> bool
-    ensures { λ r. ⌜ r ≡ eqb meta 0 ⌝ }
-{
-    meta == 0
-}
-
 // A leaf's first position and how many it has. The sum needs more than 32 bits.
 pub struct Primitives {
     pub start: usize,
@@ -323,13 +242,4 @@ pub fn child_primitives(primitive_base_idx: u32, meta: u8) -> Primitives
         start: primitive_base_idx as usize + (m % 32) as usize,
         count: u32::count_ones(m / 32),
     }
-}
-
-// The number of the node in a slot, whose meta byte is 56 more than the slot.
-pub fn child_node_index(child_base_idx: u32, imask: u8, meta: u8) -> usize
-    requires { ⌜ 24 ≤ meta % 32 ⌝ }
-    ensures { λ r. ⌜ r ≡ childIndex «child_base_idx» imask (meta % 32 - 24) ⌝ }
-{
-    let slot = (meta % 32 - 24) as u32;
-    child_base_idx as usize + words::rank(imask as u32, slot) as usize
 }

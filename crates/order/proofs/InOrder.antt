@@ -1,19 +1,15 @@
 -- Without ordering child i takes slot i.
-use mathlib.Core.Path.{_≡_, refl, sym, ap, _∙_, fun-ext}
+use mathlib.Core.Path.{_≡_, refl, sym, ap, _∙_}
 use mathlib.Core.Logic.{_⊎_, inl, inr}
-use mathlib.Core.Bool.{cond}
 use mathlib.Core.List.{List, [], _∷_, _++_}
-use Prim.Native.Nat.{ℕ, zero, suc, _+_, _≤_, _<_}
+use Prim.Native.Nat.{ℕ, zero, suc, _≤_, _<_}
 use native.Mathlib.Nat.{not-suc-le-zero, le-of-suc-le-suc, eq-or-lt-of-le}
 use native.Mathlib.Numerals.{add-one}
 use native.Mathlib.Omega.{arith}
-use lib.Dec.{eqb}
-use lib.ListN.{length, length-append, set}
+use lib.ListN.{length, length-append}
 use borrow.Author.Tests.{ne-eqb}
-use Rattle.order.specs.Lists.{eightOf}
-use Rattle.order.specs.Assign.{Pair, partner, slotOf, childOf}
+use Rattle.order.specs.Assign.{Pair, slotOf, childOf}
 use Rattle.order.specs.Order.{inOrder}
-use Rattle.order.proofs.Arrays.{array-next}
 use Rattle.order.proofs.Lists.{All, all-append, all-map}
 use Rattle.order.proofs.Partners.{partner-same, partner-other, partner-none, Matched, matched-none, matched-pair, OneToOne, one-to-one}
 
@@ -66,19 +62,3 @@ in-order-slot (suc n) c h l = go (eq-or-lt-of-le (le-of-suc-le-suc l)) (in-order
 pub in-order-one-to-one : (n : ℕ) → n ≤ 8 → OneToOne n (inOrder n)
 in-order-one-to-one n h =
     one-to-one n (inOrder n) (in-order-matched n h) (length-in-order n) (λ c l. ne-eqb (slotOf (inOrder n) c) 8 (λ e. omega (arith, in-order-slot n c h l)))
-
--- ---- as the code fills its array
-pub in-order-next : (k : ℕ) (xs : List ℕ) → k < 8 → xs ≡ eightOf (slotOf (inOrder k)) → set xs k k ≡ eightOf (slotOf (inOrder (k + 1)))
-unfolding inOrder
-in-order-next k xs h e =
-    rw add-one
-    (array-next (λ p. p .child) (λ p. p .slot) (inOrder k) (own k) xs e (in-order-all (λ p. p .slot < 8) k (λ i l. omega arith)) h (slot-free k))
-
--- the children of the slots are the slots of the children
-alike : (ps : List Pair) → All (λ p. p .child ≡ p .slot) ps → (k : ℕ) → slotOf ps k ≡ childOf ps k
-unfolding partner
-alike [] h k = refl
-alike (p ∷ ps) h k = rw (h .0) (ap (λ (z : ℕ). cond (eqb (p .slot) k) (p .slot) z) (alike ps (h .1) k))
-
-pub in-order-both : (n : ℕ) → eightOf (slotOf (inOrder n)) ≡ eightOf (childOf (inOrder n))
-in-order-both n = ap (λ (f : ℕ → ℕ). eightOf f) (fun-ext (alike (inOrder n) (in-order-all (λ p. p .child ≡ p .slot) n (λ i l. refl))))

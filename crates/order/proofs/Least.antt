@@ -49,9 +49,6 @@ cheaper-assoc a b c n = go (lt (b .cost) (a .cost)) refl (lt (c .cost) (b .cost)
 abbrev pub Under : Best → Type 0
 Under b = (b ≡ noBest) ⊎ (lt (b .cost) greatest ≡ true)
 
-under-none : Under noBest
-under-none = inl refl
-
 greatest-proper : T (not (isNan greatest))
 unfolding ofBits isNan
 greatest-proper = tt

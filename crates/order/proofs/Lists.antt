@@ -2,7 +2,7 @@
 use mathlib.Core.Path.{_≡_, refl, ap, ap₂}
 use mathlib.Core.Bool.{Bool, true, false, _||_}
 use mathlib.Core.List.{List, [], _∷_, _++_, map, cons≢nil}
-use Prim.Native.Nat.{ℕ, zero, suc, _<_, zero-le, suc-le-suc}
+use Prim.Native.Nat.{ℕ, zero, suc, _<_}
 use native.Mathlib.Nat.{not-suc-le-zero, le-of-suc-le-suc}
 use lib.ListN.{take, getD, length}
 use Rattle.order.specs.Lists.{consIf, keep, some}
@@ -114,10 +114,6 @@ pub all-at : {A : Type 0} (P : A → Type 0) (xs : List A) (i : ℕ) (d : A) →
 all-at P [] i d l h = absurd (not-suc-le-zero l)
 all-at P (x ∷ xs) zero d l h = h .0
 all-at P (x ∷ xs) (suc i) d l h = all-at P xs i d (le-of-suc-le-suc l) (h .1)
-
-pub all-of : {A : Type 0} (P : A → Type 0) (xs : List A) (d : A) → ((i : ℕ) → i < length xs → P (getD xs i d)) → All P xs
-all-of P [] d h = tt
-all-of P (x ∷ xs) d h = (h 0 (suc-le-suc zero-le), all-of P xs d (λ i l. h (suc i) (suc-le-suc l)))
 
 pub all-mapped : {A B : Type 0} (P : B → Type 0) (f : A → B) (xs : List A) → All (λ x. P (f x)) xs → All P (map f xs)
 all-mapped P f [] h = tt

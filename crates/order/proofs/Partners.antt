@@ -136,7 +136,3 @@ one-to-one n ps m e h = record { matched = m; all = e; slot = λ c l. way c l .1
   where
     way : (c : ℕ) → c < n → (c < n) × (slotOf ps c < 8) × (childOf ps (slotOf ps c) ≡ c)
     way c l = elim (child-slot n ps m c) [ inl w ↦ absurd (eqb-false (slotOf ps c) 8 (h c l) w) | inr w ↦ w ]
-
--- no two children share a slot
-pub slots-distinct : (n : ℕ) (ps : List Pair) → OneToOne n ps → (c d : ℕ) → c < n → d < n → slotOf ps c ≡ slotOf ps d → c ≡ d
-slots-distinct n ps o c d h k e = sym (o .there c h) ∙ ap (childOf ps) e ∙ o .there d k

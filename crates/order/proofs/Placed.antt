@@ -2,16 +2,15 @@
 use mathlib.Core.Path.{_≡_, sym, ap, _∙_, fun-ext}
 use mathlib.Core.Logic.{inl, inr}
 use mathlib.Core.List.{List, map}
-use Prim.Native.Nat.{ℕ, _≤_, _<_}
+use Prim.Native.Nat.{ℕ, _≤_}
 use native.Mathlib.Nat.{lt-of-lt-of-le}
 use native.Mathlib.Omega.{arith}
 use lib.ListN.{length, take, getD, length-take, List·getD-eq-default}
 use lib.Seq.{getD-take}
 use Rattle.order.specs.Lists.{eightOf}
-use Rattle.order.specs.Assign.{Pair, slotOf, childOf}
+use Rattle.order.specs.Assign.{Pair, childOf}
 use Rattle.order.specs.Order.{placed}
-use Rattle.order.proofs.Arrays.{eight-at}
-use Rattle.order.proofs.Partners.{Matched, slot-child, OneToOne}
+use Rattle.order.proofs.Partners.{Matched, slot-child}
 
 module _ {A : Type 0} (none : A) where
   -- as the code reads them from the whole array
@@ -26,13 +25,3 @@ module _ {A : Type 0} (none : A) where
             ∙ sym (List·getD-eq-default (take count xs) none {n = childOf ps s} (omega (arith, z, length-take count xs)))
         | inr w ↦ sym (getD-take count xs (childOf ps s) none (lt-of-lt-of-le (w .1) l))
       ]
-
-  -- a child stands in its slot, and nothing in a slot without a child
-  pub placed-child : (n : ℕ) (ps : List Pair) (xs : List A) (d : A) → OneToOne n ps → (c : ℕ) → c < n → getD (placed none ps xs) (slotOf ps c) d ≡ getD xs c none
-  unfolding placed
-  placed-child n ps xs d o c l = eight-at (λ s. getD xs (childOf ps s) none) d (slotOf ps c) (o .slot c l) ∙ ap (λ (k : ℕ). getD xs k none) (o .there c l)
-
-  pub placed-none : (ps : List Pair) (xs : List A) (d : A) (s : ℕ) → length xs ≤ 8 → s < 8 → childOf ps s ≡ 8 → getD (placed none ps xs) s d ≡ none
-  unfolding placed
-  placed-none ps xs d s few l e =
-      eight-at (λ s. getD xs (childOf ps s) none) d s l ∙ ap (λ (k : ℕ). getD xs k none) e ∙ List·getD-eq-default xs none {n = 8} few

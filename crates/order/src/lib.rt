@@ -1,5 +1,7 @@
-// Internal: the children of a node put into its eight slots (bvh2_to_cwbvh.rs, order_children).
+// Internal: the children of a node put into its eight slots by cost (bvh2_to_cwbvh.rs, order_children). Without ordering there is nothing to do: they
+// stay as they were gathered.
 ghost use mathlib.Core.Path.{_≡_};
+ghost use mathlib.Core.Bool.{true};
 ghost use mathlib.Core.List.{map};
 ghost use Prim.Native.Nat.{min, _≤_};
 ghost use lib.ListN.{take, getD};
@@ -8,7 +10,7 @@ ghost use Rattle.aabb.specs.Aabb.{each, centerOf};
 ghost use Rattle.order.specs.Assign.{costIn, assignment, arraysOf};
 ghost use Rattle.order.specs.Scan.{cheaper, bestSlot, bestOpen};
 ghost use Rattle.order.specs.Lists.{eightOf, padded};
-ghost use Rattle.order.specs.Order.{signOf, directionOf, dotOf, directionCost, costTable, noRow, inOrder, slotsOf, placed};
+ghost use Rattle.order.specs.Order.{signOf, directionOf, dotOf, directionCost, costTable, noRow, slotsOf, placed};
 use aabb::Aabb;
 use ray::Vec3;
 
@@ -217,31 +219,6 @@ pub fn direction_costs(parent: Aabb, boxes: [Aabb; 8], count: usize) -> [[f32; 8
     cost_rows(p, boxes, n)
 }
 
-// Child i in slot i, for n children.
-fn in_order(n: usize) -> Assignment
-    requires { ⌜ n ≤ 8 ⌝ }
-    ensures { λ r. ⌜ r ≡ arraysOf (inOrder n) ⌝ }
-{
-    let mut slot = [8usize; 8];
-    let mut i = 0usize;
-    while i < n {
-        slot[i] = i;
-        i += 1;
-    }
-    let child = slot;
-    Assignment { slot, child }
-}
-
-// The slots of the first `count` children of a node, their boxes in gathered order: by cost with ordering on, else child i in slot i.
-pub fn slots_of(ordered: bool, parent: Aabb, boxes: [Aabb; 8], count: usize) -> Assignment
-    ensures { λ r. ⌜ r ≡ arraysOf (slotsOf ordered parent (take count boxes)) ⌝ }
-{
-    if ordered {
-        return assign(direction_costs(parent, boxes, count), count);
-    }
-    in_order(at_most_eight(count))
-}
-
 // Element c, or all ones where c is not below 8.
 fn child_or_none(children: [u32; 8], c: usize) -> u32
     ensures { λ r. ⌜ r ≡ getD children c 0xffff_ffff ⌝ }
@@ -266,17 +243,12 @@ fn place(children: [u32; 8], child: [usize; 8]) -> [u32; 8]
     out
 }
 
-// The first `count` children of a node by slots, with their boxes in the same order; all ones in a slot without a child.
-pub fn order_children(
-    ordered: bool,
-    parent: Aabb,
-    boxes: [Aabb; 8],
-    children: [u32; 8],
-    count: usize,
-) -> [u32; 8]
-    ensures { λ r. ⌜ r ≡ placed 0xffff_ffff (slotsOf ordered parent (take count boxes)) (take count children) ⌝ }
+// The first `count` children of a node by slots, with their boxes in the same order; all ones in a slot without a child. A count over 8 acts as 8.
+pub fn order_children(parent: Aabb, boxes: [Aabb; 8], children: [u32; 8], count: usize) -> [u32; 8]
+    ensures { λ r. ⌜ r ≡ placed 0xffff_ffff (slotsOf true parent (take count boxes)) (take count children) ⌝ }
 {
-    let a = slots_of(ordered, parent, boxes, count);
+    let cost = direction_costs(parent, boxes, count);
+    let a = assign(cost, count);
     let child = a.child;
     place(children, child)
 }

@@ -1,6 +1,6 @@
-// Internal: from floats to bytes. The exponent byte of an axis, and a child's two ends on its parent's grid.
+// Internal: from floats to bytes. The exponent byte of an axis, the reciprocal of its scale, and a value on the grid rounded down or up to a byte.
 ghost use mathlib.Core.Path.{_≡_};
-ghost use Rattle.quantization.specs.Ends.{quantMin, quantMax, reciprocalOf, childMin, childMax};
+ghost use Rattle.quantization.specs.Ends.{quantMin, quantMax, reciprocalOf};
 ghost use Rattle.quantization.specs.Exponent.{extentScale, exponentOf};
 
 const LEAST_EXTENT: f32 = 1e-20;
@@ -54,18 +54,4 @@ pub fn quantize_max(x: f32) -> u8
         }
     }
     floor
-}
-
-// The byte of a child's lower end on the grid of a parent with lower end p and exponent byte e.
-pub fn child_min(p: f32, e: u8, lo: f32) -> u8
-    ensures { λ r. ⌜ r ≡ childMin p e lo ⌝ }
-{
-    quantize_min((lo - p) * reciprocal(e))
-}
-
-// The byte of a child's upper end.
-pub fn child_max(p: f32, e: u8, hi: f32) -> u8
-    ensures { λ r. ⌜ r ≡ childMax p e hi ⌝ }
-{
-    quantize_max((hi - p) * reciprocal(e))
 }

@@ -77,14 +77,19 @@ fn masks(case: &[u8]) -> bool {
     slot::intersect_ray(case, 0, r, octant) == word(case, 29)
 }
 
-// The number of the node in a slot; all ones where its meta's low five bits are below 24.
+// The number of the node in a slot, for a ray of octant 0; all ones where its meta's low five bits are below 24.
 fn child_number(case: &[u8], meta: u8) -> usize
     requires { ⌜ 80 ≤ length (now case) ⌝ }
 {
     if meta % 32 < 24 {
         return 0xffff_ffff;
     }
-    node::child_node_index(node::child_base_idx(case, 0), node::imask(case, 0), meta)
+    slot::hit_child(
+        node::child_base_idx(case, 0),
+        node::imask(case, 0) as u32,
+        (meta % 32) as u32,
+        0,
+    )
 }
 
 // A slot: 1 if it holds no node and 2 if nothing; its first position, how many, and the number of its child.
@@ -94,7 +99,7 @@ fn same_slot(case: &[u8], slot: usize) -> bool
     let meta = node::child_meta(case, 0, slot);
     let at = 23 + 4 * slot;
     let leaf = node::is_leaf(node::imask(case, 0), slot as u32) as u32;
-    let empty = node::is_child_empty(meta) as u32;
+    let empty = (meta == 0) as u32;
     if leaf != word(case, at) % 2 {
         return false;
     }

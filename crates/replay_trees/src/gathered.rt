@@ -62,7 +62,7 @@ fn child_boxes(words: &[u32], parent: Aabb, found: [u32; 8]) -> [Aabb; 8] {
     boxes
 }
 
-// Whether the children found stand in the slots as stored: in gathered order from word `at` on, and ordered from word `at + 2` on.
+// Whether the children found stand, ordered, in the slots that are stored from word `at` on.
 fn same_slots(
     case: &[u8],
     at: usize,
@@ -71,21 +71,10 @@ fn same_slots(
     found: [u32; 8],
     count: usize,
 ) -> bool
-    requires { ⌜ at ≤ 1000000 ⌝ }
+    requires { ⌜ at ≤ 1000002 ⌝ }
 {
     let boxes = child_boxes(words, parent, found);
-    if same_numbers(
-        case,
-        at,
-        order::order_children(false, parent, boxes, found, count),
-    ) {
-        return same_numbers(
-            case,
-            at + 2,
-            order::order_children(true, parent, boxes, found, count),
-        );
-    }
-    false
+    same_numbers(case, at, order::order_children(parent, boxes, found, count))
 }
 
 // Whether node v opens into what is stored from word `at` on: how many children, these in gathered order, and these by slots.
@@ -106,7 +95,7 @@ fn same_children(
     }
     if same_numbers(case, at + 1, found) {
         let parent = bvh2::node_box(words, v);
-        return same_slots(case, at + 1, words, parent, found, count);
+        return same_slots(case, at + 3, words, parent, found, count);
     }
     false
 }

@@ -1,6 +1,6 @@
 // Internal: conversion up to its tables. Causes 1 to 7 in rising number, and the decision words and costs of every node.
 ghost use mathlib.Core.Path.{_≡_};
-ghost use Prim.Native.Nat.{_*_, _≤_, _<_};
+ghost use Prim.Native.Nat.{_≤_, _<_};
 ghost use lib.ListN.{length};
 ghost use Rattle.float.specs.Compare.{plusZero};
 ghost use Rattle.bvh2.specs.Causes.{Sized};

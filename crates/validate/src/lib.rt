@@ -1,8 +1,7 @@
 // The record check: whether a record is sound, and its deepest level (cwbvh/mod.rs, validate). One pass over the nodes, with a working word for each
 // node and each position.
 ghost use mathlib.Core.Path.{_≡_};
-ghost use mathlib.Core.List.{List};
-ghost use Prim.Native.Nat.{ℕ, _+_, _≤_, _<_, max};
+ghost use Prim.Native.Nat.{_+_, _≤_, _<_, max};
 ghost use lib.ListN.{length, getD, replicate};
 ghost use Rattle.node.specs.Node.{innerBit};
 ghost use Rattle.record_shape.specs.Record.{leafCount, shapeAt};

@@ -2,27 +2,21 @@
 use mathlib.Core.Bool.{Bool, true, false}
 use mathlib.Core.List.{List}
 use mathlib.Core.Path.{_≡_, refl, subst}
-use Prim.Native.Nat.{ℕ, zero, suc, _+_, _-_, _*_, _%_, _^_, _≤_, _<_}
-use native.Mathlib.Nat.{mod-lt}
+use Prim.Native.Nat.{ℕ, zero, suc, _+_, _-_, _*_, _%_, _≤_, _<_}
 use native.Mathlib.Omega.{arith}
 use lib.Bits.{bitXor, xor-lt}
 use lib.ListN.{getD}
-use lib.Pow.{pow-pos}
 use Rattle.lists.proofs.Tells.{told, tells-true, tells-same, tells-as, eqb-tells}
 use Rattle.words.specs.Ones.{onesBelow}
 use Rattle.words.specs.Fields.{field}
 use Rattle.words.proofs.Le.{le-lt}
-use Rattle.words.proofs.Ors.{or-of-lt}
 use Rattle.soundness.specs.Range.{inRange}
 use Rattle.soundness.proofs.Range.{in-range, range-stands}
-use Rattle.ray.specs.declared.Ray.{Ray}
-use Rattle.node.specs.declared.Node.{Node}
 use Rattle.node.specs.Node.{nodeAt, nodeFrom, innerBit, codeCount}
-use Rattle.decode.specs.Meta.{childBits, bitIndex}
 use Rattle.decode.proofs.Decode.{slot-back}
 use Rattle.rule.specs.Rule.{Rule, SlotRule, empty, child, leaf, nodeRule}
-use Rattle.slot.specs.Mask.{onlyIf, hitBits, passesSlot, slotHit, hitMask}
-use Rattle.hits.proofs.HitBits.{child-bit-set, child-bit-of, position-bit-of, position-bit-set}
+use Rattle.slot.specs.Mask.{passesSlot}
+use Rattle.hits.proofs.HitBits.{mask-lt, child-bit-set, child-bit-of, position-bit-of, position-bit-set}
 use Rattle.record_shape.specs.Record.{nodeCount, metaAt, leafCount, shapeAt, RuleAt}
 use Rattle.record_shape.proofs.Placed.{placed}
 use Rattle.record_shape.proofs.Record.{node-tells}
@@ -128,14 +122,6 @@ module _ {s d : Type 0} (bytes : List ℕ) (R : Rays s d) (laws : RayLaws R) (n 
           position-bit-set (nodeAt bytes v) (R .ray r) (R .octant r) k (laws .octant-lt r f) (met k v e .slots) b j (q .0 .1) (c .0) (q .0 .2 .1) (omega (arith, g .0)) (omega (arith, g .1, c .1))
 
 -- ---- words in range
-
-mask-lt : (v : Node) (r : Ray) (octant : ℕ) → hitMask v r octant < 2 ^ 32
-unfolding hitMask slotHit hitBits
-mask-lt v r octant = or-of-lt 32 8 (slotHit v r octant) (λ k l. small (passesSlot v r k) (getD (v .«child_meta») k 0))
-  where
-    small : (b : Bool) (meta : ℕ) → onlyIf b ((childBits meta * 2 ^ bitIndex octant meta) % 2 ^ 32) < 2 ^ 32
-    small true meta = mod-lt (childBits meta * 2 ^ bitIndex octant meta) (pow-pos 32)
-    small false meta = pow-pos 32
 
 -- bytes fit
 pub bytes-fit : (bytes : List ℕ) → ((i : ℕ) → getD bytes i 0 < 256) → FieldsFit bytes

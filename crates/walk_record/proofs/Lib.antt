@@ -2,4 +2,5 @@ pub mod Laws
 pub mod Steps
 pub mod Demands
 pub mod Beam
+pub mod Reach
 pub mod Example

@@ -1,16 +1,15 @@
 -- The laws of a number's fields as a sum, and of a number that lies in a list of bytes.
 use mathlib.Core.Path.{_≡_, refl, sym, ap, ap₂, _∙_, subst}
-use mathlib.Core.Logic.{_⊎_, inl, inr, ⊎-elim}
+use mathlib.Core.Logic.{_⊎_, inl, inr}
 use mathlib.Core.List.{List}
-use Prim.Native.Nat.{ℕ, zero, suc, _+_, _*_, _/_, _%_, _^_, _≤_, _<_}
-use native.Mathlib.Nat.{mod-eq-of-lt, mod-one, zero-mul, suc-mul, add-comm, mul-assoc, mul-add-mod-self-right, add-mul-div-right, add-zero, zero-add, eq-or-lt-of-le, le-of-suc-le-suc, not-suc-le-zero}
+use Prim.Native.Nat.{ℕ, zero, suc, _+_, _*_, _/_, _%_, _^_, _<_}
+use native.Mathlib.Nat.{mod-eq-of-lt, mod-one, zero-mul, suc-mul, add-comm, mul-assoc, mul-add-mod-self-right, add-mul-div-right, add-zero, eq-or-lt-of-le, le-of-suc-le-suc, not-suc-le-zero}
 use native.Mathlib.Omega.{arith}
 use lib.Arith.{digits-lt}
 use lib.Pow.{pow-pos, pow-add, high, mod-pow-add}
-use lib.ListN.{length, getD, set, length-set}
-use lib.Seq.{getD-set-same, getD-set-other}
+use lib.ListN.{getD}
 use Rattle.words.specs.Fields.{field}
-use Rattle.words.specs.Le.{sumOf, leAt, storeLe}
+use Rattle.words.specs.Le.{sumOf, leAt}
 use Rattle.words.proofs.Fields.{field-is}
 
 -- ---- sums
@@ -79,49 +78,6 @@ le-lt n s at h = sum-lt 8 n (λ i. getD s (at + i) 0) h
 pub le-byte : (n : ℕ) (s : List ℕ) (at : ℕ) → ((i : ℕ) → i < n → getD s (at + i) 0 < 256) → (i : ℕ) → i < n → field 8 i (leAt n s at) ≡ getD s (at + i) 0
 unfolding leAt
 le-byte n s at h = field-sum 8 n (λ i. getD s (at + i) 0) h
-
--- the same at the list's start
-pub le-byte₀ : (n : ℕ) (s : List ℕ) → ((i : ℕ) → i < n → getD s i 0 < 256) → (i : ℕ) → i < n → field 8 i (leAt n s 0) ≡ getD s i 0
-le-byte₀ n s h i l =
-    le-byte n s 0 (λ j m. subst (λ (x : ℕ). getD s x 0 < 256) (sym (zero-add j)) (h j m)) i l ∙ ap (λ (x : ℕ). getD s x 0) (zero-add i)
-
-pub length-store : (n : ℕ) (s : List ℕ) (at v : ℕ) → length (storeLe n s at v) ≡ length s
-unfolding storeLe
-length-store zero s at v = refl
-length-store (suc n) s at v = length-set (storeLe n s at v) (at + n) (field 8 n v) ∙ length-store n s at v
-
--- a place before or after the bytes is as it was
-pub store-other : (n : ℕ) (s : List ℕ) (at v j : ℕ) → (j < at) ⊎ (at + n ≤ j) → getD (storeLe n s at v) j 0 ≡ getD s j 0
-unfolding storeLe
-store-other zero s at v j h = refl
-store-other (suc n) s at v j h =
-    getD-set-other (storeLe n s at v) (at + n) j (field 8 n v) 0 (⊎-elim (λ l e. omega arith) (λ l e. omega arith) h)
-    ∙ store-other n s at v j (⊎-elim (λ l. inl l) (λ l. inr (omega arith)) h)
-
--- the bytes are the number's
-pub store-same : (n : ℕ) (s : List ℕ) (at v : ℕ) → at + n ≤ length s → (i : ℕ) → i < n → getD (storeLe n s at v) (at + i) 0 ≡ field 8 i v
-unfolding storeLe
-store-same zero s at v h i l = absurd (not-suc-le-zero l)
-store-same (suc n) s at v h i l = pick (store-same n s at v (omega arith) i) (eq-or-lt-of-le (le-of-suc-le-suc l))
-  where
-    pick : (i < n → getD (storeLe n s at v) (at + i) 0 ≡ field 8 i v) → (i ≡ n) ⊎ (i < n)
-        → getD (set (storeLe n s at v) (at + n) (field 8 n v)) (at + i) 0 ≡ field 8 i v
-    pick rest (inl e) =
-        ap (λ (x : ℕ). getD (set (storeLe n s at v) (at + n) (field 8 n v)) (at + x) 0) e
-        ∙ getD-set-same (storeLe n s at v) (at + n) (field 8 n v) 0 (omega (arith, length-store n s at v)) ∙ ap (λ (x : ℕ). field 8 x v) (sym e)
-    pick rest (inr m) = getD-set-other (storeLe n s at v) (at + n) (at + i) (field 8 n v) 0 (λ e. omega arith) ∙ rest m
-
--- what was stored is loaded again
-pub load-store : (n : ℕ) (s : List ℕ) (at v : ℕ) → at + n ≤ length s → v < 2 ^ (n * 8) → leAt n (storeLe n s at v) at ≡ v
-unfolding leAt
-load-store n s at v h hv = sum-congr 8 n (λ i. getD (storeLe n s at v) (at + i) 0) (λ i. field 8 i v) (store-same n s at v h) ∙ sum-whole 8 n v hv
-
--- and a number that lies elsewhere is not touched
-pub load-other : (n m : ℕ) (s : List ℕ) (at v to : ℕ) → (to + m ≤ at) ⊎ (at + n ≤ to) → leAt m (storeLe n s at v) to ≡ leAt m s to
-unfolding leAt
-load-other n m s at v to h =
-    sum-congr 8 m (λ i. getD (storeLe n s at v) (to + i) 0) (λ i. getD s (to + i) 0)
-    (λ i l. store-other n s at v (to + i) (⊎-elim (λ p. inl (omega arith)) (λ p. inr (omega arith)) h))
 
 -- written out, as code adds them
 pub le4 : (s : List ℕ) (at : ℕ)

@@ -6,17 +6,13 @@ use native.Mathlib.Numerals.{one-add}
 use native.Mathlib.Omega.{arith}
 use lib.Arith.{digits-mod}
 use lib.Pow.{pow-pos, pow-lt, mod-pow-add, suc-ones}
-use lib.Bits.{bitAnd, bitOr, and-mask, or-shifted}
+use lib.Bits.{bitAnd, and-mask}
 use lib.Count.{ones, ones-cat}
 use Rattle.words.specs.Ones.{onesBelow}
 
 -- `1 << s`
 pub one-shl : (w s : ℕ) → s < w → (1 * 2 ^ s) % 2 ^ w ≡ 2 ^ s
 one-shl w s h = ap (λ (x : ℕ). x % 2 ^ w) (one-mul (2 ^ s)) ∙ mod-eq-of-lt (pow-lt h)
-
--- `m & ((1 << s) - 1)`
-pub below-mask : (w s m : ℕ) → s < w → bitAnd m ((1 * 2 ^ s) % 2 ^ w - 1) ≡ m % 2 ^ s
-below-mask w s m h = ap (λ (x : ℕ). bitAnd m (x - 1)) (one-shl w s h) ∙ and-mask m s
 
 -- `MAX << s`: all digits from s on
 max-shl : (w s : ℕ) → s < w → ((2 ^ w - 1) * 2 ^ s) % 2 ^ w ≡ 2 ^ w - 2 ^ s
@@ -53,7 +49,3 @@ ones-below (suc k) m =
     ∙ ones-cat k (m / 2 ^ k % 2) (m % 2 ^ k) (mod-lt m (pow-pos k))
     ∙ ap₂ (λ (x y : ℕ). x + y) (one-digit (m / 2 ^ k % 2) (mod-lt (m / 2 ^ k) (omega arith))) (ones-below k m)
     ∙ omega arith
-
--- `hi | lo` is a sum where hi ends in k zeros and lo has k digits. Both sides of the `|` stay as the code has them.
-pub or-sum : (k q : ℕ) {hi lo : ℕ} → hi ≡ q * 2 ^ k → lo < 2 ^ k → bitOr hi lo ≡ hi + lo
-or-sum k q {hi} {lo} e h = ap (λ (x : ℕ). bitOr x lo) e ∙ or-shifted q k lo h ∙ ap (λ (x : ℕ). x + lo) (sym e)

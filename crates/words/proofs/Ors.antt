@@ -1,4 +1,4 @@
--- The `|` of n words, bit by bit, and as a sum.
+-- The `|` of n words, bit by bit.
 use mathlib.Core.Path.{_≡_, refl, sym, ap, ap₂, _∙_}
 use mathlib.Core.Logic.{_⊎_, inl, inr}
 use Prim.Native.Nat.{ℕ, zero, suc, _+_, _-_, _*_, _/_, _%_, _^_, _≤_, _<_}
@@ -6,9 +6,9 @@ use native.Mathlib.Nat.{not-suc-le-zero, eq-or-lt-of-le, le-of-suc-le-suc, mul-o
 use native.Mathlib.Numerals.{add-one}
 use native.Mathlib.Omega.{arith}
 use lib.Pow.{pow-pos, pow-mono, ones-split, split, high, low}
-use lib.Bits.{bitAnd, bitOr, or-lt, or-disjoint, or-comm}
+use lib.Bits.{bitOr, or-lt, or-comm}
 use Rattle.words.specs.Fields.{field}
-use Rattle.words.specs.Ors.{orOf, sum}
+use Rattle.words.specs.Ors.{orOf}
 use Rattle.words.proofs.Fields.{field-lt, field-is, field-or, bit-shl}
 use Rattle.words.proofs.Le.{field-low}
 
@@ -90,9 +90,3 @@ run-bit (suc c) (suc j) h = ap (field 1 j) (ap (λ (x : ℕ). x / 2) (run-split 
 pub bit-past : (c j n : ℕ) → n < 2 ^ c → c ≤ j → field 1 j n ≡ zero
 bit-past c j n h l =
     field-is 1 j n ∙ ap (λ (x : ℕ). n / 2 ^ x % 2) (mul-one j) ∙ ap (λ (x : ℕ). x % 2) (div-eq-of-lt (lt-of-lt-of-le h (pow-mono l)))
-
--- ---- as a sum, where each word has no digit in common with those before it
-pub or-sum-of : (n : ℕ) (f : ℕ → ℕ) → ((k : ℕ) → k < n → bitAnd (orOf k f) (f k) ≡ zero) → orOf n f ≡ sum n f
-unfolding orOf sum
-or-sum-of zero f h = refl
-or-sum-of (suc n) f h = or-disjoint (orOf n f) (f n) (h n (omega arith)) ∙ ap (λ (x : ℕ). x + f n) (or-sum-of n f (λ k l. h k (omega arith)))

@@ -1,15 +1,15 @@
--- What a rank is good for: ranks of set digits rise, so no two set digits have one rank; and the digits of a word are popped from the top.
-use mathlib.Core.Path.{_≡_, refl, sym, ap, _∙_}
+-- What a rank is good for: ranks of set digits rise, so no two set digits have one rank; and the highest set digit is one.
+use mathlib.Core.Path.{_≡_, sym, ap, _∙_}
 use mathlib.Core.Logic.{_⊎_, inl, inr, ⊎-elim}
-use Prim.Native.Nat.{ℕ, zero, suc, _+_, _*_, _/_, _%_, _^_, _≤_, _<_}
-use native.Mathlib.Nat.{mod-lt, mod-eq-of-lt, mul-one, le-of-suc-le-suc, eq-or-lt-of-le, le-refl, not-le-of-lt, lt-of-le-of-lt}
+use Prim.Native.Nat.{ℕ, zero, suc, _+_, _/_, _%_, _^_, _≤_, _<_}
+use native.Mathlib.Nat.{mod-eq-of-lt, mul-one, le-of-suc-le-suc, eq-or-lt-of-le, not-le-of-lt, lt-of-le-of-lt}
 use native.Mathlib.Omega.{arith}
-use lib.Pow.{pow-pos, pow-mono, split}
-use lib.Count.{ones, ones-cat}
+use lib.Pow.{pow-mono}
+use lib.Count.{ones}
 use Rattle.words.specs.Ones.{onesBelow}
 use Rattle.words.specs.Fields.{field}
 use Rattle.words.specs.Top.{Top}
-use Rattle.words.proofs.Fields.{field-is, field-lt}
+use Rattle.words.proofs.Fields.{field-is}
 use Rattle.words.proofs.Masks.{ones-below}
 use Rattle.words.proofs.HighestBit.{top-bit}
 use Rattle.words.proofs.Upto.{lt-or-ge}
@@ -24,11 +24,6 @@ bit-is j n = field-is 1 j n ∙ ap (λ (x : ℕ). n / 2 ^ x % 2) (mul-one j)
 pub rank-step : (k m : ℕ) → onesBelow (suc k) m ≡ onesBelow k m + field 1 k m
 unfolding onesBelow
 rank-step k m = ap (λ (x : ℕ). onesBelow k m + x) (sym (bit-is k m))
-
-pub rank-le : (k m : ℕ) → onesBelow k m ≤ k
-unfolding onesBelow
-rank-le zero m = le-refl zero
-rank-le (suc k) m = omega (arith, rank-step k m, field-lt 1 k m, rank-le k m)
 
 pub rank-mono : (j k m : ℕ) → j ≤ k → onesBelow j m ≤ onesBelow k m
 rank-mono j zero m h = let e : j ≡ zero = omega arith in omega (arith, ap (λ (x : ℕ). onesBelow x m) e)
@@ -56,13 +51,3 @@ top-le w n r q s t =
 
 pub top-unique : (w n r q : ℕ) → Top w n r → Top w n q → r ≡ q
 top-unique w n r q s t = omega (arith, top-le w n r q s t, top-le w n q r t s)
-
--- one digit less is set once the highest is cleared: a measure for a loop that pops them
-pub ones-pop : (w n r : ℕ) → Top w n r → ones n ≡ 1 + ones (n % 2 ^ r)
-unfolding ones
-ones-pop w n r t =
-    ap ones (sym (split n r) ∙ ap (λ (x : ℕ). x * 2 ^ r + n % 2 ^ r) (top-bit n r (t .low) (t .upper))) ∙ ones-cat r 1 (n % 2 ^ r) (mod-lt n (pow-pos r))
-
-pub ones-zero : ones zero ≡ zero
-unfolding ones
-ones-zero = refl

@@ -18,8 +18,3 @@ pub record Joined (a b c d r : ℕ) : Type 0 where
 pub record Loaded (n : ℕ) (s : List ℕ) (at r : ℕ) : Type 0 where
   pub value : r ≡ leAt n s at
   pub bytes : (k : ℕ) → k < n → field 8 k r ≡ getD s (at + k) 0
-
--- the same at the start
-pub record Word (n : ℕ) (s : List ℕ) (r : ℕ) : Type 0 where
-  pub value : r ≡ leAt n s 0
-  pub bytes : (k : ℕ) → k < n → field 8 k r ≡ getD s k 0

@@ -1,7 +1,7 @@
 // Internal: words as fields of bits, counts of ones, the highest bit, and numbers in a slice of bytes, the lowest byte first.
 // The laws that u32 and u64 share stand in proofs/, with the width as parameter.
 ghost use mathlib.Core.Path.{_≡_};
-ghost use Prim.Native.Nat.{ℕ, _+_, _-_, _*_, _^_, _%_, _<_, _≤_};
+ghost use Prim.Native.Nat.{_+_, _-_, _^_, _%_, _<_, _≤_};
 ghost use lib.ListN.{length};
 ghost use Rattle.words.specs.Fields.{field};
 ghost use Rattle.words.specs.Le.{storeLe};
@@ -17,28 +17,12 @@ pub fn rank(imask: u32, slot: u32) -> u32
     u32::count_ones(imask & !(0xffff_ffff << slot))
 }
 
-// The same in a 64-bit mask.
-pub fn rank64(imask: u64, slot: u32) -> u32
-    requires { ⌜ slot < 64 ⌝ }
-    ensures { λ r. ⌜ r ≡ onesBelow slot imask ⌝ }
-{
-    u64::count_ones(imask & ((1u64 << slot) - 1))
-}
-
 // The place of the highest set bit.
 pub fn highest(bits: u32) -> u32
     requires { ⌜ 0 < bits ⌝ }
     ensures { λ r. ⌜ Top 32 bits r ⌝ }
 {
     31 - u32::leading_zeros(bits)
-}
-
-// The same in a 64-bit word.
-pub fn highest64(bits: u64) -> u32
-    requires { ⌜ 0 < bits ⌝ }
-    ensures { λ r. ⌜ Top 64 bits r ⌝ }
-{
-    63 - u64::leading_zeros(bits)
 }
 
 // The word without its highest set bit r.
@@ -86,28 +70,6 @@ pub fn store_u32(s: &mut [u8], at: usize, v: u32)
     s[at + 1] = (v1 % 256) as u8;
     s[at + 2] = (v2 % 256) as u8;
     s[at + 3] = (v3 % 256) as u8;
-}
-
-// Writes a 64-bit word at a place of a slice.
-pub fn store_u64(s: &mut [u8], at: usize, v: u64)
-    requires { ⌜ at + 8 ≤ length (now s) ⌝ }
-    ensures { λ r. ⌜ now (s .exit) ≡ storeLe 8 (now (s .entry)) at v ⌝ }
-{
-    let v1 = v / 256;
-    let v2 = v1 / 256;
-    let v3 = v2 / 256;
-    let v4 = v3 / 256;
-    let v5 = v4 / 256;
-    let v6 = v5 / 256;
-    let v7 = v6 / 256;
-    s[at] = (v % 256) as u8;
-    s[at + 1] = (v1 % 256) as u8;
-    s[at + 2] = (v2 % 256) as u8;
-    s[at + 3] = (v3 % 256) as u8;
-    s[at + 4] = (v4 % 256) as u8;
-    s[at + 5] = (v5 % 256) as u8;
-    s[at + 6] = (v6 % 256) as u8;
-    s[at + 7] = (v7 % 256) as u8;
 }
 
 // The lowest byte of a word.

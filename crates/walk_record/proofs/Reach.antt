@@ -1,0 +1,52 @@
+-- What a ray reaches and passes in a record, a ray with a higher reach reaches and passes too: for any bytes and any floats. So whatever is told,
+-- the ray then held reaches no node and passes no position that it did not before.
+use mathlib.Core.Bool.{Bool, true, false, cond}
+use mathlib.Core.List.{List}
+use mathlib.Core.Path.{_≡_, refl}
+use Prim.Native.Nat.{ℕ}
+use lib.ListN.{getD}
+use lib.Ieee.{Float, lt}
+use Rattle.float.proofs.Order.{le-of-lt-test}
+use Rattle.ray.specs.declared.Ray.{Ray}
+use Rattle.node.specs.Node.{nodeAt, noSlot}
+use Rattle.slot.specs.Mask.{passesSlot}
+use Rattle.hits.proofs.Reach.{LowerReach, lower-reach-passes-fewer}
+use Rattle.walk_record.specs.Beam.{Beam, reaching, toldBeam}
+use Rattle.walk_record.specs.Walk.{Reached, first, child, Passed}
+
+module _ (bytes : List ℕ) (r s : Ray) (lower : LowerReach r s) where
+  passed-slot : (v j : ℕ) → passesSlot (nodeAt bytes v) r j ≡ true → passesSlot (nodeAt bytes v) s j ≡ true
+  passed-slot v j = lower-reach-passes-fewer (nodeAt bytes v) (getD (nodeAt bytes v .slots) j noSlot) r s lower
+
+  pub lower-reach-reaches-fewer : (v : ℕ) → Reached bytes r v → Reached bytes s v
+  lower-reach-reaches-fewer v (first e h) = first e h
+  lower-reach-reaches-fewer v (child {v = u} j q l a b e) = child j (lower-reach-reaches-fewer u q) l a (passed-slot u j b) e
+
+  pub lower-reach-meets-fewer : (n p : ℕ) → Passed bytes n r p → Passed bytes n s p
+  lower-reach-meets-fewer n p q = record {
+    node = q .node;
+    reached = lower-reach-reaches-fewer (q .node) (q .reached);
+    slot = q .slot;
+    holds = q .holds;
+    passes = passed-slot (q .node) (q .slot) (q .passes);
+  }
+
+-- ---- telling
+
+-- a distance below the reach lowers it
+told-lower : (t : Float) (r : Ray) → lt t (r .tmax) ≡ true → LowerReach (reaching t r) r
+told-lower t r h = record { origin = refl; direction = refl; inverse = refl; tmin = refl; reach = le-of-lt-test t (r .tmax) h }
+
+-- so that what a higher reach keeps held before the telling
+told-held : (P : Ray → Type 0) → ((r s : Ray) → LowerReach r s → P r → P s) → (t : Float) (b : Beam) → P (toldBeam t b .ray) → P (b .ray)
+told-held P keeps t b = go (lt t (b .ray .tmax)) refl
+  where
+    go : (c : Bool) → lt t (b .ray .tmax) ≡ c → P (cond c (reaching t (b .ray)) (b .ray)) → P (b .ray)
+    go true e = keeps (reaching t (b .ray)) (b .ray) (told-lower t (b .ray) e)
+    go false e = λ q. q
+
+pub told-reaches-fewer : (bytes : List ℕ) (t : Float) (b : Beam) (v : ℕ) → Reached bytes (toldBeam t b .ray) v → Reached bytes (b .ray) v
+told-reaches-fewer bytes t b v = told-held (λ r. Reached bytes r v) (λ r s l. lower-reach-reaches-fewer bytes r s l v) t b
+
+pub told-meets-fewer : (bytes : List ℕ) (t : Float) (b : Beam) (n p : ℕ) → Passed bytes n (toldBeam t b .ray) p → Passed bytes n (b .ray) p
+told-meets-fewer bytes t b n p = told-held (λ r. Passed bytes n r p) (λ r s l. lower-reach-meets-fewer bytes r s l n p) t b
