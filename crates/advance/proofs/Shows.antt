@@ -22,9 +22,9 @@ rest-deep true e z l = go (hasRoom e) refl z
     go false q y = absurd (let u : _≡_ {A = ℕ} 0 1 = cc in omega arith)
 
 module _ {s d : Type 0} (m : ℕ) (N : NodeWords s d) (n : ℕ) (w : WalkerWords s) where
-  -- a test comes where no position is in hand and tests are left; a position is one of the n; and a refusal is cause 10
+  -- a test comes where no position is in hand and tests are left, and leaves the ray; a position is one of the n; and a refusal is cause 10
   abbrev pub Shows : Answer → WalkerWords s → Type 0
-  Shows (tested v) u = (w .positions .bits ≤ 0) × (w .tests < m) × (u .depth ≤ capacity)
+  Shows (tested v) u = (w .positions .bits ≤ 0) × (w .tests < m) × (u .depth ≤ capacity) × (u .ray ≡ w .ray) × (u .tests ≡ suc (w .tests))
   Shows (position p) u = (0 < w .positions .bits) × (p < n)
   Shows done u = w .positions .bits ≤ 0
   Shows (refused k) u = k ≡ 10
@@ -40,7 +40,7 @@ module _ {s d : Type 0} (m : ℕ) (N : NodeWords s d) (n : ℕ) (w : WalkerWords
       let o = or-false (r || leb m c || leb m (w .tests)) (not (N .rule n c)) b in
       let p = or-false (r || leb m c) (leb m (w .tests)) (o .0) in
       let q = or-false r (leb m c) (p .0) in
-      (z, leb-false m (w .tests) (p .1), rest-deep (hasChild (restOf g)) e (q .0) l))
+      (z, leb-false m (w .tests) (p .1), rest-deep (hasChild (restOf g)) e (q .0) l, refl, refl))
 
   -- what a turn's answer tells
   pub turn-shows : w .depth ≤ capacity → ShowsOf (advanceWords m N n w)
