@@ -1,5 +1,6 @@
 //! Stored record checks: sound records as converted, and the same damaged, with the verdict by the definition; small
-//! records with what the published `validate` says of them; refusals by lengths alone; and lines of `checkrecord`.
+//! records with what the published `validate` says of them; refusals by lengths alone. Apart from these, lines of
+//! `checkrecord`.
 use crate::accept::{MOST_LEAVES, MOST_NODES};
 use crate::conversions::some_tree;
 use crate::convert::{bvh_of, convert};
@@ -183,28 +184,45 @@ fn checkrecord(input: &[u8]) -> String {
     }
 }
 
-/// Bytes of input, bytes of output; then both, each filled up to whole words.
+/// Bytes of the input's start, of the input, of output; then start and output, each filled up to whole words. The input
+/// is zero past its start.
+fn line_case(start: &[u8], long: usize) -> Vec<u32> {
+    let mut input = start.to_vec();
+    input.resize(long, 0);
+    let output = checkrecord(&input);
+    let head = vec![start.len() as u32, long as u32, output.len() as u32];
+    [head, words_of(start), words_of(output.as_bytes())].concat()
+}
+
+/// Lengths of records at and past that of the longest that may be sound: around whole numbers of nodes, and around the
+/// ends of 64 KiB behind the first node too many.
+fn longest() -> Vec<usize> {
+    let nodes = [MOST_NODES, MOST_NODES + 1, MOST_NODES + 2, MOST_NODES + 820, 2 * MOST_NODES, 250_000];
+    let ends = [1, 2].map(|k| 80 * (MOST_NODES + 1) + 65536 * k);
+    nodes.map(|m| 80 * m).into_iter().chain(ends).flat_map(|k| [k - 1, k, k + 1]).collect()
+}
+
 fn lines() -> Group {
     let mut g = Group::new(CHECKRECORD, 0);
-    let mut add = |input: &[u8]| {
-        let output = checkrecord(input);
-        let head = vec![input.len() as u32, output.len() as u32];
-        g.add([head, words_of(input), words_of(output.as_bytes())].concat());
-    };
     let input = |n: usize, record: &[u8]| [&(n as u32).to_le_bytes(), record].concat();
-    (0..4).for_each(|k| add(&[0, 0, 0, 0][..k]));
-    for n in [0, 1, MOST_LEAVES, MOST_LEAVES + 1, u32::MAX as usize] {
-        [0, 1, 79, 80, 81].into_iter().for_each(|k| add(&input(n, &vec![0; k])));
-    }
-    for m in [1, 2, 10, 11, 32, 33] {
-        add(&input(0, &line(m, false)));
-    }
     let t = convert(&sample_tree(), 3, false).record;
-    (0..4).for_each(|n| add(&input(n, &t)));
-    small::records().iter().for_each(|s| add(&input(s.n, &s.record)));
+    (0..4).for_each(|k| g.add(line_case(&[0, 0, 0, 0][..k], k)));
+    for n in [0, 1, MOST_LEAVES, MOST_LEAVES + 1, u32::MAX as usize] {
+        let longs = [vec![0, 1, 79, 80, 81], longest()].concat();
+        longs.into_iter().for_each(|k| g.add(line_case(&input(n, &[]), 4 + k)));
+    }
+    longest().into_iter().for_each(|k| g.add(line_case(&input(2, &t), 4 + k)));
+    let mut add = |n: usize, record: &[u8]| g.add(line_case(&input(n, record), 4 + record.len()));
+    [1, 2, 10, 11, 32, 33].into_iter().for_each(|m| add(0, &line(m, false)));
+    (0..4).for_each(|n| add(n, &t));
+    small::records().iter().for_each(|s| add(s.n, &s.record));
     g
 }
 
 pub fn groups(seed: u64) -> Vec<Group> {
-    vec![checked(&mut Rng::new(seed)), laxer(), sizes(), lines()]
+    vec![checked(&mut Rng::new(seed)), laxer(), sizes()]
+}
+
+pub fn line_groups() -> Vec<Group> {
+    vec![lines()]
 }

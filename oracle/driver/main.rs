@@ -39,6 +39,7 @@ fn store(folder: &str) -> bool {
     store::write(&at("leaves"), &leaves::groups(SEED));
     store::write(&at("conversion"), &corners::groups(SEED + 1));
     store::write(&at("check"), &checks::groups(SEED + 2));
+    store::write(&at("checkrecord"), &checks::line_groups());
     store::write(&at("queries"), &queries::groups(SEED + 3));
     store::write(&at("showrecord"), &show::groups(SEED + 4));
     store::write(&at("nodes"), &nodes::groups(SEED + 6));

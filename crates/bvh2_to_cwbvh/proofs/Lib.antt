@@ -1,3 +1,4 @@
 pub mod Ready
 pub mod Endings
 pub mod Answers
+pub mod Sizes

@@ -1,12 +1,13 @@
 -- The text of each case, and the answer to the input.
 use mathlib.Core.Bool.{Bool, true, false}
 use mathlib.Core.List.{List}
-use mathlib.Core.Path.{_≡_, ap, _∙_}
+use mathlib.Core.Path.{_≡_, sym, ap, _∙_}
 use Prim.Native.Nat.{ℕ, zero, suc, _+_, _-_, _<_, _≤_}
 use native.Mathlib.Omega.{arith}
 use lib.Dec.{ltb}
 use lib.ListN.{length, take, drop, length-append, length-drop}
-use lib.Seq.{take-length}
+use lib.Seq.{take-length, length-take-le}
+use Rattle.io.specs.Counts.{Counts}
 use Rattle.lists.specs.Splice.{splice}
 use Rattle.lists.proofs.Tells.{Tells, passes, fails, ltb-tells}
 use Rattle.words.specs.Le.{leAt}
@@ -78,3 +79,7 @@ unfolding splice
 text-fits s t text r l e w =
     let a : length t ≡ length text + (length s - (0 + length text)) = rw w (simp (length-append, length-drop) (omega arith)) in
     omega arith
+
+-- a number no longer than a list counts its first elements
+pub counts : (n : ℕ) (s : List ℕ) → n ≤ length s → Counts n s
+counts n s l = (l, sym (length-take-le n s l))

@@ -1,4 +1,7 @@
-// Internal: the work of the program `checkrecord`, from the bytes that it reads to the bytes that it prints.
+// Internal: the work of the program `checkrecord`, from the input that it reads to the bytes that it prints.
+mod input;
+
+pub use input::answer;
 use validate::Validity;
 ghost use mathlib.Core.Path.{_≡_};
 ghost use Prim.Native.Nat.{_≤_};
@@ -27,7 +30,7 @@ fn put_answer(v: Validity, out: &mut [u8]) -> usize
 }
 
 // Checks the record behind the word n of the input, and writes the answer; the working words are enough for any record.
-pub fn check_text(input: &[u8], work: &mut [u32], out: &mut [u8]) -> usize
+fn check_text(input: &[u8], work: &mut [u32], out: &mut [u8]) -> usize
     requires { ⌜ (allWords ≤ length (now work)) × (19 ≤ length (now out)) ⌝ }
     ensures { λ r. ⌜ r ≡ length (checkText (now (input .entry))) ⌝ }
     ensures { λ _. ⌜ now (out .exit) ≡ splice (now (out .entry)) 0 (checkText (now (input .entry))) ⌝ }

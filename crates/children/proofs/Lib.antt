@@ -2,4 +2,3 @@ pub mod Gather
 pub mod Steps
 pub mod Reread
 pub mod Start
-pub mod Samples

@@ -1,4 +1,3 @@
 pub mod Panes
 pub mod Queries
 pub mod Starts
-pub mod Samples

@@ -1,37 +1,14 @@
--- Tables of the tree T of 01, "Samples", and of a chain of nine leaves, by evaluation.
+-- Tables of chains, by evaluation.
 use mathlib.Core.Path.{_≡_, refl}
-use mathlib.Core.List.{List, [], _∷_, map}
+use mathlib.Core.List.{[], _∷_, map}
 use Prim.Native.Nat.{ℕ, zero, suc}
 use lib.IntN.{pos}
 use lib.Ieee.{add, sub, mul, lt, ofBits, ofInt, binary32}
 use Rattle.ray.specs.declared.Vec3.{Vec3}
 use Rattle.aabb.specs.Aabb.{halfArea}
 use Rattle.bvh2.specs.Tree.{Tree, leaf, inner, leaves}
-use Rattle.bvh2.specs.Words.{linkOf, boxAt, readLink, treeOf}
-use Rattle.cost.specs.Table.{bestOf, decision, table, word, wordOf}
+use Rattle.cost.specs.Table.{bestOf, decision, word}
 use Rattle.cost.proofs.Computed.{rows, seven}
-
--- T's words
-abbrev pub T : List ℕ
-T =
-    0 ∷ 0 ∷ 0 ∷ 0x4040_0000 ∷ 0x3f80_0000 ∷ 0x3f80_0000 ∷ 1
-    ∷ 0 ∷ 0 ∷ 0 ∷ 0x3f80_0000 ∷ 0x3f80_0000 ∷ 0x3f80_0000 ∷ 0x4000_0000
-    ∷ 0x4000_0000 ∷ 0 ∷ 0 ∷ 0x4040_0000 ∷ 0x3f80_0000 ∷ 0x3f80_0000 ∷ 0x4000_0001 ∷ []
-
--- limit 3: both leaves as one leaf are cheaper than a wide node
-leaf-of-two : wordOf 3 (treeOf T) 0 ≡ 0x0000_0006
-unfolding linkOf boxAt readLink table decision bestOf leaves halfArea ofBits ofInt add sub mul lt
-leaf-of-two = refl
-
--- limit 1: no leaf of two
-no-leaf-of-two : map word (rows 1 (treeOf T)) ≡ 0x4000_0006 ∷ 0x8000_0000 ∷ 0x8000_0000 ∷ 0x8000_0000 ∷ 0x8000_0000 ∷ 0x8000_0000 ∷ 0x8000_0000 ∷ []
-unfolding linkOf boxAt readLink rows seven decision bestOf leaves halfArea ofBits ofInt add sub mul lt
-no-leaf-of-two = refl
-
--- limit 0 is limit 1
-limit-none : map word (rows 0 (treeOf T)) ≡ 0x4000_0006 ∷ 0x8000_0000 ∷ 0x8000_0000 ∷ 0x8000_0000 ∷ 0x8000_0000 ∷ 0x8000_0000 ∷ 0x8000_0000 ∷ []
-unfolding linkOf boxAt readLink rows seven decision bestOf leaves halfArea ofBits ofInt add sub mul lt
-limit-none = refl
 
 at : ℕ → ℕ → ℕ → Vec3
 at x y z = record { x = ofInt binary32 (pos x); y = ofInt binary32 (pos y); z = ofInt binary32 (pos z) }

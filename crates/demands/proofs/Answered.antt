@@ -1,41 +1,33 @@
--- What an answered call leaves: the record and the index list of the tree's wide tree.
+-- What a convertible call's tree becomes, and what an answered call leaves: the record and the index list of the tree's wide tree.
 use mathlib.Core.Bool.{Bool}
 use mathlib.Core.List.{List, [], Perm, Perm·refl}
-use mathlib.Core.Path.{_≡_, refl, sym, _∙_, subst}
-use Prim.Native.Nat.{ℕ, zero, suc, _+_, _*_, _≤_, _<_}
+use mathlib.Core.Path.{_≡_, refl, sym, ap, _∙_, subst}
+use Prim.Native.Nat.{ℕ, zero, suc, _*_, _≤_, _<_}
 use native.Mathlib.Omega.{arith}
-use lib.ListN.{length, take, drop, length-map}
-use lib.Seq.{take-at}
+use lib.ListN.{length, take}
 use Rattle.lists.specs.Counts.{upto}
-use Rattle.lists.specs.Splice.{splice}
+use Rattle.lists.proofs.Splice.{splice-taken}
 use Rattle.bvh2.specs.Tree.{positions}
 use Rattle.bvh2.specs.Words.{treeOf}
 use Rattle.bvh2.specs.Decoded.{Decoded}
 use Rattle.bvh2.proofs.Decoded.{accepted-decoded, decoded-leaves, positions-length}
 use Rattle.wide.specs.Sizes as S
-use Rattle.wide.specs.Layout.{nodes, indexList, level, wordsAt}
-use Rattle.wide.proofs.Sizes.{index-length}
+use Rattle.wide.specs.Layout.{wordsAt}
 use Rattle.wide_tree.specs.WideTree.{wideOf}
 use Rattle.wide_tree.specs.Ordered.{placing}
 use Rattle.wide_tree.proofs.WideTree.{small-leaves}
 use Rattle.wide_tree.proofs.Positions.{wide-positions}
 use Rattle.wide_tree.proofs.Ordered.{places, fine, index-count, node-count}
-use Rattle.record.specs.Record.{recordBytes}
-use Rattle.record_laws.specs.Converted.{Converted}
-use Rattle.record_laws.proofs.ReadBack.{record-length}
-use Rattle.bvh2_to_cwbvh.specs.Conversion.{wideAt, recordOf, nodesOf, levelOf, positionsOf, listOf}
+use Rattle.record_laws.specs.Writable.{Writable}
+use Rattle.bvh2_to_cwbvh.specs.Conversion.{wideAt, recordOf, levelOf, positionsOf, listOf}
 use Rattle.bvh2_to_cwbvh.proofs.Answers.{answered}
-use Rattle.demands.specs.Call.{Call, Answers, leafCount, recordAt, listAt, leafPositions}
+use Rattle.bvh2_to_cwbvh.proofs.Sizes.{bytes-length, list-length}
+use Rattle.demands.specs.Call.{Call, Answers, leafCount, recordAt, listAt, leafPositions, definedRecord, definedList, deepestLevel, Convertible}
 use Rattle.demands.proofs.Writes.{Writes, nothing, written}
 use Rattle.demands.proofs.Boxes.{node-boxes}
 
--- what stands before the rest of a slice
-taken : (s b : List ℕ) (k : ℕ) → length b ≡ k → take k (splice s 0 b) ≡ b
-unfolding splice
-taken s b k e = take-at b (drop (0 + length b) s) k e
-
-module _ (ws : List ℕ) (limit : ℕ) (ordered : Bool) (n : ℕ) (h : Decoded ws n) (small : limit ≤ 3) (low : level (wideAt ws limit ordered) ≤ 31) where
-  wide : Converted (wideAt ws limit ordered)
+module _ (ws : List ℕ) (limit : ℕ) (ordered : Bool) (n : ℕ) (h : Decoded ws n) (small : limit ≤ 3) where
+  wide : Writable (wideAt ws limit ordered)
   unfolding wideOf
   wide =
       let b = node-boxes ws limit ordered (h .boxes) in
@@ -45,7 +37,6 @@ module _ (ws : List ℕ) (limit : ℕ) (ordered : Bool) (n : ℕ) (h : Decoded w
         root = b .0;
         boxes = b .1;
         leaves = small-leaves (placing ordered) limit small (treeOf ws);
-        level = low;
         nodes = omega arith;
         positions = omega (arith, index-count ordered limit ws n h);
       }
@@ -54,31 +45,46 @@ module _ (ws : List ℕ) (limit : ℕ) (ordered : Bool) (n : ℕ) (h : Decoded w
   unfolding wideOf
   held = wide-positions (placing ordered) limit (places ordered) (treeOf ws) (fine ws n h)
 
-module _ (ws indices : List ℕ) (limit : ℕ) (ordered : Bool) (bytes list : List ℕ) where
-  wrote : (n : ℕ) → length indices ≡ n → limit ≤ 3 → levelOf ws n limit ordered ≤ 31 → (0 < n → Decoded ws n)
-      → Writes (leafPositions ws n) indices (take (80 * nodesOf ws n limit ordered) (splice bytes 0 (recordOf ws n limit ordered))) (take n (splice list 0 (wordsAt indices (positionsOf ws n limit ordered)))) (levelOf ws n limit ordered)
-  unfolding leafPositions nodesOf recordOf positionsOf levelOf
-  wrote zero e small low h = nothing refl refl refl refl
-  wrote (suc n) e small low h =
-      let t = wideAt ws limit ordered in
-      let d = h (omega arith) in
-      let k : length (wordsAt indices (indexList t)) ≡ suc n = length-map (indexList t) _ ∙ index-length t ∙ index-count ordered limit ws (suc n) d in
-      written t (wide ws limit ordered (suc n) d small low) (held ws limit ordered (suc n) d small low)
-      (taken bytes (recordBytes t) (80 * nodes t) (record-length t))
-      (taken list (wordsAt indices (indexList t)) (suc n) k)
-      refl
+-- the record and the index list of a convertible call's tree are those of its wide tree, whatever its levels
+pub defined : (c : Call) → Convertible c
+    → Writes (leafPositions (c .words) (leafCount c)) (c .indices) (definedRecord c) (definedList c) (deepestLevel c)
+unfolding listOf leafPositions recordOf positionsOf levelOf
+defined c h = go (leafCount c) (λ p. accepted-decoded (c .words) (leafCount c) p .0 (h .accepted))
+  where
+    go : (n : ℕ) → (0 < n → Decoded (c .words) n)
+        → Writes (leafPositions (c .words) n) (c .indices) (recordOf (c .words) n (c .limit) (c .ordered))
+        (wordsAt (c .indices) (positionsOf (c .words) n (c .limit) (c .ordered))) (levelOf (c .words) n (c .limit) (c .ordered))
+    go zero d = nothing refl refl refl refl
+    go (suc n) d =
+        let t = d (omega arith) in
+        written (wideAt (c .words) (c .limit) (c .ordered)) (wide (c .words) (c .limit) (c .ordered) (suc n) t (h .small))
+        (held (c .words) (c .limit) (c .ordered) (suc n) t (h .small)) refl refl refl
 
--- what an answered call leaves in front of its output slices is the record and the index list of the tree's wide tree
-pub writes : (c : Call) (m d : ℕ) → Answers c m d → Writes (leafPositions (c .words) (leafCount c)) (c .indices) (recordAt c m) (listAt c) d
-unfolding listOf
-writes c m d h =
-    let n = leafCount c in
+-- an answered call leaves them in front of its output slices, and its level is at most 31
+pub record-is : (c : Call) (m d : ℕ) → Answers c m d → recordAt c m ≡ definedRecord c
+record-is c m d h =
     let r = answered (c .words) (c .indices) (c .limit) (c .ordered) (c .decisions) (c .costs) (c .bytes) (c .list) m d h in
-    let w = wrote (c .words) (c .indices) (c .limit) (c .ordered) (c .bytes) (c .list) n refl (r .none .small) (r .low) (λ p. accepted-decoded (c .words) n p .0 (r .none .accepted)) in
-    subst (λ (b : List ℕ). Writes (leafPositions (c .words) n) (c .indices) (take (80 * m) b) (listAt c) d) (sym (r .record-is))
-    (subst (λ (l : List ℕ). Writes (leafPositions (c .words) n) (c .indices) (take (80 * m) (splice (c .bytes) 0 (recordOf (c .words) n (c .limit) (c .ordered)))) (take n l) d) (sym (r .list-is))
-    (subst (λ (x : ℕ). Writes (leafPositions (c .words) n) (c .indices) (take (80 * m) (splice (c .bytes) 0 (recordOf (c .words) n (c .limit) (c .ordered)))) (take n (splice (c .list) 0 (listOf (c .words) (c .indices) (c .limit) (c .ordered)))) x) (sym (r .level))
-    (subst (λ (x : ℕ). Writes (leafPositions (c .words) n) (c .indices) (take (80 * x) (splice (c .bytes) 0 (recordOf (c .words) n (c .limit) (c .ordered)))) (take n (splice (c .list) 0 (listOf (c .words) (c .indices) (c .limit) (c .ordered)))) (levelOf (c .words) n (c .limit) (c .ordered))) (sym (r .nodes)) w)))
+    let e = bytes-length (c .words) (c .limit) (c .ordered) (leafCount c) in
+    ap (take (80 * m)) (r .record-is) ∙ splice-taken (c .bytes) (definedRecord c) (80 * m) (omega (arith, e, r .nodes))
+
+pub list-is : (c : Call) (m d : ℕ) → Answers c m d → listAt c ≡ definedList c
+list-is c m d h =
+    let r = answered (c .words) (c .indices) (c .limit) (c .ordered) (c .decisions) (c .costs) (c .bytes) (c .list) m d h in
+    ap (take (leafCount c)) (r .list-is)
+    ∙ splice-taken (c .list) (definedList c) (leafCount c) (list-length (c .words) (c .limit) (c .ordered) (c .indices) (r .none .accepted))
+
+pub level-low : (c : Call) (m d : ℕ) → Answers c m d → d ≤ 31
+level-low c m d h =
+    let r = answered (c .words) (c .indices) (c .limit) (c .ordered) (c .decisions) (c .costs) (c .bytes) (c .list) m d h in
+    omega (arith, r .level, r .low)
+
+pub writes : (c : Call) (m d : ℕ) → Answers c m d → Writes (leafPositions (c .words) (leafCount c)) (c .indices) (recordAt c m) (listAt c) d
+writes c m d h =
+    let r = answered (c .words) (c .indices) (c .limit) (c .ordered) (c .decisions) (c .costs) (c .bytes) (c .list) m d h in
+    let w : List ℕ → List ℕ → ℕ → Type 0 = Writes (leafPositions (c .words) (leafCount c)) (c .indices) in
+    subst (λ (b : List ℕ). w b (listAt c) d) (sym (record-is c m d h))
+    (subst (λ (l : List ℕ). w (definedRecord c) l d) (sym (list-is c m d h))
+    (subst (λ (x : ℕ). w (definedRecord c) (definedList c) x) (sym (r .level)) (defined c (r .none))))
 
 -- as many positions as leaves, each of 0 .. n − 1 once
 positions-count : (ws : List ℕ) (n : ℕ) → (0 < n → Decoded ws n) → length (leafPositions ws n) ≡ n
@@ -91,12 +97,8 @@ unfolding leafPositions upto
 positions-each ws zero h = Perm·refl []
 positions-each ws (suc n) h = h (omega arith) .held
 
-pub leaf-count : (c : Call) (m d : ℕ) → Answers c m d → length (leafPositions (c .words) (leafCount c)) ≡ leafCount c
-leaf-count c m d h =
-    let r = answered (c .words) (c .indices) (c .limit) (c .ordered) (c .decisions) (c .costs) (c .bytes) (c .list) m d h in
-    positions-count (c .words) (leafCount c) (λ p. accepted-decoded (c .words) (leafCount c) p .0 (r .none .accepted))
+pub leaf-count : (c : Call) → Convertible c → length (leafPositions (c .words) (leafCount c)) ≡ leafCount c
+leaf-count c h = positions-count (c .words) (leafCount c) (λ p. accepted-decoded (c .words) (leafCount c) p .0 (h .accepted))
 
-pub leaf-each : (c : Call) (m d : ℕ) → Answers c m d → Perm (leafPositions (c .words) (leafCount c)) (upto 0 (leafCount c))
-leaf-each c m d h =
-    let r = answered (c .words) (c .indices) (c .limit) (c .ordered) (c .decisions) (c .costs) (c .bytes) (c .list) m d h in
-    positions-each (c .words) (leafCount c) (λ p. accepted-decoded (c .words) (leafCount c) p .0 (r .none .accepted))
+pub leaf-each : (c : Call) → Convertible c → Perm (leafPositions (c .words) (leafCount c)) (upto 0 (leafCount c))
+leaf-each c h = positions-each (c .words) (leafCount c) (λ p. accepted-decoded (c .words) (leafCount c) p .0 (h .accepted))

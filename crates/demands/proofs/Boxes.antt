@@ -15,7 +15,7 @@ use Rattle.wide.specs.Wide as W
 use Rattle.wide_tree.specs.WideTree.{rootSlots}
 use Rattle.wide_tree.specs.Ordered.{placing}
 use Rattle.wide_tree.proofs.Boxes.{EachBox, EachSlotBox, wide-boxes}
-use Rattle.record_laws.specs.Converted.{NodeBox, NodeBoxes}
+use Rattle.record_laws.specs.Writable.{NodeBox, NodeBoxes}
 
 -- the lower corner is made of f32 values
 record Floats (b : Aabb) : Type 0 where

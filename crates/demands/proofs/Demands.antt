@@ -4,25 +4,30 @@ use mathlib.Core.List.{List, [], Perm, Perm·refl, Perm·map, Perm·trans}
 use mathlib.Core.Logic.{_↔_}
 use mathlib.Core.Path.{_≡_, subst, sym}
 use Prim.Native.Nat.{ℕ, _+_, _<_, _≤_}
+use native.Mathlib.Decide.{decLt}
+use native.Mathlib.Omega.{arith}
 use lib.ListN.{getD}
 use Rattle.lists.specs.Counts.{count}
 use Rattle.lists.proofs.Perms.{counts-perm}
 use Rattle.soundness.specs.Shape.{Child, Holds}
 use Rattle.soundness.specs.Sound.{OneParent, OneHolder}
-use Rattle.soundness.proofs.Sound.{parent-of, first-has-none, holder-of, holds-position}
 use Rattle.wide.specs.Layout.{wordsAt}
-use Rattle.wide.proofs.Demands.{indices-rearranged}
-use Rattle.record_shape.specs.Record.{nodeCount, shapeAt, RuleAt, SoundRecord, DeepestLevel}
+use Rattle.wide.proofs.Index.{indices-rearranged}
+use Rattle.record_shape.specs.Record.{nodeCount, shapeAt, SoundRecord, DeepestLevel}
 use Rattle.record_shape.specs.Check.{sound, checkOf}
-use Rattle.record_shape.proofs.Placed.{placed}
+use Rattle.record_shape.proofs.Tree.{node-parent, first-parent, position-holder, holds-below}
 use Rattle.bvh2_to_cwbvh.specs.Conversion.{refused, nodesOf}
 use Rattle.bvh2_to_cwbvh.proofs.Answers as A
-use Rattle.demands.specs.Call.{Call, outcome, Answers, leafCount, recordAt, listAt, leafPositions, deepestLevel, Convertible}
+use Rattle.demands.specs.Call.{Call, outcome, Answers, leafCount, recordAt, listAt, leafPositions}
+use Rattle.demands.specs.Call.{definedRecord, definedList, deepestLevel, Convertible}
+use Rattle.demands.specs.Refusals.{LevelOver}
 use Rattle.demands.specs.Children.{childCount, leafChildren}
+use Rattle.demands.specs.Walks.{Good}
 use Rattle.demands.proofs.Words.{all-words}
 use Rattle.demands.proofs.Writes.{Writes, nothing, written}
-use Rattle.demands.proofs.Answered.{writes, leaf-count, leaf-each}
-use Rattle.demands.proofs.Sound.{Good, good, good-check}
+use Rattle.demands.proofs.Answered.{record-is, list-is, writes, level-low, leaf-count, leaf-each}
+use Rattle.demands.proofs.Levels.{over-deepest}
+use Rattle.demands.proofs.Sound.{good, good-check}
 use Rattle.demands.proofs.Children.{at-most-eight, children-are}
 
 -- ---- the conversion answers
@@ -30,28 +35,44 @@ use Rattle.demands.proofs.Children.{at-most-eight, children-are}
 pub converts : (c : Call) → Convertible c → deepestLevel c ≤ 31 → Answers c (nodesOf (c .words) (leafCount c) (c .limit) (c .ordered)) (deepestLevel c)
 converts c = A.answers (c .words) (c .indices) (c .limit) (c .ordered) (c .decisions) (c .costs) (c .bytes) (c .list)
 
--- and refused 8 exactly if one is.
+-- and refused 8 exactly if one is:
 pub refuses-deep : (c : Call) → Convertible c → outcome c .answer ≡ refused 8 ↔ 31 < deepestLevel c
 refuses-deep c = A.refused-eight (c .words) (c .indices) (c .limit) (c .ordered) (c .decisions) (c .costs) (c .bytes) (c .list)
 
-module _ (c : Call) (m d : ℕ) (answers : Answers c m d) where
-  pub good-record : Good (recordAt c m) (leafCount c) d
-  good-record = subst (λ (n : ℕ). Good (recordAt c m) n d) (leaf-count c m d answers) (good _ (c .indices) (recordAt c m) (listAt c) d (writes c m d answers))
+-- that is, exactly if some node of the defined record has a level over 31, each level being the parent's plus 1,
+pub refuses-level-over : (c : Call) → Convertible c → outcome c .answer ≡ refused 8 ↔ LevelOver c
+refuses-level-over c h = let r = refuses-deep c h in let o = over-deepest c h in (λ e. o .1 (r .0 e), λ l. r .1 (o .0 l))
 
+-- and converted if none has.
+pub converts-within-levels : (c : Call) → Convertible c → (LevelOver c → ⊥)
+    → Answers c (nodesOf (c .words) (leafCount c) (c .limit) (c .ordered)) (deepestLevel c)
+converts-within-levels c h none = go (decLt 31 (deepestLevel c))
+  where
+    go : Dec (31 < deepestLevel c) → Answers c (nodesOf (c .words) (leafCount c) (c .limit) (c .ordered)) (deepestLevel c)
+    go (yes l) = absurd (none (over-deepest c h .1 l))
+    go (no l) = converts c h (omega arith)
+
+module _ (c : Call) (m d : ℕ) (answers : Answers c m d) where
   -- A call that is answered was convertible, and its record and its index list are the defined ones.
   pub was-convertible : Convertible c
   was-convertible = A.answered (c .words) (c .indices) (c .limit) (c .ordered) (c .decisions) (c .costs) (c .bytes) (c .list) m d answers .none
 
+  pub writes-defined : (recordAt c m ≡ definedRecord c) × (listAt c ≡ definedList c)
+  writes-defined = (record-is c m d answers, list-is c m d answers)
+
+  pub good-record : Good (recordAt c m) (leafCount c) d
+  good-record =
+      subst (λ (n : ℕ). Good (recordAt c m) n d) (leaf-count c was-convertible)
+      (good _ (c .indices) (recordAt c m) (listAt c) d (level-low c m d answers) (writes c m d answers))
+
   -- ---- positions
   -- Output positions are the numbers below the count of leaves. The leaf ranges take each of them exactly once,
   pub leaf-ranges-take-each-once : (x : ℕ) → x < leafCount c → OneHolder (shapeAt (recordAt c m) (leafCount c)) x
-  unfolding shapeAt
-  leaf-ranges-take-each-once = holder-of _ (RuleAt (recordAt c m) (leafCount c)) (λ i l r. placed (recordAt c m) (leafCount c) i r) (good-record .sound)
+  leaf-ranges-take-each-once = position-holder (recordAt c m) (leafCount c) (good-record .sound)
 
   -- and no other.
   pub leaf-ranges-take-no-other : (i s x : ℕ) → Holds (shapeAt (recordAt c m) (leafCount c)) i s x → x < leafCount c
-  unfolding shapeAt
-  leaf-ranges-take-no-other = holds-position _ (RuleAt (recordAt c m) (leafCount c)) (λ i l r. placed (recordAt c m) (leafCount c) i r) (good-record .sound)
+  leaf-ranges-take-no-other = holds-below (recordAt c m) (leafCount c) (good-record .sound)
 
   -- ---- the index list
   -- The index list is the tree leaves' indices rearranged,
@@ -72,18 +93,16 @@ module _ (c : Call) (m d : ℕ) (answers : Answers c m d) where
   -- Each index word's position is held by exactly one leaf, so these are all index words.
   pub index-list-rearranges-words : Perm (listAt c) (c .indices)
   index-list-rearranges-words =
-      subst (λ (y : List ℕ). Perm (listAt c) y) (all-words (c .indices)) (Perm·trans index-list-rearranges (Perm·map (λ q. getD (c .indices) q 0) (leaf-each c m d answers)))
+      subst (λ (y : List ℕ). Perm (listAt c) y) (all-words (c .indices)) (Perm·trans index-list-rearranges (Perm·map (λ q. getD (c .indices) q 0) (leaf-each c was-convertible)))
 
   -- ---- parents and children
   -- Every node but the first has exactly one parent,
   pub one-parent : (v : ℕ) → 0 < v → v < nodeCount (recordAt c m) → OneParent (shapeAt (recordAt c m) (leafCount c)) v
-  unfolding shapeAt
-  one-parent = parent-of _ (RuleAt (recordAt c m) (leafCount c)) (λ i l r. placed (recordAt c m) (leafCount c) i r) (good-record .sound)
+  one-parent = node-parent (recordAt c m) (leafCount c) (good-record .sound)
 
   -- and the first has none.
   pub first-has-no-parent : (p : ℕ) → Child (shapeAt (recordAt c m) (leafCount c)) p 0 → ⊥
-  unfolding shapeAt
-  first-has-no-parent = first-has-none _ (RuleAt (recordAt c m) (leafCount c)) (λ i l r. placed (recordAt c m) (leafCount c) i r) (good-record .sound)
+  first-has-no-parent = first-parent (recordAt c m) (leafCount c) (good-record .sound)
 
   -- No node has over eight children.
   pub eight-children : (v : ℕ) → v < nodeCount (recordAt c m) → childCount (recordAt c m) v ≤ 8

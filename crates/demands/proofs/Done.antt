@@ -1,5 +1,5 @@
--- Done stays done, over whole lists of calls: once a step has said done, every later step is done or refused, whatever the walker is told between, and
--- whatever record and count of positions each of those steps brings. It holds from any walker on, a forged one too.
+-- Done stays done, over whole lists of calls: once a step has said done, every later step is done or refused, whatever the walker is told between,
+-- and whatever record and count of positions each of those steps brings. It holds from any walker on, a forged one too.
 use mathlib.Core.Bool.{Bool, true, false, cond}
 use mathlib.Core.List.{List, [], _∷_}
 use mathlib.Core.Path.{_≡_, subst}
@@ -9,7 +9,7 @@ use lib.Dec.{eqb}
 use lib.ListN.{length}
 use Rattle.record_shape.specs.Record.{nodeCount}
 use Rattle.walk.specs.Step.{Answer, done, refused, sizesFit}
-use Rattle.walk.specs.Calls.{All, DoneOrRefused, DoneStays}
+use Rattle.walk.specs.Calls.{All}
 use Rattle.walk.specs.WordStep.{WalkerWords, SteppedWords, stayWords, forgedWords}
 use Rattle.walk.proofs.WordKept.{Finished, Leaves, tell-finished}
 use Rattle.walk_record.specs.Beam.{Beam, beams}
@@ -18,6 +18,7 @@ use Rattle.walk_record.specs.Walk.{stepAt}
 use Rattle.walk_record.proofs.Steps.{step-leaves, step-finished}
 use Rattle.traverse.specs.Walker.{stepBytes, toldWalker}
 use Rattle.traverse.specs.Calls.{RecordOp, stepOn, tells, runEach}
+use Rattle.demands.specs.Walks.{DoneOrRefused, DoneStays}
 
 -- a walker with nothing left stays one, and its step is done or refused
 record Rests (r : SteppedWords Beam) : Type 0 where
@@ -49,7 +50,8 @@ module _ (bytes : List ℕ) (n : ℕ) (w : WalkerWords Beam) where
     where
       go : (a : Bool) → by a .answer ≡ done → Finished (by a .walker)
       go false e = absurd (let z : _≡_ {A = ℕ} 0 1 = cc in omega arith)
-      go true e = subst (λ (x : Answer). Leaves (nodeCount bytes) (nodeWordsAt bytes beams) n w x (stepAt bytes beams n w .walker)) e (step-leaves bytes beams n w) .0
+      go true e =
+          subst (λ (x : Answer). Leaves (nodeCount bytes) (nodeWordsAt bytes beams) n w x (by true .walker)) e (step-leaves bytes beams n w) .0
 
 rest-done : (l : List RecordOp) (w : WalkerWords Beam) → Finished w → All DoneOrRefused (runEach l w .answers)
 unfolding runEach

@@ -3,7 +3,9 @@ pub mod Writes
 pub mod Boxes
 pub mod Answered
 pub mod Sound
+pub mod Levels
 pub mod Children
+pub mod Limit
 pub mod Demands
 pub mod Refusals
 pub mod Listed

@@ -23,6 +23,7 @@ use Rattle.bvh2_to_cwbvh.proofs.Endings.{cause-early, cause-none, cause-eight}
 use Rattle.bvh2_to_cwbvh.proofs.Answers as A
 use Rattle.demands.specs.Call.{Call, outcome, Answers, leafCount, deepestLevel, Convertible}
 use Rattle.demands.specs.Refusals.{Refusal, tree-refused, limit-over, decisions-short, costs-short, bytes-short, list-short, level-over, FirstRefusal}
+use Rattle.demands.proofs.Levels.{over-deepest}
 
 -- no cause of a tree has a number over 7
 most : {ws : List ℕ} {n k : ℕ} → Cause ws n k → k ≤ 7
@@ -174,7 +175,7 @@ module _ (c : Call) where
   none-at-all h d j (costs-short p) = omega (arith, h .costs)
   none-at-all h d j (bytes-short p) = omega (arith, h .bytes)
   none-at-all h d j (list-short p) = omega (arith, h .list)
-  none-at-all h d j (level-over a p) = omega arith
+  none-at-all h d j (level-over a p) = omega (arith, over-deepest c h .0 p)
 
   says : Verdict cause
   unfolding Early Verdict
@@ -183,7 +184,7 @@ module _ (c : Call) where
       deep : early ≡ 0 → Convertible c → Dec (31 < deepestLevel c) → Verdict cause
       deep e h (yes l) =
           subst Verdict (sym (cause-eight (c .words) n (c .limit) (c .ordered) (length (c .decisions)) (length (c .costs)) (length (c .bytes)) (length (c .list)) e l))
-          (level-over (h .accepted) l, none-below-eight h)
+          (level-over (h .accepted) (over-deepest c h .1 l), none-below-eight h)
       deep e h (no l) =
           subst Verdict (sym (cause-none (c .words) n (c .limit) (c .ordered) (length (c .decisions)) (length (c .costs)) (length (c .bytes)) (length (c .list)) e (omega arith)))
           (none-at-all h (omega arith))
@@ -231,7 +232,7 @@ module _ (c : Call) where
       go zero e p = shallow (decLt 31 (deepestLevel c))
         where
           shallow : Dec (31 < deepestLevel c) → Answers c (nodesOf (c .words) n (c .limit) (c .ordered)) (deepestLevel c)
-          shallow (yes l) = absurd (h 8 (level-over (p .accepted) l))
+          shallow (yes l) = absurd (h 8 (level-over (p .accepted) (over-deepest c p .1 l)))
           shallow (no l) = A.answers (c .words) (c .indices) (c .limit) (c .ordered) (c .decisions) (c .costs) (c .bytes) (c .list) p (omega arith)
       go (suc k) e f = absurd (h (suc k) (f .0))
 

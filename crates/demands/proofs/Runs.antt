@@ -27,8 +27,8 @@ use Rattle.traverse.specs.Walker.{started}
 use Rattle.traverse.specs.Calls.{runBytes}
 use Rattle.traverse.proofs.Calls.{run-started}
 
-module _ (bytes : List ℕ) (whole : length bytes % 80 ≡ 0) (are-bytes : (i : ℕ) → getD bytes i 0 < 256) (n : ℕ) (origin direction : Vec3) (tmin tmax : Float)
-    (accepted : acceptedRay (rayOf origin direction tmin tmax) ≡ true) where
+module _ (bytes : List ℕ) (whole : length bytes % 80 ≡ 0) (are-bytes : (i : ℕ) → getD bytes i 0 < 256) (n : ℕ)
+    (origin direction : Vec3) (tmin tmax : Float) (accepted : acceptedRay (rayOf origin direction tmin tmax) ≡ true) where
   abbrev ray : Ray
   ray = rayOf origin direction tmin tmax
 
@@ -44,7 +44,8 @@ module _ (bytes : List ℕ) (whole : length bytes % 80 ≡ 0) (are-bytes : (i : 
 
   -- After them the walker stands for what the query's walker stands for: its ray with the reach, its tests, and what is in hand and waits.
   pub query-is-run : {a : Type 0} (react : ℕ → Beam → a → Reaction Float a) (x : a)
-      → decoded (nodeWordsAt bytes beams) (runBytes bytes (callsMade react x) (started ray .walker) .walker) ≡ decoded (nodeWordsAt bytes beams) (queryAt bytes beams react x n beam .walker)
+      → decoded (nodeWordsAt bytes beams) (runBytes bytes (callsMade react x) (started ray .walker) .walker)
+      ≡ decoded (nodeWordsAt bytes beams) (queryAt bytes beams react x n beam .walker)
   unfolding queryAt runAt shapeAt
   query-is-run react x =
       let m = nodeCount bytes in

@@ -1,33 +1,30 @@
 -- Walks over every sound record, for every accepted ray: whatever is called and told, no position is reported twice; no step and no query is refused
 -- by the walk; and any-hit lists exactly the positions that the ray passes, once each, after as many tests as nodes are reached.
 use mathlib.Core.List.{List, List·Nodup}
-use mathlib.Core.Logic.{_↔_}
 use mathlib.Core.Path.{_≡_, sym, ap, subst, _∙_}
 use mathlib.Core.Bool.{true}
 use Prim.Native.Nat.{ℕ, _≤_, _<_}
 use native.Mathlib.Omega.{arith}
-use lib.ListN.{length, getD, take}
+use lib.ListN.{length, getD}
 use lib.Ieee.{Float}
 use Rattle.lists.specs.Counts.{count}
 use Rattle.ray.specs.declared.Vec3.{Vec3}
 use Rattle.ray.specs.declared.Ray.{Ray}
 use Rattle.ray.specs.Ray.{rayOf, acceptedRay}
 use Rattle.walk.specs.Calls.{All, Op, reported, Answered, Brings}
-use Rattle.walk.specs.Listing.{In}
 use Rattle.walk.specs.Queries.{Reaction, Ended}
 use Rattle.walk.specs.WordStep.{RunWords}
 use Rattle.walk_record.specs.Beam.{Beam, beamOf, beams}
 use Rattle.walk_record.specs.Record.{FieldsFit}
-use Rattle.walk_record.specs.Walk.{queryAt, anyHitAt, listingAt, Reached, Passed}
+use Rattle.walk_record.specs.Walk.{queryAt, anyHitAt, listingAt}
 use Rattle.walk_record.proofs.Beam.{beam-laws, begun-accepted}
 use Rattle.walk_record.proofs.Laws.{bytes-fit}
 use Rattle.walk_record.proofs.Demands as W
-use Rattle.any_hit.specs.AnyHit.{listed, anyHitOf, listAfter}
 use Rattle.traverse.specs.Walker.{started}
 use Rattle.traverse.specs.Calls.{runBytes}
 use Rattle.traverse.proofs.Calls.{run-started}
+use Rattle.demands.specs.Walks.{Good, LongEnough, Lists}
 use Rattle.demands.proofs.Listed.{answers-listed, list-found}
-use Rattle.demands.proofs.Sound.{Good}
 use Rattle.record_shape.specs.Check.{sound, checkOf}
 use Rattle.record_shape.proofs.Check.{fits, sound-iff}
 
@@ -66,29 +63,15 @@ module _ (bytes : List ℕ) (n d : ℕ) (good : Good bytes n d) (origin directio
       (W.calls-answered bytes beams beam-laws fit n (good .sound) (beamOf ray) (begun-accepted origin direction tmin tmax accepted) (good .positions) (good .nodes) l b)
 
   -- ---- any-hit
-  -- Room for any list of positions that the ray passes, each once: a list is long enough exactly if all of them fit.
-  abbrev pub LongEnough : ℕ → Type 0
-  LongEnough k = (l : List ℕ) → List·Nodup l → ((p : ℕ) → In p l → Passed bytes n ray p) → length l ≤ k
-
-  -- The answer and the list of the public call: so many positions after so many tests; they are the first node's listing; each position passed stands
-  -- among them once, and no other; and the tests are as many as the nodes reached.
-  pub record Lists (before : List ℕ) (k t : ℕ) : Type 0 where
-    pub answer : anyHitOf bytes n ray (length before) ≡ listed k t
-    pub listing : take k (listAfter bytes n ray before) ≡ listingAt bytes beams n (beamOf ray)
-    pub passed-once : (p : ℕ) → Passed bytes n ray p → count p (take k (listAfter bytes n ray before)) ≡ 1
-    pub no-other : (p : ℕ) → ¬ (Passed bytes n ray p) → count p (take k (listAfter bytes n ray before)) ≡ 0
-    pub reached : List ℕ
-    pub reached-once : List·Nodup reached
-    pub reached-all : (v : ℕ) → In v reached ↔ Reached bytes ray v
-    pub tests : t ≡ length reached
-
-  -- What any-hit finds is the first node's listing: its passed positions, highest first, then its reached children's listings by falling slot XOR octant.
+  -- What any-hit finds is the first node's listing: its passed positions, highest first, then its reached children's listings by falling slot XOR
+  -- octant.
   pub any-hit-is-listing : anyHitAt bytes beams n (beamOf ray) .noted ≡ listingAt bytes beams n (beamOf ray)
   any-hit-is-listing =
-      W.any-hit-listing bytes beams beam-laws fit n (good .sound) (beamOf ray) (begun-accepted origin direction tmin tmax accepted) (good .positions) (good .nodes)
+      let a = begun-accepted origin direction tmin tmax accepted in
+      W.any-hit-listing bytes beams beam-laws fit n (good .sound) (beamOf ray) a (good .positions) (good .nodes)
 
   with-room : (before : List ℕ) → length (anyHitAt bytes beams n (beamOf ray) .noted) ≤ length before
-      → Lists before (length (anyHitAt bytes beams n (beamOf ray) .noted)) (anyHitAt bytes beams n (beamOf ray) .walker .tests)
+      → Lists bytes n ray before (length (anyHitAt bytes beams n (beamOf ray) .noted)) (anyHitAt bytes beams n (beamOf ray) .walker .tests)
   with-room before room =
       let a = begun-accepted origin direction tmin tmax accepted in
       let done = W.any-hit-done bytes beams beam-laws fit n (good .sound) (beamOf ray) a (good .positions) (good .nodes) in
@@ -106,8 +89,8 @@ module _ (bytes : List ℕ) (n d : ℕ) (good : Good bytes n d) (origin directio
       }
 
   -- With a long enough list any-hit is not refused, and lists so.
-  pub any-hit-lists : (before : List ℕ) → LongEnough (length before)
-      → Lists before (length (anyHitAt bytes beams n (beamOf ray) .noted)) (anyHitAt bytes beams n (beamOf ray) .walker .tests)
+  pub any-hit-lists : (before : List ℕ) → LongEnough bytes n ray (length before)
+      → Lists bytes n ray before (length (anyHitAt bytes beams n (beamOf ray) .noted)) (anyHitAt bytes beams n (beamOf ray) .walker .tests)
   any-hit-lists before long =
       let a = begun-accepted origin direction tmin tmax accepted in
       with-room before
@@ -116,7 +99,7 @@ module _ (bytes : List ℕ) (n d : ℕ) (good : Good bytes n d) (origin directio
 
   -- A list with room for every position is long enough.
   pub any-hit-lists-all : (before : List ℕ) → n ≤ length before
-      → Lists before (length (anyHitAt bytes beams n (beamOf ray) .noted)) (anyHitAt bytes beams n (beamOf ray) .walker .tests)
+      → Lists bytes n ray before (length (anyHitAt bytes beams n (beamOf ray) .noted)) (anyHitAt bytes beams n (beamOf ray) .walker .tests)
   any-hit-lists-all before h =
       with-room before
       (omega (arith, h, W.any-hit-most bytes beams beam-laws fit n (good .sound) (beamOf ray) (begun-accepted origin direction tmin tmax accepted) (good .positions) (good .nodes)))

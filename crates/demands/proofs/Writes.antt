@@ -1,4 +1,4 @@
--- A record and an index list as conversion writes them.
+-- A record and an index list as conversion writes them, or would but for their levels.
 use mathlib.Core.List.{List, [], Perm}
 use mathlib.Core.Path.{_≡_}
 use Prim.Native.Nat.{ℕ}
@@ -6,11 +6,11 @@ use Rattle.wide.specs.Wide.{Wide}
 use Rattle.wide.specs.Sizes.{positions}
 use Rattle.wide.specs.Layout.{indexList, level, wordsAt}
 use Rattle.record.specs.Record.{recordBytes}
-use Rattle.record_laws.specs.Converted.{Converted}
+use Rattle.record_laws.specs.Writable.{Writable}
 
 -- `leaves` are the positions that the tree's leaves hold, `indices` its index words, `bytes` and `list` the record and the index list written, and
 -- `deepest` the deepest level. A tree without leaves has nothing written; any other becomes a wide tree with the same leaves, whose layout is written.
 pub data Writes (leaves indices bytes list : List ℕ) (deepest : ℕ) : Type 0 where
   nothing : leaves ≡ [] → bytes ≡ [] → list ≡ [] → deepest ≡ 0 → Writes leaves indices bytes list deepest
-  written : (t : Wide) → Converted t → Perm (positions (t .slots)) leaves → bytes ≡ recordBytes t → list ≡ wordsAt indices (indexList t) → deepest ≡ level t
-      → Writes leaves indices bytes list deepest
+  written : (t : Wide) → Writable t → Perm (positions (t .slots)) leaves
+      → bytes ≡ recordBytes t → list ≡ wordsAt indices (indexList t) → deepest ≡ level t → Writes leaves indices bytes list deepest

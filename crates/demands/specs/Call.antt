@@ -8,7 +8,7 @@ use lib.Ieee.{Float}
 use Rattle.bvh2.specs.Tree.{positions}
 use Rattle.bvh2.specs.Words.{treeOf}
 use Rattle.tables.specs.Tables.{Prepared}
-use Rattle.bvh2_to_cwbvh.specs.Conversion.{converted, Outcome, levelOf, conversionOf}
+use Rattle.bvh2_to_cwbvh.specs.Conversion.{recordOf, levelOf, listOf, converted, Outcome, conversionOf}
 
 -- what it is given: the tree's words and index words, the leaf limit, ordering on or off, and the four lent slices
 pub record Call : Type 0 where
@@ -45,6 +45,13 @@ listAt c = take (leafCount c) (outcome c .list)
 unfoldable pub leafPositions : List ℕ → ℕ → List ℕ
 leafPositions ws zero = []
 leafPositions ws (suc n) = positions (treeOf ws)
+
+-- the record and the index list that the definition gives for the tree, written or not
+abbrev pub definedRecord : Call → List ℕ
+definedRecord c = recordOf (c .words) (leafCount c) (c .limit) (c .ordered)
+
+abbrev pub definedList : Call → List ℕ
+definedList c = listOf (c .words) (c .indices) (c .limit) (c .ordered)
 
 -- the deepest level that the tree's record has, or would have
 abbrev pub deepestLevel : Call → ℕ

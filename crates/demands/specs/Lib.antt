@@ -1,3 +1,4 @@
 pub mod Call
 pub mod Children
 pub mod Refusals
+pub mod Walks

@@ -68,3 +68,8 @@ splice-none s at = ap (λ (k : ℕ). take at s ++ drop k s) (add-zero at) ∙ ta
 pub set-splice : {A : Type 0} (s : List A) (at : ℕ) (v : A) → at < length s → set s at v ≡ splice s at (v ∷ [])
 unfolding splice
 set-splice s at v h = set-split s at v h ∙ ap (λ (k : ℕ). take at s ++ (v ∷ drop k s)) (sym (add-one at))
+
+-- what was written at the start is read back
+pub splice-taken : {A : Type 0} (s b : List A) (n : ℕ) → length b ≡ n → take n (splice s 0 b) ≡ b
+unfolding splice
+splice-taken s b n e = take-at b (drop (0 + length b) s) n e

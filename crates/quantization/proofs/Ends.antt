@@ -1,4 +1,4 @@
--- A child's two bytes: each grows with the coordinate, and the lower is never above the upper one; and the reciprocal of a scale is an exact power
+-- A child's two bytes: at most 255, each grows with the coordinate, and the lower is never above the upper one; and the reciprocal of a scale is an exact power
 -- of two.
 use mathlib.Core.Path.{_≡_, refl, sym, ap, _∙_, subst}
 use mathlib.Core.Logic.{inl, inr}
@@ -60,6 +60,14 @@ rounds-up = record {
 }
 
 -- ---- bytes
+pub byte-limit : (r : ℕ → ℕ → ℕ) (x : Float) → clampedByte r x ≤ 255
+unfolding clampedByte
+byte-limit r nan = zero-le
+byte-limit r (inf true) = zero-le
+byte-limit r (inf false) = le-refl 255
+byte-limit r (fin true m e) = zero-le
+byte-limit r (fin false m e) = min-le-right (r (m * up e) (down e)) 255
+
 pub byte-mono : (r : ℕ → ℕ → ℕ) → Rounds r → (x y : Float) → T (le x y) → clampedByte r x ≤ clampedByte r y
 unfolding clampedByte
 byte-mono r g nan y h = zero-le
@@ -115,3 +123,11 @@ grid-mono p e x y l u P X Y h =
 pub child-order : (p : Float) (e : ℕ) (lo hi : Float) → 0 < e → e < 255 → Within 40 p → Within 40 lo → Within 40 hi → T (le lo hi) → childMin p e lo ≤ childMax p e hi
 unfolding childMin childMax
 child-order p e lo hi l u P L H h = min-le-max (onGrid p e lo) (onGrid p e hi) (grid-mono p e lo hi l u P L H h)
+
+pub child-min-limit : (p : Float) (e : ℕ) (lo : Float) → childMin p e lo ≤ 255
+unfolding childMin
+child-min-limit p e lo = byte-limit roundDown (onGrid p e lo)
+
+pub child-max-limit : (p : Float) (e : ℕ) (hi : Float) → childMax p e hi ≤ 255
+unfolding childMax
+child-max-limit p e hi = byte-limit roundUp (onGrid p e hi)

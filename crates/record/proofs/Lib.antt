@@ -1,3 +1,4 @@
 pub mod Joined
+pub mod Length
 pub mod Written
 pub mod Children

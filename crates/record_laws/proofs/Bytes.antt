@@ -18,7 +18,7 @@ use Rattle.wide.specs.Sizes.{SmallLeaves}
 use Rattle.wide.specs.Layout.{Entry, nodes}
 use Rattle.wide.specs.Shape as shape
 use Rattle.record.specs.Record.{leafMeta, metas, innerMask, gridBox, gridBoxes, nodeOf, joined, recordBytes}
-use Rattle.record_laws.specs.Converted.{NodeBox, Converted}
+use Rattle.record_laws.specs.Writable.{NodeBox, Writable}
 use Rattle.record_laws.proofs.Range.{node-of}
 
 -- ---- lists of bytes
@@ -182,7 +182,7 @@ unfolding joined
 joined-bytes zero f h = tt
 joined-bytes (suc k) f h = bytes-append (joined k f) (f k) (joined-bytes k f (λ i l. h i (omega arith))) (h k (omega arith))
 
-pub record-bytes : (t : Wide) → Converted t → (i : ℕ) → getD (recordBytes t) i 0 < 256
+pub record-bytes : (t : Wide) → Writable t → (i : ℕ) → getD (recordBytes t) i 0 < 256
 unfolding recordBytes
 record-bytes t h =
     byte-at (recordBytes t)

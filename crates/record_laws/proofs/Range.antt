@@ -1,4 +1,4 @@
--- The nodes of a converted record are values that a record's node can have.
+-- The nodes of an accepted tree's record are values that a record's node can have.
 use mathlib.Core.Logic.{_⊎_}
 use mathlib.Core.Path.{_≡_}
 use Prim.Native.Nat.{ℕ, _+_, _^_, _<_, _≤_}
@@ -16,7 +16,7 @@ use Rattle.wide.proofs.Sizes.{nodes-most}
 use Rattle.wide.proofs.Placed.{inside, small}
 use Rattle.record.specs.Record.{nodeOf}
 use Rattle.record.proofs.Children.{metas-length, boxes-length}
-use Rattle.record_laws.specs.Converted.{NodeBox, NodeBoxes, Converted}
+use Rattle.record_laws.specs.Writable.{NodeBox, NodeBoxes, Writable}
 
 -- ---- what every node has
 boxes-below : {w : ℕ} (s : Slots w) (l p k i c q : ℕ) → NodeBoxes s → Each (λ e. NodeBox (e .box)) (entries s l p k i c q)
@@ -30,14 +30,14 @@ boxes-below (inner b t s) l p k i c q h = (
       (boxes-below s l p (k + 1) (i + 1) (c + (innerChildren t + nodesBelow t)) (q + (ownCount t + countBelow t)) (h .2)),
 )
 
--- node v of a converted record
+-- node v of an accepted tree's record
 pub record Node (t : Wide) (v : ℕ) : Type 0 where
   pub number : nodeAt t v .number ≡ v
   pub box : NodeBox (nodeAt t v .box)
   pub small : SmallLeaves (nodeAt t v .slots)
   pub inside : Inside (nodes t) (indexCount t) (nodeAt t v)
 
-pub node-of : (t : Wide) → Converted t → (v : ℕ) → v < nodes t → Node t v
+pub node-of : (t : Wide) → Writable t → (v : ℕ) → v < nodes t → Node t v
 node-of t h v l = record {
   number = node-number t v l;
   box = node-has (λ e. NodeBox (e .box)) t (h .root, boxes-below (t .slots) 1 0 0 1 (1 + innerChildren (t .slots)) (0 + ownCount (t .slots)) (h .boxes)) v l;
@@ -48,7 +48,7 @@ node-of t h v l = record {
 word-lt : (x : Float) → T (fits binary32 x) → toBits binary32 x < 2 ^ 32
 word-lt x h = toBits-lt binary32 x h
 
-pub in-range : (t : Wide) → Converted t → (v : ℕ) → v < nodes t → InRange (nodeOf (nodeAt t v))
+pub in-range : (t : Wide) → Writable t → (v : ℕ) → v < nodes t → InRange (nodeOf (nodeAt t v))
 unfolding nodeOf
 in-range t h v l =
     let e = nodeAt t v in

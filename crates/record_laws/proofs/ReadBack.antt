@@ -4,24 +4,20 @@ use mathlib.Core.List.{List, _++_}
 use Prim.Native.Nat.{ℕ, _+_, _*_, _<_}
 use native.Mathlib.Nat.{zero-add, mul-le-mul-left, mul-suc}
 use native.Mathlib.Omega.{arith}
-use lib.ListN.{length, getD, List·getD-append}
+use lib.ListN.{getD, List·getD-append}
 use Rattle.node.specs.Node.{nodeAt, nodeBytes, InRange}
 use Rattle.node.proofs.RoundTrip.{length-node, same-node, node-of-bytes}
 use Rattle.wide.specs.Wide.{Wide}
 use Rattle.wide.specs.Layout.{nodes}
 use Rattle.wide.specs.Shape as shape
 use Rattle.record.specs.Record.{nodeOf, recordBytes}
-use Rattle.record.proofs.Joined.{joined-length, joined-at}
+use Rattle.record.proofs.Joined.{joined-at}
+use Rattle.record.proofs.Length.{record-length}
 use Rattle.record_shape.specs.Record.{nodeCount}
 
 module _ (t : Wide) where
-  -- 80 bytes to a node
-  pub record-length : length (recordBytes t) ≡ 80 * nodes t
-  unfolding recordBytes
-  record-length = joined-length 80 (λ i. nodeBytes (nodeOf (shape.nodeAt t i))) (λ i. length-node (nodeOf (shape.nodeAt t i))) (nodes t)
-
   pub record-count : nodeCount (recordBytes t) ≡ nodes t
-  record-count = omega (arith, record-length)
+  record-count = omega (arith, record-length t)
 
   -- byte j of node v
   pub record-byte : (v j : ℕ) → v < nodes t → j < 80 → getD (recordBytes t) (80 * v + j) 0 ≡ getD (nodeBytes (nodeOf (shape.nodeAt t v))) j 0
@@ -34,6 +30,6 @@ module _ (t : Wide) where
       let e = nodeOf (shape.nodeAt t v) in
       same-node (recordBytes t ++ rest) (80 * v) (nodeBytes e) 0
       (λ k l.
-      List·getD-append (recordBytes t) rest 0 (80 * v + k) (omega (arith, record-length, mul-le-mul-left 80 h, mul-suc 80 v))
+      List·getD-append (recordBytes t) rest 0 (80 * v + k) (omega (arith, record-length t, mul-le-mul-left 80 h, mul-suc 80 v))
       ∙ record-byte v k h l ∙ ap (λ (x : ℕ). getD (nodeBytes e) x 0) (sym (zero-add k)))
       ∙ node-of-bytes e r

@@ -1,4 +1,4 @@
--- Every node of a converted record meets the node rule.
+-- Every node of an accepted tree's record meets the node rule.
 use mathlib.Core.Path.{_≡_, refl, sym, subst}
 use mathlib.Core.Bool.{_&&_}
 use Prim.Native.Nat.{ℕ, zero, suc, _+_, _-_, _/_, _^_, _<_, _≤_}
@@ -25,7 +25,7 @@ use Rattle.wide.proofs.Sizes.{own-inside}
 use Rattle.record.specs.Record.{nodeOf, metas, innerMask, recordBytes}
 use Rattle.record.specs.Children.{Child, none, leafChild, innerChild, childAt, childMeta, childInner, childPositions}
 use Rattle.record_shape.specs.Record.{RuleAt}
-use Rattle.record_laws.specs.Converted.{NodeBox, Converted}
+use Rattle.record_laws.specs.Writable.{NodeBox, Writable}
 use Rattle.record_laws.proofs.ReadBack.{record-count}
 use Rattle.record_laws.proofs.Codes.{Code, code, mask-ones}
 use Rattle.record_laws.proofs.Slots.{SmallChild, small-child, own-child, meta-of, bit-of, ends-24}
@@ -88,7 +88,7 @@ slot s base n small room k l =
     (omega (arith, own-child s k, own-inside s k))))
 
 -- ---- the rule
-pub node-rule : (t : Wide) → Converted t → (v : ℕ) → v < nodes t → Rule (nodeOf (nodeAt t v)) (nodes t) (indexCount t) v
+pub node-rule : (t : Wide) → Writable t → (v : ℕ) → v < nodes t → Rule (nodeOf (nodeAt t v)) (nodes t) (indexCount t) v
 unfolding nodeOf
 node-rule t h v l =
     let e = nodeAt t v in
@@ -103,7 +103,7 @@ node-rule t h v l =
     }
 
 -- of the bytes
-pub record-rule : (t : Wide) → Converted t → (v : ℕ) → v < nodes t → RuleAt (recordBytes t) (indexCount t) v
+pub record-rule : (t : Wide) → Writable t → (v : ℕ) → v < nodes t → RuleAt (recordBytes t) (indexCount t) v
 record-rule t h v l =
     subst (λ (m : ℕ). Rule (bytes.nodeAt (recordBytes t) v) m (indexCount t) v) (sym (record-count t))
     (subst (λ n. Rule n (nodes t) (indexCount t) v) (sym (node-read t h v l)) (node-rule t h v l))

@@ -1,4 +1,4 @@
--- The bytes of a converted record have the layout's shape.
+-- The bytes of an accepted tree's record have the layout's shape.
 use mathlib.Core.Path.{_≡_, refl, sym, ap, _∙_}
 use mathlib.Core.List.{[], append-nil}
 use Prim.Native.Nat.{ℕ, _+_, _%_, _<_}
@@ -13,13 +13,13 @@ use Rattle.wide.proofs.Shape.{reads-by-number}
 use Rattle.wide.proofs.Each.{node-number}
 use Rattle.record.specs.Record.{nodeOf, recordBytes}
 use Rattle.record_shape.specs.Record.{metaAt, leafCount, shapeAt}
-use Rattle.record_laws.specs.Converted.{Converted}
+use Rattle.record_laws.specs.Writable.{Writable}
 use Rattle.record_laws.proofs.ReadBack.{record-count, record-node}
 use Rattle.record_laws.proofs.Codes.{mask-ones}
 use Rattle.record_laws.proofs.Slots.{slot-count, slot-start}
 use Rattle.record_laws.proofs.Range.{node-of, in-range}
 
-module _ (t : Wide) (h : Converted t) where
+module _ (t : Wide) (h : Writable t) where
   -- node v of the bytes
   pub node-read : (v : ℕ) → v < nodes t → nodeAt (recordBytes t) v ≡ nodeOf (shape.nodeAt t v)
   node-read v l = ap (λ b. nodeAt b v) (sym (append-nil (recordBytes t))) ∙ record-node t [] v l (in-range t h v l)

@@ -3,5 +3,4 @@ pub mod Test
 pub mod Record
 pub mod Check
 pub mod Tree
-pub mod WideTree
 pub mod Example

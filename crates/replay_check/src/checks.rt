@@ -1,8 +1,9 @@
-// The stored cases of record checks: each verdict, what the working words hold then, and the lines of `checkrecord`.
+// The stored cases of record checks: each verdict, and what the working words hold then.
 ghost use mathlib.Core.Path.{_≡_};
-ghost use Prim.Native.Nat.{_+_, _≤_};
+ghost use Prim.Native.Nat.{_≤_};
 ghost use lib.ListN.{length};
 use stored::all_are;
+use stored::filled_up;
 use stored::word;
 use validate::Validity;
 
@@ -77,13 +78,6 @@ fn answers(case: &[u8], record: &[u8]) -> bool {
     answers_with(case, record, &mut words)
 }
 
-// The bytes of the whole words that so many bytes fill.
-fn filled_up(bytes: u32) -> usize
-    ensures { λ r. ⌜ (bytes ≤ r) × (r ≤ bytes + 3) ⌝ }
-{
-    (bytes as usize + 3) / 4 * 4
-}
-
 // Whether it does so where the record follows at byte `from`.
 fn checked(case: &[u8], from: usize) -> bool
     requires { ⌜ from ≤ 24 ⌝ }
@@ -124,32 +118,12 @@ fn lengths(case: &[u8]) -> bool {
     answers(case, &record[..bytes])
 }
 
-// Bytes of input, bytes of output; then both, each filled up to whole words.
-fn line(case: &[u8]) -> bool {
-    let input = word(case, 0);
-    let output = word(case, 1);
-    let from = 8 + filled_up(input);
-    if case.len() != from + filled_up(output) {
-        return false;
-    }
-    let mut words = [BEFORE; MOST_WORDS];
-    let mut text = [0u8; 19];
-    let input_end = 8 + input as usize;
-    let long = check_text::check_text(&case[8..input_end], &mut words, &mut text);
-    if long > 19 {
-        return false;
-    }
-    let end = from + output as usize;
-    check::same(&text[..long], &case[from..end])
-}
-
 // Whether the library agrees with a case.
 pub fn agrees(kind: u32, case: &[u8]) -> bool {
     match kind {
         24 => checked(case, 20),
         25 => laxer(case),
         26 => lengths(case),
-        41 => line(case),
         _ => false,
     }
 }

@@ -1,4 +1,4 @@
-// Runs the record check on stored records, and its program's work on stored input, and compares each answer with the stored one.
+// Runs the record check on stored records, and compares each answer with the stored one.
 // Its argument names a file of answers; how these are made and laid out is said in oracle/README.md.
 mod checks;
 

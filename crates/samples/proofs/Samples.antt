@@ -1,10 +1,11 @@
 -- The table of samples, each by computation.
-use mathlib.Core.Path.{_≡_, refl}
+use mathlib.Core.Path.{_≡_, refl, ap}
 use mathlib.Core.Bool.{true, false}
-use mathlib.Core.List.{[], _∷_}
+use mathlib.Core.List.{List, [], _∷_}
+use Prim.Native.Nat.{ℕ}
 use lib.Count.{leadingZeros}
 use lib.ListN.{take, drop}
-use lib.Ieee.{binary32, ofInt, ofBits, toBits, round, add, sub, mul, div, lt, le, eq, isNan}
+use lib.Ieee.{ofInt, ofBits, toBits, round, add, sub, mul, div, lt, le, eq, isNan}
 use Rattle.words.specs.Fields.{field}
 use Rattle.words.specs.Le.{leAt, sumOf}
 use Rattle.words.specs.Ones.{onesBelow}
@@ -36,46 +37,57 @@ use Rattle.walk.specs.WordStep.{stepWords, advanceWords, reportWords, visitWord
 use Rattle.walk.specs.WordQueries.{queryWords}
 use Rattle.walk_record.specs.Walk.{queryAt, anyHitAt}
 use Rattle.query.specs.Entry.{entryCause}
-use Rattle.closest.specs.Panes.{paneBox, paneMet, paneOf, hitAt, closestFound, closestWalk, closestOf}
-use Rattle.closest.specs.Panes as closest
+use Rattle.closest.specs.Panes.{paneBox, paneMet, paneOf, hitAt, noHit, closestFound, closestWalk, closestOf}
+use Rattle.closest.specs.Panes as panes
 use Rattle.any_hit.specs.AnyHit.{listed, fitted, walked, walkOf, anyHitOf, listFor, listAfter}
 use Rattle.wide.specs.Shape.{nodeAt}
 use Rattle.record.specs.Record.{metas, innerMask, gridBox, gridBoxes, nodeOf, joined, recordBytes}
 use Rattle.tables.specs.Tables.{recordSize, hasRoom, prepareCause}
-use Rattle.bvh2_to_cwbvh.specs.Conversion.{converted, refused, recordOf, nodesOf, levelOf, positionsOf, listOf, levelCause, conversionCause, answerFor, conversionOf}
-use Rattle.samples.specs.TreeT.{wordsT, indicesT, bytesT}
-use Rattle.samples.specs.Samples.{number, nextAbove, extentByte, convert, rayAlong, panesT, Samples}
-
-exponents-of-T : (extentByte (number 3) ≡ 121) × (extentByte (number 1) ≡ 120)
-unfolding exponentOf extentScale nextPower maxOf ofInt round sub mul div lt le
-exponents-of-T = (refl, refl)
+use Rattle.bvh2_to_cwbvh.specs.Conversion.{converted, refused, recordOf, nodesOf, levelOf, positionsOf, listOf}
+use Rattle.bvh2_to_cwbvh.specs.Conversion.{levelCause, conversionCause, answerFor, conversionOf}
+use Rattle.samples.specs.TreeT.{number, wordsT, indicesT, panesT, bytesT}
+use Rattle.samples.specs.Samples.{nextAbove, extentByte, convert, ahead, beside, rootWord, rootCost, Samples}
 
 record-of-T : recordOf wordsT 2 3 false ≡ bytesT
-unfolding recordOf linkOf boxAt readLink boxOf positions table decision bestOf leaves halfArea wideOf slotsFrom childrenOf slotsOf inOrder partner ofBits ofInt add sub mul lt recordBytes joined nodeAt nodeOf gridBox gridBoxes metas innerMask nodeBytes headBytes putSlots putSlot slotOffset childMin childMax clampedByte onGrid reciprocalOf scaleOf exponentOf extentScale nextPower maxOf toBits round div le
+unfolding recordOf linkOf boxAt readLink boxOf positions table decision bestOf leaves halfArea wideOf slotsFrom childrenOf slotsOf inOrder partner
+    ofBits ofInt add sub mul lt recordBytes joined nodeAt nodeOf gridBox gridBoxes metas innerMask nodeBytes headBytes putSlots putSlot slotOffset
+    childMin childMax clampedByte onGrid reciprocalOf scaleOf exponentOf extentScale nextPower maxOf toBits round div le
 record-of-T = refl
 
+exponents-of-T : take 3 (drop 12 (recordOf wordsT 2 3 false)) ≡ 121 ∷ 120 ∷ 120 ∷ []
+exponents-of-T = ap (λ (b : List ℕ). take 3 (drop 12 b)) record-of-T
+
 list-of-T : listOf wordsT indicesT 3 false ≡ 0 ∷ 1 ∷ []
-unfolding listOf positionsOf linkOf boxAt readLink boxOf positions table decision bestOf leaves halfArea wideOf slotsFrom childrenOf slotsOf inOrder partner ofBits ofInt add sub mul lt
+unfolding listOf positionsOf linkOf boxAt readLink boxOf positions table decision bestOf leaves halfArea wideOf slotsFrom childrenOf slotsOf inOrder
+    partner ofBits ofInt add sub mul lt
 list-of-T = refl
 
 ordered-T : take 8 (drop 24 (recordOf wordsT 2 3 true)) ≡ 0x20 ∷ 0 ∷ 0 ∷ 0 ∷ 0x21 ∷ 0 ∷ 0 ∷ 0 ∷ []
-unfolding recordOf linkOf boxAt readLink boxOf positions table decision bestOf leaves halfArea wideOf slotsFrom childrenOf slotsOf inOrder partner ofBits ofInt add sub mul lt costTable directionCost dotOf directionOf signOf centerOf assigned leastPair openPairs pairs rowPairs keep some recordBytes joined nodeAt nodeOf gridBox gridBoxes metas innerMask nodeBytes headBytes putSlots putSlot slotOffset childMin childMax clampedByte onGrid reciprocalOf scaleOf exponentOf extentScale nextPower maxOf toBits round div le
+unfolding recordOf linkOf boxAt readLink boxOf positions table decision bestOf leaves halfArea wideOf slotsFrom childrenOf slotsOf inOrder partner
+    ofBits ofInt add sub mul lt costTable directionCost dotOf directionOf signOf centerOf assigned leastPair openPairs pairs rowPairs keep some
+    recordBytes joined nodeAt nodeOf gridBox gridBoxes metas innerMask nodeBytes headBytes putSlots putSlot slotOffset childMin childMax clampedByte
+    onGrid reciprocalOf scaleOf exponentOf extentScale nextPower maxOf toBits round div le
 ordered-T = refl
 
 nothing : convert [] [] 3 ≡ converted 0 0
-unfolding convert conversionOf conversionCause levelCause answerFor levelOf nodesOf prepareCause hasRoom recordSize sizesCause structureCause isInside isPosition isWhole eachOnce isTree same count labels allBelow inBounds boundedVec acceptedBox aabb.inOrder le
+unfolding convert conversionOf conversionCause levelCause answerFor levelOf nodesOf prepareCause hasRoom recordSize sizesCause structureCause
+    isInside isPosition isWhole eachOnce isTree same count labels allBelow inBounds boundedVec acceptedBox aabb.inOrder le
 nothing = refl
 
 limit-3 : convert wordsT indicesT 3 ≡ converted 1 0
-unfolding convert conversionOf conversionCause levelCause answerFor levelOf nodesOf prepareCause hasRoom recordSize sizesCause structureCause isInside isPosition isWhole eachOnce isTree same count labels allBelow inBounds boundedVec acceptedBox aabb.inOrder le linkOf boxAt readLink boxOf positions table decision bestOf leaves halfArea wideOf slotsFrom childrenOf slotsOf inOrder partner ofBits ofInt add sub mul lt
+unfolding convert conversionOf conversionCause levelCause answerFor levelOf nodesOf prepareCause hasRoom recordSize sizesCause structureCause
+    isInside isPosition isWhole eachOnce isTree same count labels allBelow inBounds boundedVec acceptedBox aabb.inOrder le linkOf boxAt readLink
+    boxOf positions table decision bestOf leaves halfArea wideOf slotsFrom childrenOf slotsOf inOrder partner ofBits ofInt add sub mul lt
 limit-3 = refl
 
 limit-4 : convert wordsT indicesT 4 ≡ refused 3
-unfolding convert conversionOf conversionCause levelCause answerFor levelOf nodesOf prepareCause hasRoom recordSize sizesCause structureCause isInside isPosition isWhole eachOnce isTree same count labels allBelow inBounds boundedVec acceptedBox aabb.inOrder le
+unfolding convert conversionOf conversionCause levelCause answerFor levelOf nodesOf prepareCause hasRoom recordSize sizesCause structureCause
+    isInside isPosition isWhole eachOnce isTree same count labels allBelow inBounds boundedVec acceptedBox aabb.inOrder le
 limit-4 = refl
 
 limit-4-nothing : convert [] [] 4 ≡ refused 3
-unfolding convert conversionOf conversionCause levelCause answerFor levelOf nodesOf prepareCause hasRoom recordSize sizesCause structureCause isInside isPosition isWhole eachOnce isTree same count labels allBelow inBounds boundedVec acceptedBox aabb.inOrder le
+unfolding convert conversionOf conversionCause levelCause answerFor levelOf nodesOf prepareCause hasRoom recordSize sizesCause structureCause
+    isInside isPosition isWhole eachOnce isTree same count labels allBelow inBounds boundedVec acceptedBox aabb.inOrder le
 limit-4-nothing = refl
 
 extent-255 : extentByte (number 255) ≡ 127
@@ -99,35 +111,53 @@ unfolding exponentOf extentScale nextPower maxOf ofInt round sub mul div lt le
 extent-0 = refl
 
 any-hits :
-    (anyHitOf bytesT 2 (rayAlong (number 0)) 2 ≡ listed 2 1)
-    × (listAfter bytesT 2 (rayAlong (number 0)) (7 ∷ 7 ∷ 7 ∷ []) ≡ 1 ∷ 0 ∷ 7 ∷ [])
-    × (anyHitOf bytesT 2 (rayAlong (ofBits binary32 0x8000_0000)) 2 ≡ listed 0 1)
-    × (anyHitOf [] 0 (rayAlong (number 0)) 0 ≡ listed 0 0)
-unfolding anyHitOf listAfter listFor splice entryCause walkOf walked fitted anyHitAt queryAt queryWords stepWords advanceWords reportWords visitWords popWords rayOf octantOf hitMask slotHit hitBits orOf passes nearOf farOf maxOf minOf planeAt adjustedInverse adjustedOrigin nearLimit scaleOf nodeFrom leAt sumOf slotFrom slotOffset nodeRule headOk childrenOk slotsOk slotOk leafTop pointOk exponentOk inBounds onesBelow field childIndex topOf pushed leadingZeros safeInverse boundedVec acceptedRay round ofBits ofInt add sub mul div lt le eq isNan
+    (anyHitOf bytesT 2 ahead 2 ≡ listed 2 1)
+    × (listAfter bytesT 2 ahead (7 ∷ 7 ∷ 7 ∷ []) ≡ 1 ∷ 0 ∷ 7 ∷ [])
+    × (anyHitOf bytesT 2 beside 2 ≡ listed 0 1)
+    × (anyHitOf [] 0 ahead 0 ≡ listed 0 0)
+unfolding anyHitOf listAfter listFor splice entryCause walkOf walked fitted anyHitAt queryAt queryWords stepWords advanceWords reportWords
+    visitWords popWords rayOf octantOf hitMask slotHit hitBits orOf passes nearOf farOf maxOf minOf planeAt adjustedInverse adjustedOrigin nearLimit
+    scaleOf nodeFrom leAt sumOf slotFrom slotOffset nodeRule headOk childrenOk slotsOk slotOk leafTop pointOk exponentOk inBounds onesBelow field
+    childIndex topOf pushed leadingZeros safeInverse boundedVec acceptedRay round ofBits ofInt add sub mul div lt le eq isNan
 any-hits = (refl, refl, refl, refl)
 
-closest-T : closestOf bytesT indicesT panesT (rayAlong (number 0)) ≡ record { answer = hitAt 0 (number 1); tests = 1 }
-unfolding closestOf closestWalk closestFound closest.walked closest.entered entryCause paneOf paneMet paneBox queryAt queryWords stepWords advanceWords reportWords visitWords popWords rayOf octantOf hitMask slotHit hitBits orOf passes nearOf farOf maxOf minOf planeAt adjustedInverse adjustedOrigin nearLimit scaleOf nodeFrom leAt sumOf slotFrom slotOffset nodeRule headOk childrenOk slotsOk slotOk leafTop pointOk exponentOk inBounds onesBelow field childIndex topOf pushed leadingZeros safeInverse boundedVec acceptedRay acceptedBox aabb.inOrder aabb.entryDistance aabb.boxNear aabb.boxFar aabb.slabNear aabb.slabFar unsignedZero round ofBits ofInt add sub mul div lt le eq isNan
-closest-T = refl
+closest :
+    (closestOf bytesT indicesT panesT ahead ≡ record { answer = hitAt 0 (number 1); tests = 1 })
+    × (closestOf bytesT indicesT panesT beside ≡ record { answer = noHit; tests = 1 })
+    × (closestOf [] [] [] ahead ≡ record { answer = noHit; tests = 0 })
+unfolding closestOf closestWalk closestFound panes.walked panes.entered entryCause paneOf paneMet paneBox queryAt queryWords stepWords advanceWords
+    reportWords visitWords popWords rayOf octantOf hitMask slotHit hitBits orOf passes nearOf farOf maxOf minOf planeAt adjustedInverse
+    adjustedOrigin nearLimit scaleOf nodeFrom leAt sumOf slotFrom slotOffset nodeRule headOk childrenOk slotsOk slotOk leafTop pointOk exponentOk
+    inBounds onesBelow field childIndex topOf pushed leadingZeros safeInverse boundedVec acceptedRay acceptedBox aabb.inOrder aabb.entryDistance
+    aabb.boxNear aabb.boxFar aabb.slabNear aabb.slabFar unsignedZero round ofBits ofInt add sub mul div lt le eq isNan
+closest = (refl, refl, refl)
+
+costs : ((rootWord 3 ≡ 0x0000_0006) × (rootCost 3 ≡ 0x4086_6667)) × ((rootWord 1 ≡ 0x4000_0006) × (rootCost 1 ≡ 0x410c_cccd))
+unfolding linkOf boxAt readLink table decision bestOf leaves halfArea ofBits toBits ofInt add sub mul lt
+costs = ((refl, refl), (refl, refl))
 
 pub samples : Samples
 samples = record {
-  exponents-of-T = exponents-of-T;
   record-of-T = record-of-T;
   list-of-T = list-of-T;
-  ordered-T = ordered-T;
-  nothing = nothing;
-  limit-3 = limit-3;
-  limit-4 = limit-4;
-  limit-4-nothing = limit-4-nothing;
+  exponents-of-T = exponents-of-T;
   extent-255 = extent-255;
   extent-above-255 = extent-above-255;
   extent-261120 = extent-261120;
   extent-above-261120 = extent-above-261120;
   extent-0 = extent-0;
+  ordered-T = ordered-T;
   any-hit-T = any-hits .0;
   any-hit-T-list = any-hits .1;
-  closest-T = closest-T;
+  closest-T = closest .0;
   any-hit-zero = any-hits .2;
+  closest-zero = closest .1;
+  nothing = nothing;
   any-hit-nothing = any-hits .3;
+  closest-nothing = closest .2;
+  limit-3 = limit-3;
+  limit-4 = limit-4;
+  limit-4-nothing = limit-4-nothing;
+  cost-at-3 = costs .0;
+  cost-at-1 = costs .1;
 }

@@ -1,2 +1,3 @@
 pub mod TreeT
 pub mod Samples
+pub mod Further

@@ -13,7 +13,7 @@ use Rattle.show.specs.Input.{inputWords}
 use Rattle.show.specs.Show.{refusalText}
 use Rattle.show.proofs.Words.{length-words}
 use Rattle.show_text.specs.ShowText.{mostLeaves, treeSize, inputSize, treeWords, indexWords, treeText, orderText, leavesText, showText}
-use Rattle.show_text.proofs.Texts.{list-written}
+use Rattle.lists.proofs.Splice.{splice-taken}
 
 -- a part of up to m
 pub take-most : (n m : ℕ) (l : List ℕ) → n ≤ m → length (take n l) ≤ m
@@ -82,8 +82,8 @@ module _ (input : List ℕ) (n : ℕ) (word : 4 ≤ length input) (is : n ≡ le
       unfolding orderText
       text-tree h ws is ws₁ is₁ a b =
           ap₂ (λ (x y : List ℕ). treeText x y limit (eqb order 1))
-          (ap (take k) a ∙ list-written ws (inputWords input 12 k) k (length-words input 12 k) ∙ ap (inputWords input 12) size)
-          (ap (take n) b ∙ list-written is (inputWords input (12 + 4 * k) n) n (length-words input (12 + 4 * k) n) ∙ ap (λ (x : ℕ). inputWords input (12 + 4 * x) n) size)
+          (ap (take k) a ∙ splice-taken ws (inputWords input 12 k) k (length-words input 12 k) ∙ ap (inputWords input 12) size)
+          (ap (take n) b ∙ splice-taken is (inputWords input (12 + 4 * k) n) n (length-words input (12 + 4 * k) n) ∙ ap (λ (x : ℕ). inputWords input (12 + 4 * x) n) size)
           ∙ go order h ∙ text-order
         where
           go : (o : ℕ) → o ≤ 1 → treeText (treeWords input n) (indexWords input n) limit (eqb o 1) ≡ orderText (treeWords input n) (indexWords input n) limit o

@@ -1,4 +1,3 @@
 pub mod Trees
 pub mod Texts
 pub mod Inputs
-pub mod Samples

@@ -8,7 +8,7 @@ use lib.Ieee.{Float}
 use lib.ListN.{length, take, drop, length-take, length-drop}
 use lib.Seq.{take-append-le, drop-append-le}
 use Rattle.lists.specs.Splice.{splice}
-use Rattle.text.proofs.Put.{take-first}
+use Rattle.lists.proofs.Splice.{splice-taken}
 use Rattle.show.specs.Show.{nodeLine, nodeLines, indicesLine, recordText, refusalText}
 use Rattle.bvh2_to_cwbvh.specs.Conversion.{recordOf, nodesOf, listOf, conversionOf}
 use Rattle.bvh2_to_cwbvh.specs.declared.Conversion.{Conversion}
@@ -34,12 +34,9 @@ lines-written : (s a : List ℕ) (m : ℕ) → length a ≡ 80 * m → nodeLines
 unfolding splice
 lines-written s a m e = lines-front a (drop (0 + length a) s) m 0 (omega arith)
 
-pub list-written : (s l : List ℕ) (n : ℕ) → length l ≡ n → take n (splice s 0 l) ≡ l
-list-written s l n e = rw (← e) (take-first s l)
-
 record-written : (s a t l : List ℕ) (m n : ℕ) → length a ≡ 80 * m → length l ≡ n → recordText (splice s 0 a) m (take n (splice t 0 l)) ≡ recordText a m l
 unfolding recordText
-record-written s a t l m n e f = ap₂ (λ (x y : List ℕ). x ++ indicesLine y) (lines-written s a m e) (list-written t l n f)
+record-written s a t l m n e f = ap₂ (λ (x y : List ℕ). x ++ indicesLine y) (lines-written s a m e) (splice-taken t l n f)
 
 -- what was written is the text, and r is its length
 abbrev pub Wrote : List ℕ → List ℕ → ℕ → List ℕ → Type 0
@@ -50,7 +47,7 @@ wrote-as s a b r t e h = rw (← e) h
 
 pub wrote-fits : (s text : List ℕ) (r : ℕ) (t : List ℕ) → Wrote s text r t → r ≤ length t
 wrote-fits s text r t h =
-    let e : take (length text) t ≡ text = ap (take (length text)) (h .1) ∙ take-first s text in
+    let e : take (length text) t ≡ text = ap (take (length text)) (h .1) ∙ splice-taken s text (length text) refl in
     omega (arith, h .0, ap length e, length-take (length text) t)
 
 module _ (ws indices : List ℕ) (limit : ℕ) (ordered : Bool) (ds : List ℕ) (cs : List Float) (bytes list : List ℕ) (out : ℕ)

@@ -18,7 +18,8 @@ pub record Deepest (S : Shape) (d : ℕ) : Type 0 where
   pub most : (v l : ℕ) → v < S .nodes → Level S l v → l ≤ d
   pub some : ((S .nodes ≡ 0) × (d ≡ 0)) ⊎ ((v : ℕ) × (v < S .nodes) × Level S d v)
 
--- The same by naming the one range instead of counting: exactly one node is v's parent, and exactly one slot of one node holds position x.
+-- The same by naming the one range instead of counting: exactly one node is v's parent, and exactly one slot of one node holds position x. And exactly
+-- one level is v's.
 pub record OneParent (S : Shape) (v : ℕ) : Type 0 where
   pub parent : ℕ
   pub child : Child S parent v
@@ -29,3 +30,8 @@ pub record OneHolder (S : Shape) (x : ℕ) : Type 0 where
   pub slot : ℕ
   pub holds : Holds S node slot x
   pub only : (i s : ℕ) → Holds S i s x → (i ≡ node) × (s ≡ slot)
+
+pub record OneLevel (S : Shape) (v : ℕ) : Type 0 where
+  pub level : ℕ
+  pub has : Level S level v
+  pub only : (l : ℕ) → Level S l v → l ≡ level

@@ -1,5 +1,5 @@
 // The words of a stored case, and its floats.
-ghost use Prim.Native.Nat.{_≤_};
+ghost use Prim.Native.Nat.{_+_, _≤_};
 
 // The most words of a case that are copied at once.
 const MOST_COPIED: usize = 65536;
@@ -66,6 +66,13 @@ pub fn same_vector(case: &[u8], i: usize, v: ray::Vec3) -> bool {
         }
     }
     false
+}
+
+// The bytes of the whole words that so many bytes fill.
+pub fn filled_up(bytes: u32) -> usize
+    ensures { λ r. ⌜ (bytes ≤ r) × (r ≤ bytes + 3) ⌝ }
+{
+    (bytes as usize + 3) / 4 * 4
 }
 
 // Whether every one of these words is x.

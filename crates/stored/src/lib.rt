@@ -4,6 +4,7 @@ mod names;
 
 pub use cases::all_are;
 pub use cases::copy_words;
+pub use cases::filled_up;
 pub use cases::real;
 pub use cases::same;
 pub use cases::same_vector;

@@ -4,8 +4,8 @@ use mathlib.Core.List.{List, [], _∷_, _++_}
 use Prim.Native.Nat.{ℕ, _+_, _≤_, _<_}
 use native.Mathlib.Numerals.{add-one}
 use native.Mathlib.Omega.{arith}
-use lib.ListN.{length, set, take, drop, getD, length-append}
-use lib.Seq.{drop-cons, take-append-seam}
+use lib.ListN.{length, set, drop, getD, length-append}
+use lib.Seq.{drop-cons}
 use Rattle.lists.specs.Splice.{splice}
 use Rattle.lists.proofs.Splice.{length-splice, splice-next, splice-none, set-splice}
 use Rattle.text.specs.Put.{Put}
@@ -16,11 +16,6 @@ put-length {s} {at} {b} h p = ap length (p .written) ∙ length-splice s at b h
 -- at the start, the place behind the text is its length
 pub put-first : {s b : List ℕ} {r : ℕ} {t : List ℕ} → Put s 0 b r t → (r ≡ length b) × (t ≡ splice s 0 b)
 put-first p = (omega (arith, p .behind), p .written)
-
--- what was written at the start is read back
-pub take-first : (s b : List ℕ) → take (length b) (splice s 0 b) ≡ b
-unfolding splice
-take-first s b = take-append-seam b (drop (0 + length b) s)
 
 -- one byte stored
 pub put-one : (s : List ℕ) (at v : ℕ) → at < length s → Put s at (v ∷ []) (at + 1) (set s at v)

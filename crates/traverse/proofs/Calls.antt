@@ -35,5 +35,6 @@ module _ (bytes : List ℕ) (whole : length bytes % 80 ≡ 0) where
   run-whole (tell t ∷ l) w = run-whole l _
 
   -- from the walker that `Walker::new` begins with, for an accepted ray
-  pub run-started : (r : Ray) → acceptedRay r ≡ true → (l : List (Op Float)) → runBytes bytes l (started r .walker) ≡ runAt bytes beams l (freshWords (beamOf r))
+  pub run-started : (r : Ray) → acceptedRay r ≡ true → (l : List (Op Float))
+      → runBytes bytes l (started r .walker) ≡ runAt bytes beams l (freshWords (beamOf r))
   run-started r h l = ap (runBytes bytes l) (starts-fresh r h) ∙ run-whole l (freshWords (beamOf r))

@@ -49,7 +49,9 @@ module _ (bytes : List ℕ) (n : ℕ) (w : WalkerWords Beam) where
   by a b c d =
       elim a [
         | false ↦ stayWords w (S.refused 1)
-        | true ↦ cond b (cond c (stayWords w (S.refused 10)) (cond d (emptiedWords w) (advanceWords m (nodeWordsAt bytes beams) n w))) (stayWords w (S.refused 2))
+        | true ↦ cond b
+            (cond c (stayWords w (S.refused 10)) (cond d (emptiedWords w) (advanceWords m (nodeWordsAt bytes beams) n w)))
+            (stayWords w (S.refused 2))
       ]
 
   abbrev forged : Bool

@@ -134,10 +134,10 @@ fn is_over(m: usize, walk: Walk, octant: u32) -> bool
 fn emptied(w: Walker) -> Stepped
     ensures { λ r. ⌜ steppedOf r ≡ emptiedWords (wordsOf w) ⌝ }
 {
-    let none = Group { base: 0, bits: 0 };
+    let hand = Group { base: 0, bits: 0 };
     let walk = w.walk;
     let empty = Walk {
-        current: none,
+        current: hand,
         ..walk
     };
     let walker = Walker { walk: empty, ..w };

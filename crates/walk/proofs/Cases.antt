@@ -9,7 +9,8 @@ use lib.ListN.{length}
 use borrow.Author.Tests.{leb-true, leb-false}
 use Rattle.lists.proofs.Tells.{clash}
 use Rattle.walk.specs.Tests.{Tests}
-use Rattle.walk.specs.Step.{Walker, Answer, tested, position, done, refused, Stepped, Due, report, test, nothing, dueOf, sizesFit, forgedWalker, noRoom, badPosition, badNode, onlyFirst, stay, emptied, afterReport, afterTest, advance, stepOf}
+use Rattle.walk.specs.Step.{Walker, Answer, tested, position, done, refused, Stepped, Due, report, test, nothing, dueOf, sizesFit, forgedWalker}
+use Rattle.walk.specs.Step.{noRoom, badPosition, badNode, onlyFirst, stay, emptied, afterReport, afterTest, advance, stepOf}
 
 -- ---- tests
 
@@ -138,8 +139,8 @@ module _ {s d : Type 0} (m : ℕ) (T : Tests s d) (n : ℕ) (w : Walker s) where
       })
 
 -- where nothing is due a step leaves the walker as it is, and is done if nothing refuses it
-pub nothing-due-done : {s d : Type 0} (m : ℕ) (T : Tests s d) (n : ℕ) (w : Walker s) → due m T n w ≡ nothing → sizesFit m n ≡ true → forgedWalker m T w ≡ false
-    → stepOf m T n w ≡ stay w done
+pub nothing-due-done : {s d : Type 0} (m : ℕ) (T : Tests s d) (n : ℕ) (w : Walker s)
+    → due m T n w ≡ nothing → sizesFit m n ≡ true → forgedWalker m T w ≡ false → stepOf m T n w ≡ stay w done
 unfolding stepOf
 nothing-due-done m T n w e z f = rw (z, f, nothing-not-first (w .positions) (w .group) (w .stack) e, and-false (leb m 0), e)
 

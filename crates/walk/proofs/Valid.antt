@@ -13,7 +13,8 @@ use Rattle.lists.proofs.Tells.{clash}
 use Rattle.soundness.specs.Shape.{Shape}
 use Rattle.soundness.specs.Sound.{Sound}
 use Rattle.walk.specs.Tests.{Tests}
-use Rattle.walk.specs.Step.{Walker, done, fresh, Stepped, Due, report, test, nothing, dueOnStack, dueOf, sizesFit, forgedWalker, noRoom, badNode, stay, emptied, afterReport, afterTest, stepOf, tellOf}
+use Rattle.walk.specs.Step.{Walker, done, fresh, Stepped, Due, report, test, nothing, dueOnStack, dueOf, sizesFit, forgedWalker, noRoom}
+use Rattle.walk.specs.Step.{badNode, stay, emptied, afterReport, afterTest, stepOf, tellOf}
 use Rattle.walk.specs.Calls.{All, Op, step, tell, runOps, Answered, Brings}
 use Rattle.walk.specs.Listing.{In}
 use Rattle.walk.specs.Lawful.{Lawful}
@@ -203,7 +204,8 @@ module _ {s d : Type 0} (S : Shape) (Rule : ℕ → Type 0) (T : Tests s d) (L :
   over-answered e h [] ray f a = tt
   over-answered e h (step n ∷ l) ray f a =
       let z : stepOf (S .nodes) T n (emptied (fresh ray) .walker) ≡ stay (emptied (fresh ray) .walker) done =
-      nothing-due-done (S .nodes) T n (emptied (fresh ray) .walker) refl (fits (S .nodes) n (omega (arith, a .0)) (omega arith)) (rw (f, le-ltb (S .nodes) 0 (omega arith))) in
+      nothing-due-done (S .nodes) T n (emptied (fresh ray) .walker) refl (fits (S .nodes) n (omega (arith, a .0)) (omega arith))
+      (rw (f, le-ltb (S .nodes) 0 (omega arith))) in
       rw z (tt, over-answered e h l ray f (a .1))
   over-answered e h (tell x ∷ l) ray f a = over-answered e h l (T .told x ray) (L .told-accepted x ray f) (a .1)
 

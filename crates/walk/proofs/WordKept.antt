@@ -9,7 +9,8 @@ use borrow.Author.Tests.{eqb-true, eq-eqb, ltb-false, le-ltb}
 use Rattle.faststack.specs.Stack.{topOf}
 use Rattle.walk.specs.Step.{Answer, tested, position, done, refused, sizesFit, badPosition}
 use Rattle.walk.specs.Words.{unpacked, restOf, firstPosition, firstChild, hasChild, waitingDepth}
-use Rattle.walk.specs.WordStep.{WalkerWords, SteppedWords, NodeWords, stayWords, emptiedWords, forgedWords, onlyFirstWords, badChild, reportWords, visitWords, popWords, advanceWords, stepWords, tellWords}
+use Rattle.walk.specs.WordStep.{WalkerWords, SteppedWords, NodeWords, stayWords, emptiedWords, forgedWords, onlyFirstWords, badChild}
+use Rattle.walk.specs.WordStep.{reportWords, visitWords, popWords, advanceWords, stepWords, tellWords}
 use Rattle.walk.proofs.Cases.{cond-elim, and-true, and-false}
 
 first-and-last : (a b c d e : Bool) → a && b && c && d && e ≡ true → (a ≡ true) × (e ≡ true)
@@ -46,7 +47,8 @@ module _ {s d : Type 0} (m : ℕ) (N : NodeWords s d) (n : ℕ) (w : WalkerWords
   advance-leaves : forgedWords m N w ≡ false → LeavesOf (advanceWords m N n w)
   unfolding advanceWords reportWords popWords
   advance-leaves f =
-      cond-elim LeavesOf (ltb 0 (w .positions .bits)) _ _ (λ _. cond-elim LeavesOf (badPosition n (firstPosition (w .positions))) _ _ (λ _. refl) (λ _. tt))
+      cond-elim LeavesOf (ltb 0 (w .positions .bits)) _ _
+      (λ _. cond-elim LeavesOf (badPosition n (firstPosition (w .positions))) _ _ (λ _. refl) (λ _. tt))
       (λ h. cond-elim LeavesOf (hasChild (w .current)) _ _ (λ _. visit-leaves (w .current) (w .depth))
       (λ i. cond-elim LeavesOf (ltb 0 (waitingDepth (w .stack) (w .depth))) _ _
       (λ _. visit-leaves (unpacked (topOf (w .stack) (waitingDepth (w .stack) (w .depth)))) (waitingDepth (w .stack) (w .depth) - 1))
@@ -75,13 +77,16 @@ module _ {s d : Type 0} (m : ℕ) (N : NodeWords s d) (n : ℕ) (w : WalkerWords
   -- ---- a walker with nothing left
 
   -- every step leaves it as it is: done if nothing refuses it
-  pub finished-step : Finished w → stepWords m N n w ≡ cond (sizesFit m n) (cond (forgedWords m N w) (stayWords w (refused 10)) (stayWords w done)) (stayWords w (refused 2))
+  pub finished-step : Finished w
+      → stepWords m N n w ≡ cond (sizesFit m n) (cond (forgedWords m N w) (stayWords w (refused 10)) (stayWords w done)) (stayWords w (refused 2))
   unfolding stepWords advanceWords popWords
   finished-step f =
-      rw (eq-eqb (w .positions .bits) 0 (omega (arith, ltb-false 0 (w .positions .bits) (f .positions))), f .current, and-false (leb m 0), f .positions, f .stack)
+      let z = eq-eqb (w .positions .bits) 0 (omega (arith, ltb-false 0 (w .positions .bits) (f .positions))) in
+      rw (z, f .current, and-false (leb m 0), f .positions, f .stack)
 
 -- done stays done, whatever count a later step on the same record brings, if it is no cause of refusal
-pub words-done-stays : {s d : Type 0} (m : ℕ) (N : NodeWords s d) (n : ℕ) (w : WalkerWords s) → stepWords m N n w .answer ≡ done → (k : ℕ) → sizesFit m k ≡ true
+pub words-done-stays : {s d : Type 0} (m : ℕ) (N : NodeWords s d) (n : ℕ) (w : WalkerWords s)
+    → stepWords m N n w .answer ≡ done → (k : ℕ) → sizesFit m k ≡ true
     → stepWords m N k (stepWords m N n w .walker) ≡ stayWords (stepWords m N n w .walker) done
 words-done-stays m N n w e k z =
     let l = subst (λ (a : Answer). Leaves m N n w a (stepWords m N n w .walker)) e (words-leave m N n w) in

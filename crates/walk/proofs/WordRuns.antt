@@ -15,8 +15,11 @@ use Rattle.node.specs.Node.{childIndex}
 use Rattle.walk.specs.Tests.{Tests}
 use Rattle.walk.specs.Step.{Stepped, refused, fresh, sizesFit, badPosition, tellOf}
 use Rattle.walk.specs.Calls.{Op, step, tell, Run, runOps}
-use Rattle.walk.specs.Words.{Group, packed, unpacked, positionsIn, childrenIn, groupsIn, restOf, firstPosition, firstChild, hasChild, waitingDepth}
-use Rattle.walk.specs.WordStep.{WalkerWords, SteppedWords, NodeWords, freshWords, forgedWords, onlyFirstWords, badChild, stayWords, emptiedWords, afterReportWords, afterTestWords, visitWords, reportWords, popWords, advanceWords, stepWords, tellWords, RunWords, runWords, decoded, InRange, testsWith, Decodes}
+use Rattle.walk.specs.Words.{Group, packed, unpacked, positionsIn, childrenIn, groupsIn, restOf, firstPosition, firstChild, hasChild}
+use Rattle.walk.specs.Words.{waitingDepth}
+use Rattle.walk.specs.WordStep.{WalkerWords, SteppedWords, NodeWords, freshWords, forgedWords, onlyFirstWords, badChild, stayWords}
+use Rattle.walk.specs.WordStep.{emptiedWords, afterReportWords, afterTestWords, visitWords, reportWords, popWords, advanceWords, stepWords}
+use Rattle.walk.specs.WordStep.{tellWords, RunWords, runWords, decoded, InRange, testsWith, Decodes}
 use Rattle.walk.proofs.Cases.{cond-elim}
 use Rattle.walk.proofs.Words.{positions-none, children-none, children-first, rest-lt}
 use Rattle.walk.proofs.Stacks.{top-bits, pushed-length, pushed-words}

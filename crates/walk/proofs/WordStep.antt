@@ -10,9 +10,12 @@ use lib.ListN.{length}
 use borrow.Author.Tests.{leb-true, leb-false, ltb-true, ltb-false, lt-ltb, le-ltb, le-leb, lt-leb, eq-eqb, ne-eqb}
 use Rattle.faststack.specs.Stack.{capacity, hasRoom, topOf}
 use Rattle.walk.specs.Tests.{Tests}
-use Rattle.walk.specs.Step.{Walker, tested, done, refused, Due, report, test, dueOf, sizesFit, forgedWalker, noRoom, badPosition, badNode, onlyFirst, stay, emptied, afterReport, afterTest, advance, stepOf}
+use Rattle.walk.specs.Step.{Walker, tested, done, refused, Due, report, test, dueOf, sizesFit, forgedWalker, noRoom, badPosition, badNode}
+use Rattle.walk.specs.Step.{onlyFirst, stay, emptied, afterReport, afterTest, advance, stepOf}
 use Rattle.walk.specs.Words.{Group, unpacked, positionsIn, childrenIn, groupsIn, restOf, firstPosition, firstChild, hasChild, waitingDepth}
-use Rattle.walk.specs.WordStep.{WalkerWords, SteppedWords, NodeWords, noGroup, forgedWords, onlyFirstWords, badChild, stayWords, emptiedWords, afterReportWords, afterTestWords, reportWords, visitWords, popWords, advanceWords, stepWords, decoded, decodedStep, InRange, testsWith, Decodes}
+use Rattle.walk.specs.WordStep.{WalkerWords, SteppedWords, NodeWords, noGroup, forgedWords, onlyFirstWords, badChild, stayWords, emptiedWords}
+use Rattle.walk.specs.WordStep.{afterReportWords, afterTestWords, reportWords, visitWords, popWords, advanceWords, stepWords, decoded}
+use Rattle.walk.specs.WordStep.{decodedStep, InRange, testsWith, Decodes}
 use Rattle.walk.proofs.Cases.{cond-elim, or-false, not-false-true}
 use Rattle.walk.proofs.Words.{positions-first, positions-none, children-none, children-first, rest-lt}
 use Rattle.walk.proofs.Stacks.{groups-length, top-bits, dueWords, due-stack, waiting-child, groups-pushed}
@@ -206,7 +209,8 @@ module _ {s d : Type 0} (m : ℕ) (N : NodeWords s d) (ps cs : s → ℕ → Lis
   unforged-decoded n w i a =
       cond-same (decodedStep N) (leb m 0 && onlyFirstWords m N w) (leb m 0 && onlyIn w) (emptiedWords w) (advanceWords m N n w)
       (emptied (decoded N w)) (advance m T n (decoded N w) (dueIn w))
-      (ap (λ (x : Bool). leb m 0 && x) (only-same w i (D .octant-lt (w .ray) (forged-ray w a)))) (λ _. empty-decoded w) (λ _. advance-decoded n w i (forged-ray w a))
+      (ap (λ (x : Bool). leb m 0 && x) (only-same w i (D .octant-lt (w .ray) (forged-ray w a)))) (λ _. empty-decoded w)
+      (λ _. advance-decoded n w i (forged-ray w a))
 
   pub step-decoded : (n : ℕ) (w : WalkerWords s) → InRange w → decodedStep N (stepWords m N n w) ≡ stepOf m T n (decoded N w)
   unfolding stepWords stepOf

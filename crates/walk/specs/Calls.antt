@@ -48,18 +48,6 @@ Answered (position p) = Unit {0}
 Answered done = Unit {0}
 Answered (refused e) = ⊥
 
--- the answer is done or a refusal: nothing is tested and nothing reported
-abbrev pub DoneOrRefused : Answer → Type 0
-DoneOrRefused (tested v) = ⊥
-DoneOrRefused (position p) = ⊥
-DoneOrRefused done = Unit {0}
-DoneOrRefused (refused e) = Unit {0}
-
--- done stays done: once an answer is done, every later one is done or a refusal
-abbrev pub DoneStays : List Answer → Type 0
-DoneStays [] = Unit {0}
-DoneStays (a ∷ l) = (a ≡ done → All DoneOrRefused l) × DoneStays l
-
 -- a step brings the record's own count
 abbrev pub Brings : {d : Type 0} → ℕ → Op d → Type 0
 Brings n (step k) = k ≡ n

@@ -1,5 +1,4 @@
--- Walks computed: over the record of tree T (01, "Samples"), whose two leaves stand in slots 0 and 1; and over three nodes, the first with a leaf in
--- slot 2 and children in slots 0 and 5.
+-- Walks computed, over three nodes, the first with a leaf in slot 2 and children in slots 0 and 5.
 use mathlib.Core.Bool.{false, true}
 use mathlib.Core.List.{List, [], _∷_, _++_}
 use mathlib.Core.Path.{_≡_, refl}
@@ -28,11 +27,6 @@ use Rattle.walk.specs.WordQueries.{queryWords}
 use Rattle.walk_record.specs.Beam.{Beam, beamOf, beams}
 use Rattle.walk_record.specs.Walk.{runAt, queryAt, anyHitAt}
 
-abbrev bytesT : List ℕ
-bytesT =
-    replicate 12 0 ++ (121 ∷ 120 ∷ 120 ∷ 0 ∷ 1 ∷ []) ++ replicate 7 0 ++ (32 ∷ 33 ∷ []) ++ replicate 7 0 ++ (128 ∷ []) ++ replicate 6 0
-    ++ (64 ∷ 192 ∷ []) ++ replicate 14 0 ++ (128 ∷ 128 ∷ []) ++ replicate 14 0 ++ (128 ∷ 128 ∷ []) ++ replicate 6 0
-
 -- a node with this mask, these two bases and these metas; every slot has the whole box
 abbrev node : ℕ → ℕ → ℕ → List ℕ → List ℕ
 node mask children positions metas =
@@ -45,47 +39,39 @@ three =
     node 33 1 0 (56 ∷ 0 ∷ 32 ∷ 0 ∷ 0 ∷ 61 ∷ 0 ∷ 0 ∷ []) ++ node 0 3 1 (96 ∷ 0 ∷ 0 ∷ 0 ∷ 0 ∷ 0 ∷ 0 ∷ 0 ∷ [])
     ++ node 0 3 3 (32 ∷ 0 ∷ 0 ∷ 0 ∷ 0 ∷ 0 ∷ 0 ∷ 0 ∷ [])
 
--- from (x, 0.5, 0.5) along (u, v, 0), without end
-abbrev beam : Float → Float → Float → Beam
-beam x u v =
-    beamOf (rayOf (record { x = x; y = fin false 1 (negsuc 0); z = fin false 1 (negsuc 0) }) (record { x = u; y = v; z = fin false 0 (pos 0) }) (fin false 0 (pos 0)) (inf false))
+abbrev nought : Float
+nought = fin false 0 (pos 0)
 
-abbrev zero+ : Float
-zero+ = fin false 0 (pos 0)
+abbrev half : Float
+half = fin false 1 (negsuc 0)
 
-abbrev zero- : Float
-zero- = fin true 0 (pos 0)
+-- from (x, 0.5, 0.5) along (u, 0, 0), without end
+abbrev beam : Float → Float → Beam
+beam x u = beamOf (rayOf (record { x = x; y = half; z = half }) (record { x = u; y = nought; z = nought }) nought (inf false))
 
 -- along x, octant 7; and against it, octant 3
 abbrev along : Beam
-along = beam (fin true 1 (pos 0)) (fin false 1 (pos 0)) zero+
+along = beam (fin true 1 (pos 0)) (fin false 1 (pos 0))
 
 abbrev against : Beam
-against = beam (fin false 3 (pos 0)) (fin true 1 (pos 0)) zero+
+against = beam (fin false 3 (pos 0)) (fin true 1 (pos 0))
 
 -- a walker without tests that holds these positions and this group
 abbrev holds : Group → Group → WalkerWords Beam
 holds positions current = record { ray = along; tests = 0; positions = positions; current = current; depth = 0; stack = replicate 32 0 }
 
 pub record Examples : Type 0 where
-  -- both leaves of T are met, the higher position first, by one test; with -0.0 in the direction none is
-  pub both : anyHitAt bytesT beams 2 along .noted ≡ 1 ∷ 0 ∷ []
-  pub one-test : anyHitAt bytesT beams 2 along .walker .tests ≡ 1
-  pub none : anyHitAt bytesT beams 2 (beam (fin true 1 (pos 0)) (fin false 1 (pos 0)) zero-) .noted ≡ []
-  pub still-one-test : anyHitAt bytesT beams 2 (beam (fin true 1 (pos 0)) (fin false 1 (pos 0)) zero-) .walker .tests ≡ 1
-  -- no nodes, no test
-  pub empty : anyHitAt [] beams 0 along .ended ≡ done
-  pub no-test : anyHitAt [] beams 0 along .walker .tests ≡ 0
   -- slot 0 comes before slot 5 in octant 7, and after it in octant 3; positions fall in both
   pub octant-7 : anyHitAt three beams 4 along .noted ≡ 0 ∷ 2 ∷ 1 ∷ 3 ∷ []
   pub octant-3 : anyHitAt three beams 4 against .noted ≡ 0 ∷ 3 ∷ 2 ∷ 1 ∷ []
   -- a count too small refuses a position and one too large is refused as such, and the walker goes on; a told 0 lets nothing more pass, but what
   -- is in hand is reported and what waits is tested; done stays done
   pub mixed :
-      runAt three beams (step 4 ∷ step 0 ∷ step 65537 ∷ step 4 ∷ step 4 ∷ tell zero+ ∷ step 4 ∷ step 4 ∷ step 4 ∷ step 4 ∷ step 4 ∷ []) (freshWords along) .answers
+      runAt three beams (step 4 ∷ step 0 ∷ step 65537 ∷ step 4 ∷ step 4 ∷ tell nought ∷ step 4 ∷ step 4 ∷ step 4 ∷ step 4 ∷ step 4 ∷ []) (freshWords along) .answers
       ≡ tested 0 ∷ refused 10 ∷ refused 2 ∷ position 0 ∷ tested 1 ∷ position 2 ∷ position 1 ∷ tested 2 ∷ done ∷ done ∷ []
   -- without nodes a position in hand is reported if it is below the count, and a group other than the first node is refused
-  pub position-without-nodes : runAt [] beams (step 0 ∷ step 5 ∷ []) (holds (record { base = 0; bits = 1 }) noGroup) .answers ≡ refused 10 ∷ position 0 ∷ []
+  pub position-without-nodes :
+      runAt [] beams (step 0 ∷ step 5 ∷ []) (holds (record { base = 0; bits = 1 }) noGroup) .answers ≡ refused 10 ∷ position 0 ∷ []
   pub group-without-nodes : runAt [] beams (step 5 ∷ []) (holds noGroup (record { base = 1; bits = 0x8000_0000 })) .answers ≡ refused 10 ∷ []
   -- a walker that was done on a record without nodes is done on one with nodes too
   pub done-elsewhere : runAt three beams (step 4 ∷ step 4 ∷ []) (runAt [] beams (step 0 ∷ []) (freshWords along) .walker) .answers ≡ done ∷ done ∷ []
@@ -95,12 +81,6 @@ pub record Examples : Type 0 where
 pub examples : Examples
 unfolding anyHitAt queryAt runAt queryWords runWords stepWords advanceWords reportWords visitWords popWords rayOf octantOf hitMask slotHit hitBits orOf passes nearOf farOf maxOf minOf planeAt adjustedInverse adjustedOrigin nearLimit scaleOf nodeFrom leAt sumOf slotFrom slotOffset nodeRule headOk childrenOk slotsOk slotOk leafTop pointOk exponentOk inBounds onesBelow field childIndex topOf pushed leadingZeros safeInverse boundedVec acceptedRay round ofBits ofInt add sub mul div lt le eq isNan
 examples = record {
-  both = refl;
-  one-test = refl;
-  none = refl;
-  still-one-test = refl;
-  empty = refl;
-  no-test = refl;
   octant-7 = refl;
   octant-3 = refl;
   mixed = refl;

@@ -30,7 +30,8 @@ module _ {s d : Type 0} (bytes : List ℕ) (R : Rays s d) (n : ℕ) (w : WalkerW
   -- where nothing is left to do every step leaves the walker as it is, done if nothing refuses it;
   pub step-finished : Finished w
       → stepAt bytes R n w
-      ≡ cond (sizesFit (nodeCount bytes) n) (cond (forgedWords (nodeCount bytes) (nodeWordsAt bytes R) w) (stayWords w (refused 10)) (stayWords w done))
+      ≡ cond (sizesFit (nodeCount bytes) n)
+      (cond (forgedWords (nodeCount bytes) (nodeWordsAt bytes R) w) (stayWords w (refused 10)) (stayWords w done))
       (stayWords w (refused 2))
   unfolding stepAt
   step-finished = finished-step (nodeCount bytes) (nodeWordsAt bytes R) n w

@@ -1,13 +1,13 @@
 -- What conversion hands on from node to node writes the layout, and ends at its sizes.
-use mathlib.Core.List.{List, [], _∷_, _++_, append-assoc, append-nil}
+use mathlib.Core.List.{List, [], _∷_, _++_}
 use mathlib.Core.Path.{_≡_, refl, sym, ap, ap₂, _∙_}
 use Prim.Native.Nat.{ℕ, _+_}
 use native.Mathlib.Nat.{add-assoc, add-zero, zero-add}
 use native.Mathlib.Omega.{arith}
 use Rattle.aabb.specs.declared.Aabb.{Aabb}
 use Rattle.wide.specs.Wide.{Slots, end, empty, leaf, inner, Wide}
-use Rattle.wide.specs.Sizes.{innerChildren, nodesBelow, ownPositions, ownCount, positionsBelow, countBelow}
-use Rattle.wide.specs.Layout.{Entry, entry, entries, layout, writtenPositions, nodes, indexList, indexCount}
+use Rattle.wide.specs.Sizes.{innerChildren, nodesBelow, ownCount, countBelow}
+use Rattle.wide.specs.Layout.{Entry, entry, entries, layout, nodes, indexCount}
 use Rattle.wide.specs.Conversion.{State, enter, convert, convertNode, convertTree, writeAll}
 
 module _ {Z : Type 0} (write : Entry → Z → Z) where
@@ -75,43 +75,3 @@ module _ {Z : Type 0} (write : Entry → Z → Z) where
   converted t z =
       convert-node (t .box) (t .slots) 0 0 0 0 (record { written = z; nodes = 1; positions = 0 })
       ∙ ap (λ (u : ℕ). record { written = writeAll write z (layout t); nodes = nodes t; positions = u }) (zero-add (indexCount t))
-
--- ---- nodes put at the end of a list are the layout
-
-append-all : (z r : List Entry) → writeAll (λ e a. a ++ (e ∷ [])) z r ≡ z ++ r
-append-all z [] = sym (append-nil z)
-append-all z (e ∷ r) = append-all (z ++ (e ∷ [])) r ∙ append-assoc z (e ∷ []) r
-
-pub layout-converted : (t : Wide) → convertTree (λ e a. a ++ (e ∷ [])) t [] .written ≡ layout t
-layout-converted t = ap (λ (x : State (List Entry)). x .written) (converted (λ e a. a ++ (e ∷ [])) t []) ∙ append-all [] (layout t)
-
--- ---- and the positions of their leaf children, put at the end of a list, are the index list
-
-written-append : (a b : List Entry) → writtenPositions (a ++ b) ≡ writtenPositions a ++ writtenPositions b
-written-append [] b = refl
-written-append (e ∷ a) b = rw (written-append a b, append-assoc)
-
-pub written-below : {w : ℕ} (s : Slots w) (l p k i c q : ℕ) → writtenPositions (entries s l p k i c q) ≡ positionsBelow s
-written-below end l p k i c q = refl
-written-below (empty s) l p k i c q = written-below s l p (k + 1) i c q
-written-below (leaf b ps s) l p k i c q = written-below s l p (k + 1) i c q
-written-below (inner b t s) l p k i c q =
-    simp (
-      written-append,
-      written-below t (l + 1) i 0 c (c + innerChildren t) (q + ownCount t),
-      written-below s l p (k + 1) (i + 1) (c + (innerChildren t + nodesBelow t)) (q + (ownCount t + countBelow t)),
-      append-assoc,
-    )
-
-pub written-layout : (t : Wide) → writtenPositions (layout t) ≡ indexList t
-written-layout t = ap (λ (l : List ℕ). ownPositions (t .slots) ++ l) (written-below (t .slots) 1 0 0 1 (1 + innerChildren (t .slots)) (0 + ownCount (t .slots)))
-
-positions-all : (z : List ℕ) (r : List Entry) → writeAll (λ e a. a ++ ownPositions (e .slots)) z r ≡ z ++ writtenPositions r
-positions-all z [] = sym (append-nil z)
-positions-all z (e ∷ r) = positions-all (z ++ ownPositions (e .slots)) r ∙ append-assoc z (ownPositions (e .slots)) (writtenPositions r)
-
-pub index-converted : (t : Wide) → convertTree (λ e a. a ++ ownPositions (e .slots)) t [] .written ≡ indexList t
-index-converted t =
-    ap (λ (x : State (List ℕ)). x .written) (converted (λ e a. a ++ ownPositions (e .slots)) t [])
-    ∙ positions-all [] (layout t)
-    ∙ written-layout t

@@ -33,10 +33,6 @@ pub each-both : (P Q : Entry → Type 0) (r : List Entry) → Each P r → Each 
 each-both P Q [] h k = tt
 each-both P Q (e ∷ r) h k = ((h .0, k .0), each-both P Q r (h .1) (k .1))
 
-pub each-all : (P : Entry → Type 0) (r : List Entry) → ((e : Entry) → P e) → Each P r
-each-all P [] f = tt
-each-all P (e ∷ r) f = (f e, each-all P r f)
-
 -- ---- by number
 
 -- a number that is counted is some node's
@@ -51,10 +47,6 @@ find P (e ∷ r) v h k = go (ℕ-discrete v (e .number)) (find P r v)
 
 pub find-node : (P : Entry → Type 0) (t : Wide) (v : ℕ) → v < nodes t → Each P (layout t) → (e : Entry) × (e .number ≡ v) × P e
 find-node P t v h k = find P (layout t) v (omega (arith, number-below t v h)) k
-
--- what holds of every node's number holds of every number
-pub by-number : (P : ℕ → Type 0) (t : Wide) → Each (λ e. P (e .number)) (layout t) → (v : ℕ) → v < nodes t → P v
-by-number P t k v h = let r = find-node (λ e. P (e .number)) t v h k in subst P (r .1) (r .2)
 
 -- no node's number is v
 pub none-numbered : (r : List Entry) (v : ℕ) → count v (numbers r) ≡ 0 → Each (λ e. ¬ (e .number ≡ v)) r

@@ -1,18 +1,13 @@
 -- The deepest level of a layout's nodes is the wide tree's level.
-use mathlib.Core.Bool.{false}
-use mathlib.Core.Logic.{_↔_}
 use mathlib.Core.List.{List}
-use mathlib.Core.Path.{_≡_, ap}
-use Prim.Native.Nat.{ℕ, zero, suc, _+_, _<_, _≤_, max}
+use mathlib.Core.Path.{_≡_}
+use Prim.Native.Nat.{ℕ, suc, _+_, _<_, _≤_, max}
 use native.Mathlib.Decide.{decLt}
 use native.Mathlib.Omega.{arith}
-use Rattle.lists.proofs.Tells.{Tells, passes, fails, denied, tells-false, tells-as, and-tells}
 use Rattle.wide.specs.Wide.{Slots, end, empty, leaf, inner, Wide}
 use Rattle.wide.specs.Sizes.{innerChildren, nodesBelow, levelsBelow, ownCount, countBelow}
-use Rattle.wide.specs.Layout.{Entry, entry, entries, layout, Each, nodes, indexCount, level, levelsWithin}
-use Rattle.wide.specs.Shape.{Inside, nodeAt}
-use Rattle.wide.proofs.Each.{each-append, each-map, each-both, each-left, each-right, node-each, node-has}
-use Rattle.wide.proofs.Placed.{inside}
+use Rattle.wide.specs.Layout.{Entry, entry, entries, layout, Each, level}
+use Rattle.wide.proofs.Each.{each-append, each-map, each-left, each-right}
 
 -- no node is deeper
 levels-below : {w : ℕ} (s : Slots w) (l p k i c q d : ℕ) → l + levelsBelow s ≤ d → Each (λ e. e .level < d) (entries s l p k i c q)
@@ -65,39 +60,3 @@ level-some P t a = go (decLt 0 (level t))
         let r = deepest-below P (t .slots) 1 0 0 1 (1 + innerChildren (t .slots)) (0 + ownCount (t .slots)) h (a .1) in
         (r .0, omega (arith, r .1), r .2)
     go (no h) = (entry (t .box) (t .slots) 0 0 0 0 1 0, omega arith, a .0)
-
--- ---- the test
-
-levels-tell : {w : ℕ} (s : Slots w) (d : ℕ) → Tells (levelsBelow s ≤ d) (levelsWithin s d)
-unfolding levelsWithin
-levels-tell end d = passes (omega arith)
-levels-tell (empty s) d = levels-tell s d
-levels-tell (leaf b ps s) d = levels-tell s d
-levels-tell (inner b t s) zero = fails (λ h. omega arith)
-levels-tell (inner b t s) (suc d) = tells-as (and-tells (levels-tell t d) (levels-tell s (suc d))) (λ h. omega (arith, h .0, h .1)) (λ h. (omega arith, omega arith))
-
--- the test tells whether the wide tree's level is at most d,
-pub test-level : (t : Wide) (d : ℕ) → Tells (level t ≤ d) (levelsWithin (t .slots) d)
-test-level t d = levels-tell (t .slots) d
-
--- that is whether no node of the layout has a level over d;
-pub test-all : (t : Wide) (d : ℕ) → Tells (Each (λ e. e .level ≤ d) (layout t)) (levelsWithin (t .slots) d)
-test-all t d =
-    tells-as (test-level t d)
-    (λ h. each-map (λ e. e .level ≤ level t) (λ e. e .level ≤ d) (layout t) (λ e k. omega arith) (level-most t))
-    (λ h. let r = level-some (λ e. e .level ≤ d) t h in omega (arith, r .1, r .2))
-
--- it fails exactly if some node has one
-pub test-fails : (t : Wide) (d : ℕ) → levelsWithin (t .slots) d ≡ false ↔ ((v : ℕ) × (v < nodes t) × (d < nodeAt t v .level))
-test-fails t d = (to, from)
-  where
-    to : levelsWithin (t .slots) d ≡ false → (v : ℕ) × (v < nodes t) × (d < nodeAt t v .level)
-    to h =
-        let k = denied (test-level t d) h in
-        let r = level-some (λ e. (nodeAt t (e .number) ≡ e) × Inside (nodes t) (indexCount t) e) t
-        (each-both (λ e. nodeAt t (e .number) ≡ e) (Inside (nodes t) (indexCount t)) (layout t) (node-each t) (inside t)) in
-        let e = ap (λ (x : Entry). x .level) (r .2 .0) in
-        (r .0 .number, r .2 .1 .number, omega (arith, k, e, r .1))
-
-    from : (v : ℕ) × (v < nodes t) × (d < nodeAt t v .level) → levelsWithin (t .slots) d ≡ false
-    from (v, l, k) = tells-false (test-level t d) (λ h. omega (arith, node-has (λ x. x .level ≤ level t) t (level-most t) v l))

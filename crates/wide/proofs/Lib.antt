@@ -9,6 +9,5 @@ pub mod Levels
 pub mod Links
 pub mod Shape
 pub mod Held
-pub mod Demands
 pub mod Example
 pub mod Written

@@ -1,13 +1,12 @@
 -- The numbers of a layout's nodes are 0, 1, .., m − 1, each once.
-use mathlib.Core.List.{List, [], _∷_, _++_, Perm}
-use mathlib.Core.Path.{_≡_, refl, sym, _∙_}
+use mathlib.Core.List.{List, [], _∷_, _++_}
+use mathlib.Core.Path.{_≡_, refl, _∙_}
 use Prim.Native.Nat.{ℕ, suc, _+_, _≤_, _<_}
 use native.Mathlib.Omega.{arith}
-use Rattle.lists.specs.Counts.{count, upto}
+use Rattle.lists.specs.Counts.{count}
 use Rattle.lists.proofs.Counts.{count-append}
-use Rattle.lists.proofs.Perms.{counts-perm}
 use Rattle.soundness.specs.Range.{inRange}
-use Rattle.soundness.proofs.Range.{same-range, count-range, range-none, range-split, in-range, after-range}
+use Rattle.soundness.proofs.Range.{same-range, range-none, range-split, in-range, after-range}
 use Rattle.wide.specs.Wide.{Slots, end, empty, leaf, inner, Wide}
 use Rattle.wide.specs.Sizes.{innerChildren, nodesBelow, ownCount, countBelow}
 use Rattle.wide.specs.Layout.{Entry, entries, layout, numbers, nodes}
@@ -46,6 +45,3 @@ number-below t x h = numbers-once t x ∙ in-range x 0 (nodes t) (omega arith) (
 
 pub number-past : (t : Wide) (x : ℕ) → nodes t ≤ x → count x (numbers (layout t)) ≡ 0
 number-past t x h = numbers-once t x ∙ after-range x 0 (nodes t) (omega arith)
-
-pub numbers-rearranged : (t : Wide) → Perm (numbers (layout t)) (upto 0 (nodes t))
-numbers-rearranged t = counts-perm (numbers (layout t)) (upto 0 (nodes t)) .1 (λ x. numbers-once t x ∙ sym (count-range x 0 (nodes t)))

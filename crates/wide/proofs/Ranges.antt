@@ -1,16 +1,15 @@
 -- In the order written, the child ranges are 1, 2, .., m − 1 and the leaf ranges 0, 1, .., n − 1.
 use mathlib.Core.List.{List, [], _∷_, _++_, append-assoc}
 use mathlib.Core.Path.{_≡_, refl, ap, _∙_}
-use Prim.Native.Nat.{ℕ, _+_, _<_, _≤_}
-use native.Mathlib.Omega.{arith}
+use Prim.Native.Nat.{ℕ, _+_}
 use lib.ListN.{length}
 use Rattle.lists.specs.Counts.{count, upto}
 use Rattle.lists.proofs.Counts.{upto-append}
 use Rattle.soundness.specs.Range.{inRange}
-use Rattle.soundness.proofs.Range.{count-range, in-range, before-range, after-range}
+use Rattle.soundness.proofs.Range.{count-range}
 use Rattle.wide.specs.Wide.{Slots, end, empty, leaf, inner, Wide}
 use Rattle.wide.specs.Sizes.{innerChildren, nodesBelow, ownCount, countBelow}
-use Rattle.wide.specs.Layout.{Entry, entries, layout, nodes, indexCount}
+use Rattle.wide.specs.Layout.{Entry, entries, layout, indexCount}
 use Rattle.wide.specs.Ranges.{slotRanges, childRanges, leafRanges}
 
 child-append : (a b : List Entry) → childRanges (a ++ b) ≡ childRanges a ++ childRanges b
@@ -72,21 +71,6 @@ leaf-ranges t = simp (slot-ranges (t .slots) 0, leaf-ranges-below, upto-append)
 pub child-count : (t : Wide) (v : ℕ) → count v (childRanges (layout t)) ≡ inRange v 1 (innerChildren (t .slots) + nodesBelow (t .slots))
 child-count t v = ap (λ (l : List ℕ). count v l) (child-ranges t) ∙ count-range v 1 (innerChildren (t .slots) + nodesBelow (t .slots))
 
-pub other-once : (t : Wide) (v : ℕ) → 0 < v → v < nodes t → count v (childRanges (layout t)) ≡ 1
-other-once t v h k = child-count t v ∙ in-range v 1 (innerChildren (t .slots) + nodesBelow (t .slots)) h k
-
-pub first-never : (t : Wide) → count 0 (childRanges (layout t)) ≡ 0
-first-never t = child-count t 0 ∙ before-range 0 1 (innerChildren (t .slots) + nodesBelow (t .slots)) (omega arith)
-
-pub no-other-node : (t : Wide) (v : ℕ) → nodes t ≤ v → count v (childRanges (layout t)) ≡ 0
-no-other-node t v h = child-count t v ∙ after-range v 1 (innerChildren (t .slots) + nodesBelow (t .slots)) h
-
 -- every place of the index list stands in one leaf range, and no range holds another number
 pub leaf-count : (t : Wide) (x : ℕ) → count x (leafRanges (layout t)) ≡ inRange x 0 (indexCount t)
 leaf-count t x = ap (λ (l : List ℕ). count x l) (leaf-ranges t) ∙ count-range x 0 (indexCount t)
-
-pub position-once : (t : Wide) (x : ℕ) → x < indexCount t → count x (leafRanges (layout t)) ≡ 1
-position-once t x h = leaf-count t x ∙ in-range x 0 (indexCount t) (omega arith) (omega arith)
-
-pub no-other-position : (t : Wide) (x : ℕ) → indexCount t ≤ x → count x (leafRanges (layout t)) ≡ 0
-no-other-position t x h = leaf-count t x ∙ after-range x 0 (indexCount t) (omega arith)

@@ -12,19 +12,19 @@ use Rattle.lists.specs.Sums.{sum, sumOver}
 use Rattle.lists.proofs.Counts.{count-append}
 use Rattle.lists.proofs.Sums.{sum-cong, sum-front, sum-renumbered}
 use Rattle.soundness.specs.Range.{inRange}
-use Rattle.soundness.specs.Shape.{Shape, Child, parents, held, holders, Level, Placed}
-use Rattle.soundness.specs.Sound.{Sound, Deepest}
+use Rattle.soundness.specs.Shape.{Shape, Child, parents, held, holders, Level}
+use Rattle.soundness.specs.Sound.{Sound, Deepest, OneLevel}
 use Rattle.soundness.proofs.Range.{in-range, before-range, range-most, range-none, range-split, count-range}
 use Rattle.soundness.proofs.Once.{one-level}
 use Rattle.wide.specs.Wide.{Slots, end, empty, leaf, inner, Wide}
 use Rattle.wide.specs.Sizes.{innerChildren, nodesBelow, ownCount, ownBefore, ownAt, countBelow}
 use Rattle.wide.specs.Layout.{Entry, entry, entries, layout, numbers, Each, nodes, indexCount, level}
 use Rattle.wide.specs.Ranges.{childRange, slotRanges, childRanges, leafRanges}
-use Rattle.wide.specs.Shape.{Inside, ReadsNode, Reads, shapeOf, nodeAt}
-use Rattle.wide.proofs.Sizes.{own-inside, rank-below}
+use Rattle.wide.specs.Shape.{Inside, ReadsNode, Reads, nodeAt}
+use Rattle.wide.proofs.Sizes.{rank-below}
 use Rattle.wide.proofs.Ranges.{slot-ranges, child-count, leaf-count}
 use Rattle.wide.proofs.Numbers.{number-below, number-past}
-use Rattle.wide.proofs.Each.{each-append, each-left, each-right, each-map, each-both, find-node, by-number, node-each, node-number, node-has}
+use Rattle.wide.proofs.Each.{each-append, each-left, each-right, each-map, each-both, find-node, node-each, node-number, node-has}
 use Rattle.wide.proofs.Links.{node-linked}
 use Rattle.wide.proofs.Placed.{inside}
 use Rattle.wide.proofs.Levels.{level-most, level-some}
@@ -136,25 +136,6 @@ module _ (S : Shape) where
         let r = each-both (ReadsNode S) (λ e. e .number < S .nodes) (layout t) (h .each) (each-map (Inside (nodes t) (indexCount t)) (λ e. e .number < S .nodes) (layout t) (λ e k. omega (arith, k .number)) (inside t)) in
         (refl, levels-below (t .slots) 0 1 0 0 1 (1 + innerChildren (t .slots)) (0 + ownCount (t .slots)) refl refl (child-of (entry (t .box) (t .slots) 0 0 0 0 1 0) (r .0 .0) (r .0 .1)) (r .1))
 
-    -- children come later and exist, positions exist
-    pub reads-placed : (i : ℕ) → i < S .nodes → Placed S i
-    reads-placed i l =
-        by-number (λ v. Placed S v) t
-        (each-map (λ e. ReadsNode S e × Inside (nodes t) (indexCount t) e) (λ e. Placed S (e .number)) (layout t) (λ e k. placed e (k .0) (k .1)) (each-both (ReadsNode S) (Inside (nodes t) (indexCount t)) (layout t) (h .each) (inside t)))
-        i (subst (λ (m : ℕ). i < m) (h .nodes) l)
-      where
-        placed : (e : Entry) → ReadsNode S e → Inside (nodes t) (indexCount t) e → Placed S (e .number)
-        placed e r k =
-            let m = h .nodes in
-            let n = h .positions in
-            let b = r .base in
-            let c = r .children in
-            record {
-              later = λ z. omega (arith, k .later);
-              exist = λ z. omega (arith, k .nodes);
-              inside = λ s l z. let u = r .count s l in let v = r .start s l (omega arith) in omega (arith, k .positions, own-inside (e .slots) s);
-            }
-
     reads-first : parents S (S .nodes) 0 ≡ 0
     reads-first = reads-parents 0 ∙ before-range 0 1 (innerChildren (t .slots) + nodesBelow (t .slots)) (omega arith)
 
@@ -162,14 +143,21 @@ module _ (S : Shape) where
     reads-others v z l = reads-parents v ∙ in-range v 1 (innerChildren (t .slots) + nodesBelow (t .slots)) z (omega (arith, h .nodes))
 
     -- a node has the level of its entry and no other
-    pub reads-level : (v l : ℕ) → v < S .nodes → Level S l v → l ≤ level t
-    reads-level v l b a =
-        let r = find-node (λ e. Level S (e .level) (e .number) × (e .level ≤ level t)) t v (omega (arith, h .nodes)) (each-both (λ e. Level S (e .level) (e .number)) (λ e. e .level ≤ level t) (layout t) reads-levels (level-most t)) in
-        let e = one-level S reads-first most l (r .0 .level) v b a (subst (λ (x : ℕ). Level S (r .0 .level) x) (r .1) (r .2 .0)) in
-        omega (arith, r .2 .1)
+    reads-entry-level : (v : ℕ) → v < S .nodes → (o : OneLevel S v) × (o .level ≤ level t)
+    reads-entry-level v b =
+        let k = each-both (λ e. Level S (e .level) (e .number)) (λ e. e .level ≤ level t) (layout t) reads-levels (level-most t) in
+        let r = find-node (λ e. Level S (e .level) (e .number) × (e .level ≤ level t)) t v (omega (arith, h .nodes)) k in
+        let a : Level S (r .0 .level) v = subst (λ (x : ℕ). Level S (r .0 .level) x) (r .1) (r .2 .0) in
+        (record { level = r .0 .level; has = a; only = λ l c. one-level S reads-first most l (r .0 .level) v b c a }, r .2 .1)
       where
         most : (u : ℕ) → u < S .nodes → parents S (S .nodes) u ≤ 1
         most u k = omega (arith, reads-parents u, range-most u 1 (innerChildren (t .slots) + nodesBelow (t .slots)))
+
+    pub reads-one-level : (v : ℕ) → v < S .nodes → OneLevel S v
+    reads-one-level v b = reads-entry-level v b .0
+
+    pub reads-level : (v l : ℕ) → v < S .nodes → Level S l v → l ≤ level t
+    reads-level v l b a = let r = reads-entry-level v b in omega (arith, r .0 .only l a, r .1)
 
     -- A record with the layout's shape is sound if its nodes meet the rule and the wide tree's level is at most 31,
     pub reads-sound : (Rule : ℕ → Type 0) → ((i : ℕ) → i < S .nodes → Rule i) → level t ≤ 31 → Sound S Rule
@@ -208,7 +196,7 @@ module _ (S : Shape) where
           before = omega (arith, k .number, rank-below (nodeAt t p .slots) (nodeAt t v .slot) (k .inner));
         }
 
--- ---- a shape read by number, and the layout's own
+-- ---- a shape read by number
 
 pub reads-by-number : (S : Shape) (t : Wide) → S .nodes ≡ nodes t → S .positions ≡ indexCount t → ((v : ℕ) → v < nodes t → ReadsNode S (nodeAt t v)) → Reads S t
 reads-by-number S t m n h = record {
@@ -217,19 +205,3 @@ reads-by-number S t m n h = record {
   each = each-map (λ e. (nodeAt t (e .number) ≡ e) × Inside (nodes t) (indexCount t) e) (ReadsNode S) (layout t) (λ e k. subst (ReadsNode S) (k .0) (h (e .number) (k .1 .number)))
       (each-both (λ e. nodeAt t (e .number) ≡ e) (Inside (nodes t) (indexCount t)) (layout t) (node-each t) (inside t));
 }
-
-pub shape-reads : (t : Wide) → Reads (shapeOf t) t
-unfolding shapeOf
-shape-reads t = reads-by-number (shapeOf t) t refl refl (λ v h. reads v (ap (nodeAt t) (node-number t v h)))
-  where
-    reads : (v : ℕ) → nodeAt t (nodeAt t v .number) ≡ nodeAt t v → ReadsNode (shapeOf t) (nodeAt t v)
-    reads v k = record {
-      base = ap (λ (x : Entry). x .childBase) k;
-      children = ap (λ (x : Entry). innerChildren (x .slots)) k;
-      count = λ s l. ap (λ (x : Entry). ownAt (x .slots) s) k;
-      start = λ s l p. ap (λ (x : Entry). x .positionBase + ownBefore (x .slots) s) k;
-    }
-
--- the layout of a wide tree of level at most 31 is sound, with that level as its deepest
-pub layout-sound : (t : Wide) → level t ≤ 31 → Sound (shapeOf t) (Placed (shapeOf t)) × Deepest (shapeOf t) (level t)
-layout-sound t h = (reads-sound (shapeOf t) t (shape-reads t) (Placed (shapeOf t)) (reads-placed (shapeOf t) t (shape-reads t)) h, reads-deepest (shapeOf t) t (shape-reads t))

@@ -13,12 +13,6 @@ use Rattle.wide.specs.Layout.{nodes, indexList, indexCount}
 
 -- ---- children
 
-pub children-most : {w : ℕ} (s : Slots w) → children s ≤ w
-children-most end = omega arith
-children-most (empty s) = omega (arith, children-most s)
-children-most (leaf b ps s) = omega (arith, children-most s)
-children-most (inner b t s) = omega (arith, children-most s)
-
 pub inner-most : {w : ℕ} (s : Slots w) → innerChildren s ≤ children s
 inner-most end = omega arith
 inner-most (empty s) = inner-most s

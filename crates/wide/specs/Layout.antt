@@ -1,8 +1,7 @@
 -- The layout of a wide tree in a record (01, "Corners of each file", bvh2_to_cwbvh.rs): which node stands where, and from where its children
 -- and its positions are counted.
-use mathlib.Core.Bool.{Bool, true, false, _&&_}
 use mathlib.Core.List.{List, [], _∷_, _++_, map}
-use Prim.Native.Nat.{ℕ, zero, suc, _+_}
+use Prim.Native.Nat.{ℕ, _+_}
 use lib.ListN.{getD}
 use Rattle.aabb.specs.declared.Aabb.{Aabb}
 use Rattle.wide.specs.Wide.{Slots, end, empty, leaf, inner, Wide}
@@ -48,11 +47,6 @@ abbrev pub numbers : List Entry → List ℕ
 numbers [] = []
 numbers (e ∷ r) = e .number ∷ numbers r
 
--- the positions that nodes write, in that order
-abbrev pub writtenPositions : List Entry → List ℕ
-writtenPositions [] = []
-writtenPositions (e ∷ r) = ownPositions (e .slots) ++ writtenPositions r
-
 -- every one of them has the property
 abbrev pub Each : (Entry → Type 0) → List Entry → Type 0
 Each P [] = Unit {0}
@@ -76,11 +70,3 @@ wordsAt indices ps = map (λ p. getD indices p 0) ps
 -- the deepest level
 abbrev pub level : Wide → ℕ
 level t = levelsBelow (t .slots)
-
--- the test that no node lies more than d levels below the node of these slots
-unfoldable pub levelsWithin : {w : ℕ} → Slots w → ℕ → Bool
-levelsWithin end d = true
-levelsWithin (empty s) d = levelsWithin s d
-levelsWithin (leaf b ps s) d = levelsWithin s d
-levelsWithin (inner b t s) zero = false
-levelsWithin (inner b t s) (suc d) = levelsWithin t d && levelsWithin s (suc d)

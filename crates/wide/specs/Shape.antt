@@ -18,18 +18,6 @@ numbered (e ∷ r) d v = elim (eqb (e .number) v) [ true ↦ e | false ↦ numbe
 unfoldable pub nodeAt : Wide → ℕ → Entry
 nodeAt t v = numbered (layout t) (entry (t .box) (t .slots) 0 0 0 0 1 0) v
 
--- its child ranges and leaf ranges
-unfoldable pub shapeOf : Wide → Shape
-unfolding nodeAt
-shapeOf t = record {
-  nodes = nodes t;
-  positions = indexCount t;
-  base = λ v. nodeAt t v .childBase;
-  children = λ v. innerChildren (nodeAt t v .slots);
-  start = λ v s. nodeAt t v .positionBase + ownBefore (nodeAt t v .slots) s;
-  count = λ v s. ownAt (nodeAt t v .slots) s;
-}
-
 -- A node among m nodes and n positions: its number is one of theirs, its children come later, and its ranges end with them.
 pub record Inside (m n : ℕ) (e : Entry) : Type 0 where
   pub number : e .number < m

@@ -4,4 +4,3 @@ pub mod WideTree
 pub mod Positions
 pub mod Boxes
 pub mod Ordered
-pub mod Samples
