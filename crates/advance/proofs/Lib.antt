@@ -1,4 +1,5 @@
-pub mod Parts
-pub mod Reports
+pub mod Groups
 pub mod Visits
-pub mod Advances
+pub mod Dues
+pub mod Seeks
+pub mod Shows

@@ -1,73 +1,116 @@
--- What a step's core says of the walker whose numbers it takes (01, "Walking").
+-- What the core of a walk says of the walker whose numbers it takes (01, "Walking").
 use mathlib.Core.Bool.{Bool, not, _&&_, _||_, cond}
 use mathlib.Core.List.{List}
 use mathlib.Core.Path.{_≡_}
-use Prim.Native.Nat.{ℕ, suc, _+_, _*_, _^_, _%_, _≤_, _<_}
-use lib.Dec.{leb}
+use Prim.Native.Nat.{ℕ, zero, suc, _+_, _*_, _/_, _%_, _≤_, _<_}
+use lib.Dec.{eqb, leb, ltb}
 use lib.ListN.{length}
 use Rattle.ray.specs.declared.Ray.{Ray}
-use Rattle.faststack.specs.Stack.{capacity, hasRoom, pushed}
-use Rattle.node.specs.Node.{nodeAt}
-use Rattle.rule.specs.Rule.{nodeRule}
+use Rattle.faststack.specs.Stack.{capacity, hasRoom, pushed, topOf}
+use Rattle.slot.specs.declared.Ends.{Ends}
+use Rattle.slot.specs.Parts.{endsOf}
+use Rattle.node_test.specs.declared.Tested.{Tested}
 use Rattle.record_shape.specs.Record.{nodeCount}
 use Rattle.walk.specs.Step as S
 use Rattle.walk.specs.Words as W
-use Rattle.walk.specs.WordStep.{WalkerWords, SteppedWords, stayWords}
+use Rattle.walk.specs.WordStep.{WalkerWords, SteppedWords, isTest, noGroup}
 use Rattle.walk_record.specs.Beam.{Beam}
 use Rattle.advance.specs.declared.Group.{Group}
+use Rattle.advance.specs.declared.Walk.{Walk}
 use Rattle.advance.specs.declared.Turn.{Turn}
+use Rattle.advance.specs.declared.Due.{Due}
 use Rattle.advance.specs.declared.Answer.{Answer}
-use Rattle.advance.specs.declared.Answer.the-variants.{Tested, Position, Done, Refused}
+use Rattle.advance.specs.declared.Answer.the-variants.{Tested as TestedNode, Position, Done, Refused}
 
 abbrev pub groupOf : Group → W.Group
 groupOf g = record { base = g .base; bits = g .bits }
 
 -- an answer in the requirements' terms: a node tested, a position reported, done, or refused with the number of a cause
 unfoldable pub answerOf : Answer → S.Answer
-answerOf (Tested v) = S.tested v
+answerOf (TestedNode v) = S.tested v
 answerOf (Position p) = S.position p
 answerOf Done = S.done
 answerOf (Refused k) = S.refused k
 
--- the walker of a ray with its octant and further words
-abbrev pub holding : Ray → ℕ → ℕ → W.Group → W.Group → ℕ → List ℕ → WalkerWords Beam
-holding ray octant tests positions current depth stack =
-    record { ray = record { ray = ray; octant = octant }; tests = tests; positions = positions; current = current; depth = depth; stack = stack }
+-- only the first node is in hand
+abbrev pub begun : Walk
+begun = record { tests = 0; positions = record { base = 0; bits = 0 }; current = record { base = 0; bits = 0x8000_0000 }; depth = 0 }
 
--- the walker after a turn, `stack` being its stack then: a report leaves all but the positions, and an end or a refusal leaves all
-unfoldable pub turned : WalkerWords Beam → Answer → W.Group → W.Group → ℕ → List ℕ → SteppedWords Beam
-turned w (Tested v) positions current depth stack =
-    record { walker = record { ray = w .ray; tests = suc (w .tests); positions = positions; current = current; depth = depth; stack = stack }; answer = S.tested v }
-turned w (Position p) positions current depth stack =
-    record { walker = record { ray = w .ray; tests = w .tests; positions = positions; current = w .current; depth = w .depth; stack = stack }; answer = S.position p }
-turned w Done positions current depth stack = stayWords w S.done
-turned w (Refused k) positions current depth stack = stayWords w (S.refused k)
+-- the walker of a ray with its octant, a walk and a stack
+abbrev pub walkerOf : Ray → ℕ → Walk → List ℕ → WalkerWords Beam
+walkerOf ray octant v stack =
+    record {
+      ray = record { ray = ray; octant = octant };
+      tests = v .tests;
+      positions = groupOf (v .positions);
+      current = groupOf (v .current);
+      depth = v .depth;
+      stack = stack;
+    }
 
-abbrev pub turnedBy : WalkerWords Beam → Turn → List ℕ → SteppedWords Beam
-turnedBy w t stack = turned w (t .answer) (groupOf (t .positions)) (groupOf (t .current)) (t .depth) stack
+-- the walker after a turn, and the turn's answer
+abbrev pub turned : Ray → ℕ → Turn → List ℕ → SteppedWords Beam
+turned ray octant t stack = record { walker = walkerOf ray octant (t .walk) stack; answer = answerOf (t .answer) }
 
--- what the core asks: a record of whole nodes within the bounds, an octant, and a stack
-pub record Walkable (bytes : List ℕ) (n octant depth room : ℕ) : Type 0 where
+-- what the core asks: a record of whole nodes within the bounds, the ends that the ray meets first, an octant, and a stack
+pub record Walkable (bytes : List ℕ) (n : ℕ) (ray : Ray) (e : Ends) (octant depth room : ℕ) : Type 0 where
   pub whole : length bytes % 80 ≡ 0
   pub nodes : nodeCount bytes ≤ 65535
   pub positions : n ≤ 65536
+  pub ends : e ≡ endsOf (ray .direction)
   pub eight : octant < 8
   pub deep : depth ≤ capacity
   pub stack : capacity ≤ room
 
--- ---- parts of a test
+-- ---- what is due
+
+-- the group whose first child is due, and how many groups wait below it; a group without children where none is
+pub record DueGroup : Type 0 where
+  pub group : W.Group
+  pub depth : ℕ
+
+abbrev pub dueIn : Due → DueGroup
+dueIn g = record { group = groupOf (g .group); depth = g .depth }
+
+-- the last of so many groups that wait
+abbrev pub popped : List ℕ → ℕ → DueGroup
+popped stack zero = record { group = noGroup; depth = 0 }
+popped stack (suc d) = record { group = W.unpacked (topOf stack (suc d)); depth = d }
+
+-- the group in hand, or the last that waits and holds a child
+unfoldable pub dueGroup : W.Group → List ℕ → ℕ → DueGroup
+dueGroup g stack depth = cond (W.hasChild g) (record { group = g; depth = depth }) (popped stack (W.waitingDepth stack depth))
+
+-- ---- the test of a node, and what follows it
 
 -- what is left of a group holds a child and would be the 33rd to wait
 abbrev pub lacksRoom : ℕ → ℕ → Bool
 lacksRoom depth bits = leb 0x100_0000 bits && not (hasRoom depth)
 
+-- node c does not exist, or all tests were made
+unfoldable pub isPast : (c tests m : ℕ) → Bool
+isPast c tests m = leb m c || leb m tests
+
 -- how many groups wait once what is left of a group does, if it holds a child, and their words
 abbrev pub waits : ℕ → ℕ → ℕ
 waits depth bits = cond (leb 0x100_0000 bits) (suc depth) depth
 
-abbrev pub stacked : List ℕ → ℕ → ℕ → ℕ → List ℕ
-stacked stack depth base bits = cond (leb 0x100_0000 bits) (pushed stack depth (bits * 2 ^ 32 + base)) stack
+abbrev pub stacked : List ℕ → ℕ → W.Group → List ℕ
+stacked stack depth rest = cond (W.hasChild rest) (pushed stack depth (W.packed rest)) stack
 
--- node c may not be tested: it does not exist, all tests were made, or it breaks the rule
-unfoldable pub isBad : List ℕ → (n c tests : ℕ) → Bool
-isBad bytes n c tests = leb (nodeCount bytes) c || leb (nodeCount bytes) tests || not (nodeRule (nodeAt bytes c) (nodeCount bytes) n c)
+-- the low 24 bits of a mask are positions; its top byte is laid over imask
+unfoldable pub followed : ℕ → Tested → ℕ → Walk
+followed tests t depth =
+    record {
+      tests = tests + 1;
+      positions = record { base = t .«primitive_base_idx»; bits = t .mask % 0x100_0000 };
+      current = record { base = t .«child_base_idx»; bits = t .mask / 0x100_0000 * 0x100_0000 + t .imask };
+      depth = depth;
+    }
+
+-- ---- on to the next position
+
+-- a node was tested of which no position is passed, and tests are left
+unfoldable pub goesOn : Turn → ℕ → Bool
+unfolding answerOf
+goesOn t left = isTest (answerOf (t .answer)) && eqb (t .walk .positions .bits) 0 && ltb 0 left

@@ -1,3 +1,5 @@
+pub mod Written
+pub mod Few
 pub mod Walks
 pub mod Copies
 pub mod Answers

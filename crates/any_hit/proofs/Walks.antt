@@ -1,138 +1,143 @@
--- A walk by turns that notes positions: what holds whenever its loop comes round, from the first turn to the last.
+-- A walk that notes positions: what holds whenever its loops come round, from node to node and from position to position, and how it ends.
 use mathlib.Core.Bool.{false}
 use mathlib.Core.List.{List, [], _∷_, _++_}
-use mathlib.Core.Path.{_≡_, refl, sym, ap, _∙_}
-use Prim.Native.Nat.{ℕ, _+_, _*_, _≤_, _<_}
-use native.Mathlib.Nat.{zero-add}
-use native.Mathlib.Decide.{decLt}
+use mathlib.Core.Logic.{⊎-elim}
+use mathlib.Core.Path.{_≡_, refl, sym, ap, subst, _∙_}
+use Prim.Native.Nat.{ℕ, _+_, _≤_, _<_}
 use native.Mathlib.Omega.{arith}
-use lib.ListN.{length, take, set, replicate, length-append, length-take}
-use lib.Seq.{take-all, take-nil, take-append-le, set-out}
+use denote.Enum.Declared.{tagOf}
+use types.Run.{OneOf}
+use lib.ListN.{length, take, set, replicate, length-append}
+use lib.Seq.{take-all, take-nil}
 use Rattle.lists.specs.Splice.{splice}
-use Rattle.lists.proofs.Splice.{splice-none, set-splice, written-next, length-splice}
+use Rattle.lists.proofs.Splice.{splice-none}
 use Rattle.words.specs.Fields.{field}
 use Rattle.words.specs.Ones.{onesBelow}
 use Rattle.faststack.specs.Stack.{capacity}
 use Rattle.ray.specs.declared.Ray.{Ray}
 use Rattle.ray.specs.Ray.{octantOf}
 use Rattle.record_shape.specs.Record.{nodeCount}
+use Rattle.walk.specs.Step as S
 use Rattle.walk.specs.Queries.{append}
-use Rattle.walk.specs.WordStep.{WalkerWords, advanceWords}
+use Rattle.walk.specs.Words as W
+use Rattle.walk.specs.WordStep.{WalkerWords, SteppedWords, seekWords}
 use Rattle.walk.specs.WordQueries.{OutcomeWords}
 use Rattle.walk.proofs.WordEnds.{stepsLeftWords}
 use Rattle.walk_record.specs.Beam.{Beam, beamOf, forgedBeam, beams}
 use Rattle.walk_record.specs.Record.{FieldsFit, nodeWordsAt}
 use Rattle.walk_record.specs.Walk.{anyHitAt}
-use Rattle.advance.specs.declared.Turn.{Turn}
-use Rattle.advance.specs.declared.Answer.the-variants.{Tested, Position, Done, Refused}
-use Rattle.advance.specs.Turn.{turnedBy}
-use Rattle.query.specs.declared.Walk.{Walk}
-use Rattle.query.specs.Walk.{walkerOf, begun, afterTest, afterReport, Sized}
-use Rattle.query.proofs.Begins.{leads-begun}
-use Rattle.query.proofs.Leads.{Leads, Turning, turn-tested, turn-noted, turn-done, turn-refused}
-use Rattle.any_hit.specs.AnyHit.{fitted, refused, walked, walkOf, metIn, metOf}
-use Rattle.any_hit.specs.AnyHit
-
--- ---- positions written as they are met
-
-module _ (before noted found : List ℕ) (e : found ≡ metIn before noted) where
-  -- no more is written than there is room for
-  pub met-length : length found ≡ length before
-  met-length = ap length e ∙ length-splice before 0 (take (length before) noted) (omega (arith, length-take (length before) noted))
-
-  -- the next one is written behind the others, if there is room
-  met-next : (count p : ℕ) → count ≡ length noted → set found count p ≡ metIn before (noted ++ (p ∷ []))
-  met-next count p c = go (decLt count (length found))
-    where
-      go : Dec (count < length found) → set found count p ≡ metIn before (noted ++ (p ∷ []))
-      go (yes h) =
-          let l = met-length in
-          let f : found ≡ splice before 0 noted = e ∙ ap (splice before 0) (take-all (length before) noted (omega arith)) in
-          let a : length (noted ++ (p ∷ [])) ≤ length before = omega (arith, length-append noted (p ∷ [])) in
-          written-next before 0 count 1 noted (p ∷ []) found (set found count p) (sym c) refl (omega arith) f (rw (zero-add count) (set-splice found count p h))
-          ∙ ap (splice before 0) (sym (take-all (length before) (noted ++ (p ∷ [])) a))
-      go (no h) =
-          let l = met-length in
-          set-out found count p (omega arith) ∙ e ∙ ap (splice before 0) (sym (take-append-le (length before) noted (p ∷ []) (omega arith)))
-
--- ---- the loop
-
--- So many positions are noted and written, and what is left of the query, run from here, is the whole query's outcome.
-pub record Walking (bytes : List ℕ) (n : ℕ) (b : Beam) (before : List ℕ) (w : WalkerWords Beam) (count : ℕ) (found : List ℕ) : Type 0 where
-  pub noted : List ℕ
-  pub leads : Leads bytes n append (anyHitAt bytes beams n b) w noted
-  pub counted : count ≡ length noted
-  pub most : count + stepsLeftWords (nodeCount bytes) w ≤ 25 * nodeCount bytes
-  pub met : found ≡ metIn before noted
+use Rattle.advance.specs.declared.Walk.{Walk}
+use Rattle.advance.specs.declared.Answer.{Answer}
+use Rattle.advance.specs.declared.Answer.the-variants as A
+use Rattle.advance.specs.Turn.{answerOf, walkerOf, begun}
+use Rattle.query.specs.Walk.{Sized}
+use Rattle.query.proofs.Begins.{steady, leads-begun}
+use Rattle.query.proofs.Leads.{Steady, Sought, leads-past, leads-on, seek-sought}
+use Rattle.any_hit.specs.declared.State.{State}
+use Rattle.any_hit.specs.declared.State.the-variants.{Done, Paused, Refused}
+use Rattle.any_hit.specs.Gather.{metIn, stateOf, outcome, Walking, Counted, Stands}
+use Rattle.any_hit.proofs.State.{the-type}
+use Rattle.any_hit.proofs.Written.{met-next, met-front, met-over, met-kept}
+use Rattle.any_hit.proofs.Few.{seek-few}
 
 pub walk-begins : (bytes : List ℕ) (n : ℕ) (ray : Ray) (before : List ℕ) → FieldsFit bytes → forgedBeam (beamOf ray) ≡ false → (octant : ℕ) → octant ≡ octantOf (ray .direction)
-    → Walking bytes n (beamOf ray) before (walkerOf ray octant begun (replicate capacity 0)) 0 before
+    → (v : Walk) → v ≡ begun → Walking bytes n ray (walkerOf ray octant v (replicate capacity 0)) 0 before before
 unfolding anyHitAt onesBelow field
-walk-begins bytes n ray before fit accepted octant e = record {
+walk-begins bytes n ray before fit accepted octant e v f = record {
   noted = [];
-  leads = leads-begun bytes n fit append [] ray accepted octant e begun refl;
+  leads = leads-begun bytes n fit append [] ray accepted octant e v f;
   counted = refl;
-  most = omega arith;
+  few = rw f (omega arith);
   met = sym (ap (splice before 0) (take-nil (length before)) ∙ splice-none before 0);
 }
 
--- a turn from walk v, with so many positions noted, gave t and a stack
-pub record Turns (bytes : List ℕ) (n : ℕ) (b : Beam) (before : List ℕ) (ray : Ray) (octant : ℕ) (v : Walk) (stack : List ℕ) (count : ℕ) (found : List ℕ) (t : Turn) (stack₁ : List ℕ) : Type 0 where
-  pub sized : Sized bytes n
-  pub fit : FieldsFit bytes
-  pub walking : Walking bytes n b before (walkerOf ray octant v stack) count found
-  pub turn : turnedBy (walkerOf ray octant v stack) t stack₁ ≡ advanceWords (nodeCount bytes) (nodeWordsAt bytes beams) n (walkerOf ray octant v stack)
+-- ---- the list that is written to
 
-module _ {bytes : List ℕ} {n : ℕ} {b : Beam} {before : List ℕ} {ray : Ray} {octant : ℕ} {v : Walk} {stack : List ℕ} {count : ℕ} {found : List ℕ} {t : Turn} {stack₁ : List ℕ}
-    (T : Turns bytes n b before ray octant v stack count found t stack₁) where
-  turning : Turning bytes n append (anyHitAt bytes beams n b) ray octant v stack (T .walking .noted) t stack₁
-  turning = record { sized = T .sized; fit = T .fit; leads = T .walking .leads; turn = T .turn }
+-- as it is, it may be written to,
+pub walk-kept : {bytes : List ℕ} {n : ℕ} {ray : Ray} {w : WalkerWords Beam} {count : ℕ} {before found : List ℕ} → Walking bytes n ray w count before found → Walking bytes n ray w count found found
+walk-kept {before = before} {found = found} K =
+    record { noted = K .noted; leads = K .leads; counted = K .counted; few = K .few; met = met-kept before (K .noted) found (K .met) }
 
-  -- the loop comes round with walker w
-  abbrev pub Again : WalkerWords Beam → ℕ → List ℕ → Type 0
-  Again w c l = (stepsLeftWords (nodeCount bytes) w < stepsLeftWords (nodeCount bytes) (walkerOf ray octant v stack)) × Walking bytes n b before w c l
+-- and then it is as if it had been written at once
+pub walk-over : {bytes : List ℕ} {n : ℕ} {ray : Ray} {u w : WalkerWords Beam} {less count : ℕ} {before between found : List ℕ} → Walking bytes n ray u less before between
+    → Walking bytes n ray w count between found → less ≤ count → Walking bytes n ray w count before found
+walk-over {before = before} {found = found} J K h = record {
+  noted = K .noted;
+  leads = K .leads;
+  counted = K .counted;
+  few = K .few;
+  met = K .met ∙ ap (λ (l : List ℕ). metIn l (K .noted)) (J .met) ∙ met-over before (J .noted) (K .noted) (omega (arith, J .counted, K .counted, h));
+}
 
-  -- a node was tested
-  pub walk-tested : (u : ℕ) → t .answer ≡ Tested u → Again (walkerOf ray octant (afterTest v t) stack₁) count found
-  walk-tested u q =
-      let k = T .walking in
-      let g = turn-tested turning u q (afterTest v t) refl in
-      (g .less, record { noted = k .noted; leads = g .leads; counted = k .counted; most = omega (arith, g .less, k .most); met = k .met })
+-- moved to the front of another list, it may be written to there
+pub walk-moved : {bytes : List ℕ} {n : ℕ} {ray : Ray} {w : WalkerWords Beam} {count : ℕ} {before found : List ℕ} → Walking bytes n ray w count before found → count ≤ length found
+    → (room : List ℕ) → count ≤ length room → (more : List ℕ) → more ≡ splice room 0 (take count found) → Walking bytes n ray w count more more
+walk-moved {count = count} {before = before} {found = found} K h room g more e =
+    let f = met-front before (K .noted) found (K .met) count (K .counted) h in
+    let l : take (length room) (K .noted) ≡ K .noted = take-all (length room) (K .noted) (omega (arith, K .counted)) in
+    walk-kept {before = room} (record { noted = K .noted; leads = K .leads; counted = K .counted; few = K .few; met = e ∙ ap (splice room 0) (f ∙ sym l) })
 
-  -- a position was reported
-  pub walk-reported : (p : ℕ) → t .answer ≡ Position p → (found₁ : List ℕ) → found₁ ≡ set found count p → Again (walkerOf ray octant (afterReport v t) stack₁) (count + 1) found₁
-  walk-reported p q found₁ e =
-      let k = T .walking in
-      let g = turn-noted turning p q refl (afterReport v t) refl in (
-        g .less,
-        record {
-          noted = k .noted ++ (p ∷ []);
-          leads = g .leads;
-          counted = omega (arith, k .counted, length-append (k .noted) (p ∷ []));
-          most = omega (arith, g .less, k .most);
-          met = e ∙ met-next before (k .noted) found (k .met) count p (k .counted);
-        },
+-- ---- on from a walk
+
+module _ {bytes : List ℕ} {n : ℕ} {ray : Ray} (sized : Sized bytes n) (fit : FieldsFit bytes) {w : WalkerWords Beam} {count : ℕ} {before found : List ℕ} (K : Walking bytes n ray w count before found) where
+  abbrev m : ℕ
+  m = nodeCount bytes
+
+  steadily : Steady m (nodeWordsAt bytes beams) n
+  steadily = steady bytes n sized fit
+
+  -- where a search for positions leaves it, at walker u
+  abbrev pub After : State → WalkerWords Beam → Type 0
+  After Done u = Counted bytes n ray count (u .tests) × (found ≡ metIn before (outcome bytes n ray .noted))
+  After Paused u = Walking bytes n ray u count before found × (stepsLeftWords m u < stepsLeftWords m w) × (onesBelow 32 (u .positions .bits) ≤ 24)
+  After (Refused k) u = outcome bytes n ray .ended ≡ S.refused k
+
+  pub walk-seeks : w .positions .bits ≡ 0 → (k : ℕ) (a : Answer) (u : WalkerWords Beam) → record { walker = u; answer = answerOf a } ≡ seekWords m (nodeWordsAt bytes beams) k n w → After (stateOf a) u
+  unfolding stateOf answerOf
+  walk-seeks none k a u e =
+      go a (subst (λ (r : SteppedWords Beam). Sought m (nodeWordsAt bytes beams) n append (outcome bytes n ray) w (K .noted) (r .answer) (r .walker)) (sym e)
+      (seek-sought steadily k w (K .leads) (omega (arith, none))))
+      (subst (λ (r : SteppedWords Beam). onesBelow 32 (r .walker .positions .bits) ≤ 24) (sym e) (seek-few m (nodeWordsAt bytes beams) n k w (omega (arith, none))))
+    where
+      go : (b : Answer) → Sought m (nodeWordsAt bytes beams) n append (outcome bytes n ray) w (K .noted) (answerOf b) u → onesBelow 32 (u .positions .bits) ≤ 24 → After (stateOf b) u
+      go (A.Tested v) g l = (record { noted = K .noted; leads = g .leads; counted = K .counted; few = omega (arith, g .less, K .few); met = K .met }, g .less, l)
+      go (A.Position p) g l = absurd g
+      go A.Done g l = (
+        record { ended = ap (λ (o : OutcomeWords Beam (List ℕ)). o .ended) (sym g); all = K .counted ∙ ap (λ (o : OutcomeWords Beam (List ℕ)). length (o .noted)) g; tested = ap (λ (o : OutcomeWords Beam (List ℕ)). o .walker .tests) g },
+        K .met ∙ ap (λ (o : OutcomeWords Beam (List ℕ)). metIn before (o .noted)) g,
       )
+      go (A.Refused j) g l = ap (λ (o : OutcomeWords Beam (List ℕ)). o .ended) (sym g)
 
-  -- how the walk ends
-  abbrev pub Ended : AnyHit.Answer → Type 0
-  Ended a = (a ≡ walkOf bytes n b (length before)) × (found ≡ metOf bytes n b before)
+  -- it ends there, or it is paused
+  pub walk-stands : (s : State) (u : WalkerWords Beam) → After s u → OneOf (0 ∷ 2 ∷ []) (tagOf the-type s) → (most : ℕ) → Stands bytes n ray s most u count before found
+  walk-stands Done u h t most = h
+  walk-stands Paused u h t most = absurd (⊎-elim (λ e. omega arith) (λ e. omega arith) t)
+  walk-stands (Refused k) u h t most = h
 
-  -- with done,
-  pub walk-done : t .answer ≡ Done → Ended (fitted count (v .tests) (length before))
-  unfolding walkOf walked metOf
-  walk-done q =
-      let k = T .walking in
-      let o = turn-done turning q in (
-        ap (λ (c : ℕ). fitted c (v .tests) (length before)) (k .counted) ∙ ap (λ (x : OutcomeWords Beam (List ℕ)). walked x (x .ended) (length before)) o,
-        k .met ∙ ap (λ (x : OutcomeWords Beam (List ℕ)). metIn before (x .noted)) o,
-      )
+  -- ---- a position in hand
 
-  -- or refused
-  pub walk-refused : (c : ℕ) → t .answer ≡ Refused c → Ended (refused c)
-  unfolding walkOf walked metOf
-  walk-refused c q =
-      let o = turn-refused turning c q in (
-        ap (λ (x : OutcomeWords Beam (List ℕ)). walked x (x .ended) (length before)) o,
-        T .walking .met ∙ ap (λ (x : OutcomeWords Beam (List ℕ)). metIn before (x .noted)) o,
-      )
+  module _ (held : 0 < w .positions .bits) (p : ℕ) (named : p ≡ W.firstPosition (w .positions)) where
+    -- one past the n
+    pub walk-past : n ≤ p → outcome bytes n ray .ended ≡ S.refused 10
+    walk-past h = ap (λ (o : OutcomeWords Beam (List ℕ)). o .ended) (sym (leads-past steadily (K .leads) held p named h))
+
+    -- the walker without its first position
+    abbrev pub rest : W.Group → WalkerWords Beam
+    rest g = record { ray = w .ray; tests = w .tests; positions = g; current = w .current; depth = w .depth; stack = w .stack }
+
+    abbrev pub Noted : W.Group → List ℕ → Type 0
+    Noted g found₁ = Walking bytes n ray (rest g) (count + 1) before found₁ × (onesBelow 32 (g .bits) < onesBelow 32 (w .positions .bits))
+
+    pub walk-notes : p < n → (g : W.Group) → g ≡ W.restOf (w .positions) → (found₁ : List ℕ) → found₁ ≡ set found count p → Noted g found₁
+    walk-notes h g q found₁ e =
+        let o = leads-on steadily (K .leads) held p named h refl in
+        subst (λ (x : W.Group). Noted x found₁) (sym q) (
+          record {
+            noted = K .noted ++ (p ∷ []);
+            leads = o .leads;
+            counted = omega (arith, K .counted, length-append (K .noted) (p ∷ []));
+            few = omega (arith, o .less, K .few);
+            met = e ∙ met-next before (K .noted) found (K .met) count p (K .counted);
+          },
+          omega (arith, o .less),
+        )

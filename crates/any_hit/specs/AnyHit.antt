@@ -3,7 +3,7 @@ use mathlib.Core.Bool.{true, false}
 use mathlib.Core.List.{List}
 use Prim.Native.Nat.{ℕ, zero, suc}
 use lib.Dec.{leb}
-use lib.ListN.{length, take}
+use lib.ListN.{length}
 use Rattle.lists.specs.Splice.{splice}
 use Rattle.ray.specs.declared.Ray.{Ray}
 use Rattle.walk.specs.Step as S
@@ -58,13 +58,7 @@ unfoldable pub listAfter : List ℕ → ℕ → Ray → List ℕ → List ℕ
 unfolding anyHitOf listFor
 listAfter bytes n r before = listFor (anyHitOf bytes n r (length before)) (anyHitAt bytes beams n (beamOf r) .noted) before
 
--- ---- one walk, which writes as it goes
-
--- positions in front of what was there, as many as there is room for
-abbrev pub metIn : List ℕ → List ℕ → List ℕ
-metIn before found = splice before 0 (take (length before) found)
-
--- the positions that the walk reports, refused or not, written so
-unfoldable pub metOf : List ℕ → ℕ → Beam → List ℕ → List ℕ
-unfolding anyHitAt
-metOf bytes n b before = metIn before (anyHitAt bytes beams n b .noted)
+-- the list after a whole walk
+unfoldable pub listOf : List ℕ → ℕ → Beam → List ℕ → List ℕ
+unfolding walkOf listFor
+listOf bytes n b before = listFor (walkOf bytes n b (length before)) (anyHitAt bytes beams n b .noted) before

@@ -1,17 +1,25 @@
 // Any-hit over a record (cwbvh/mod.rs, ray_traverse_anyhit): the positions that a ray passes, in the order of the walk.
 ghost use mathlib.Core.Path.{_≡_};
 ghost use mathlib.Core.Bool.{false};
-ghost use Prim.Native.Nat.{_≤_};
+ghost use Prim.Native.Nat.{_+_, _≤_};
 ghost use lib.ListN.{length, take, set};
 ghost use Rattle.lists.specs.Splice.{splice};
-ghost use Rattle.ray.specs.Ray.{rayOf};
+ghost use Rattle.ray.specs.Ray.{rayOf, octantOf};
+ghost use Rattle.advance.specs.Turn.{walkerOf};
 ghost use Rattle.walk_record.specs.Beam.{beamOf, forgedBeam};
 ghost use Rattle.query.specs.Walk.{Sized};
-ghost use Rattle.any_hit.specs.AnyHit.{answerOf, fitted, walkOf, metOf, anyHitOf, listAfter};
+ghost use Rattle.any_hit.specs.AnyHit.{answerOf, fitted, walkOf, listFor, listOf, anyHitOf, listAfter};
+ghost use Rattle.any_hit.specs.Gather.{Walking, Counted, Gathers, stateOf};
 use advance::Answer;
-use advance::Group;
+use advance::Walk;
 use ray::Ray;
 use ray::Vec3;
+
+// As many more tests as there may be nodes.
+const ALL: u32 = 0xffff_ffff;
+
+// Over any number of positions that a walk reports.
+const MANY: u32 = 0xffff_0000;
 
 // How any-hit ends: so many positions listed after so many node tests; or the list is short, refused 11 with the length needed; or refused for another cause.
 pub enum AnyHit {
@@ -20,14 +28,29 @@ pub enum AnyHit {
     Refused(u32),
 }
 
-// The answer after a whole walk without a fault, for a list with this room.
-fn fit(count: u32, tests: u32, room: usize) -> AnyHit
-    ensures { λ r. ⌜ answerOf r ≡ fitted count tests room ⌝ }
+// Where a walk that gathers positions stands: it is done, or paused where those of another node may find no room, or refused for the cause of this number.
+enum State {
+    Done,
+    Paused,
+    Refused(u32),
+}
+
+// A walk with the number of positions that it has noted.
+struct Gathered {
+    state: State,
+    walk: Walk,
+    count: u32,
+}
+
+// Where a walk stands after a search for positions.
+fn state_of(answer: Answer) -> State
+    ensures { λ r. ⌜ r ≡ stateOf answer ⌝ }
 {
-    if count as usize > room {
-        return AnyHit::Short(count);
+    match answer {
+        Answer::Done => State::Done,
+        Answer::Refused(k) => State::Refused(k),
+        _ => State::Paused,
     }
-    AnyHit::Listed(count, tests)
 }
 
 // Writes a position at this place, if the list is that long.
@@ -39,52 +62,50 @@ fn note(list: &mut [u32], at: usize, p: u32)
     }
 }
 
-// A whole walk over a record with nodes, and the answer for a list as long as `found`. Positions are written as they are met, as long as there is room,
-// whatever the answer.
-fn walk(record: &[u8], n: usize, ray: Ray, found: &mut [u32]) -> AnyHit
-    requires { ⌜ Sized (now «record») n × (forgedBeam (beamOf ray) ≡ false) ⌝ }
-    ensures { λ r. ⌜ answerOf r ≡ walkOf (now («record» .entry)) n (beamOf ray) (length (now (found .entry))) ⌝ }
-    ensures { λ _. ⌜ now (found .exit) ≡ metOf (now («record» .entry)) n (beamOf ray) (now (found .entry)) ⌝ }
+// Goes on with a walk that has noted so many positions in `found`, as long as there is room, until it ends or has noted over `most`.
+fn gather(
+    record: &[u8],
+    n: usize,
+    ray: Ray,
+    octant: u32,
+    start: Walk,
+    noted: u32,
+    most: u32,
+    stack: &mut [u64],
+    found: &mut [u32],
+) -> Gathered
+    requires { ⌜ Sized (now «record») n × Walking (now «record») n ray (walkerOf ray octant start (now stack)) noted (now found) (now found) ⌝ }
+    requires { ⌜ (start .positions .bits ≡ 0) × (noted ≤ most + 24) ⌝ }
+    ensures { λ r. ⌜ Gathers (now («record» .entry)) n ray octant most (now (found .entry)) r (now (stack .exit)) (now (found .exit)) ⌝ }
 {
-    let octant = ray::octant(ray.direction);
-    let mut tests: u32 = 0;
-    let mut positions = Group { base: 0, bits: 0 };
-    let mut current = Group {
-        base: 0,
-        bits: 0x8000_0000,
-    };
-    let mut depth: u32 = 0;
-    let mut stack = [0u64; 32];
-    let mut count: u32 = 0;
-    loop {
-        let turn = advance::advance(
-            ray,
-            octant,
-            tests,
-            positions,
-            current,
-            depth,
-            &mut stack,
-            record,
-            n,
-        );
+    let e = slot::near_ends(ray.direction);
+    let mut walk = start;
+    let mut count = noted;
+    while count <= most {
+        let turn = advance::seek(walk, ALL, ray, e, octant, stack, record, n);
+        let next = turn.walk;
         let answer = turn.answer;
-        match answer {
-            Answer::Tested(_) => {
-                tests += 1;
-                positions = turn.positions;
-                current = turn.current;
-                depth = turn.depth;
+        let state = state_of(answer);
+        walk = next;
+        match state {
+            State::Paused => {}
+            _ => return Gathered { state, walk, count },
+        }
+        while walk.positions.bits > 0 {
+            let held = walk.positions;
+            let p = advance::first_position(held);
+            if p >= n {
+                let state = State::Refused(10);
+                return Gathered { state, walk, count };
             }
-            Answer::Position(p) => {
-                positions = turn.positions;
-                note(found, count as usize, p);
-                count += 1;
-            }
-            Answer::Done => return fit(count, tests, found.len()),
-            Answer::Refused(k) => return AnyHit::Refused(k),
+            note(found, count as usize, p as u32);
+            count += 1;
+            let positions = advance::rest_of(held);
+            walk = Walk { positions, ..walk };
         }
     }
+    let state = State::Paused;
+    Gathered { state, walk, count }
 }
 
 // Writes the first `count` of some positions to the front of a list.
@@ -99,8 +120,107 @@ fn copy(found: &[u32], count: usize, list: &mut [u32])
     }
 }
 
+// Positions kept aside come into a list that is long enough for them.
+fn deliver(found: &[u32], count: u32, tests: u32, list: &mut [u32]) -> AnyHit
+    requires { ⌜ count ≤ length (now found) ⌝ }
+    ensures { λ r. ⌜ answerOf r ≡ fitted count tests (length (now (list .entry))) ⌝ }
+    ensures { λ _. ⌜ now (list .exit) ≡ listFor (fitted count tests (length (now (list .entry)))) (take count (now (found .entry))) (now (list .entry)) ⌝ }
+{
+    if count as usize > list.len() {
+        return AnyHit::Short(count);
+    }
+    copy(found, count as usize, list);
+    AnyHit::Listed(count, tests)
+}
+
+// After a walk without a fault: another one writes its positions into a list that is long enough for them.
+fn walk_again(
+    record: &[u8],
+    n: usize,
+    ray: Ray,
+    octant: u32,
+    count: u32,
+    tests: u32,
+    list: &mut [u32],
+) -> AnyHit
+    requires { ⌜ Sized (now «record») n × (forgedBeam (beamOf ray) ≡ false) × (octant ≡ octantOf (ray .direction)) ⌝ }
+    requires { ⌜ Counted (now «record») n ray count tests ⌝ }
+    ensures { λ r. ⌜ answerOf r ≡ walkOf (now («record» .entry)) n (beamOf ray) (length (now (list .entry))) ⌝ }
+    ensures { λ _. ⌜ now (list .exit) ≡ listOf (now («record» .entry)) n (beamOf ray) (now (list .entry)) ⌝ }
+{
+    if count as usize > list.len() {
+        return AnyHit::Short(count);
+    }
+    let start = advance::begin();
+    let mut stack = [0u64; 32];
+    let again = gather(record, n, ray, octant, start, 0, MANY, &mut stack, list);
+    AnyHit::Listed(again.count, again.walk.tests)
+}
+
+// Goes on with a walk whose positions so far lie in `found`. Up to 1,024 are kept aside until it has ended.
+fn walk_on(
+    record: &[u8],
+    n: usize,
+    ray: Ray,
+    octant: u32,
+    first: Gathered,
+    found: &[u32],
+    stack: &mut [u64],
+    list: &mut [u32],
+) -> AnyHit
+    requires { ⌜ Sized (now «record») n × (forgedBeam (beamOf ray) ≡ false) × (octant ≡ octantOf (ray .direction)) ⌝ }
+    requires { ⌜ Walking (now «record») n ray (walkerOf ray octant (first .walk) (now stack)) (first .count) (now found) (now found) ⌝ }
+    requires { ⌜ (first .walk .positions .bits ≡ 0) × (first .count ≤ length (now found)) × (first .count ≤ 1024) ⌝ }
+    ensures { λ r. ⌜ answerOf r ≡ walkOf (now («record» .entry)) n (beamOf ray) (length (now (list .entry))) ⌝ }
+    ensures { λ _. ⌜ now (list .exit) ≡ listOf (now («record» .entry)) n (beamOf ray) (now (list .entry)) ⌝ }
+{
+    let mut more = [0u32; 1024];
+    copy(found, first.count as usize, &mut more);
+    let start = first.walk;
+    let rest = gather(
+        record,
+        n,
+        ray,
+        octant,
+        start,
+        first.count,
+        MANY,
+        stack,
+        &mut more,
+    );
+    let state = rest.state;
+    match state {
+        State::Refused(k) => AnyHit::Refused(k),
+        _ => {
+            if rest.count > 1024 {
+                return walk_again(record, n, ray, octant, rest.count, rest.walk.tests, list);
+            }
+            deliver(&more, rest.count, rest.walk.tests, list)
+        }
+    }
+}
+
+// A whole walk over a record with nodes. As long as no more than 64 positions are sure to be found, they lie in few words.
+fn walk_whole(record: &[u8], n: usize, ray: Ray, list: &mut [u32]) -> AnyHit
+    requires { ⌜ Sized (now «record») n × (forgedBeam (beamOf ray) ≡ false) ⌝ }
+    ensures { λ r. ⌜ answerOf r ≡ walkOf (now («record» .entry)) n (beamOf ray) (length (now (list .entry))) ⌝ }
+    ensures { λ _. ⌜ now (list .exit) ≡ listOf (now («record» .entry)) n (beamOf ray) (now (list .entry)) ⌝ }
+{
+    let octant = ray::octant(ray.direction);
+    let start = advance::begin();
+    let mut stack = [0u64; 32];
+    let mut found = [0u32; 64];
+    let first = gather(record, n, ray, octant, start, 0, 40, &mut stack, &mut found);
+    let state = first.state;
+    match state {
+        State::Done => deliver(&found, first.count, first.walk.tests, list),
+        State::Refused(k) => AnyHit::Refused(k),
+        State::Paused => walk_on(record, n, ray, octant, first, &found, &mut stack, list),
+    }
+}
+
 // The positions that a ray passes in a record that is taken to have n positions, in front of `list`; nothing is written unless all fit. Positions are
-// kept aside until the walk has ended; where they are too many for that, a second walk writes them.
+// kept aside until the walk has ended; where they are too many for that, another walk writes them.
 pub fn any_hit(
     record: &[u8],
     n: usize,
@@ -121,22 +241,5 @@ pub fn any_hit(
     if record.len() == 0 {
         return AnyHit::Listed(0, 0);
     }
-    let mut found = [0u32; 256];
-    let first = walk(record, n, ray, &mut found);
-    match first {
-        AnyHit::Listed(count, tests) => {
-            if count as usize > list.len() {
-                return AnyHit::Short(count);
-            }
-            copy(&found, count as usize, list);
-            AnyHit::Listed(count, tests)
-        }
-        AnyHit::Short(needed) => {
-            if needed as usize > list.len() {
-                return AnyHit::Short(needed);
-            }
-            walk(record, n, ray, list)
-        }
-        AnyHit::Refused(k) => AnyHit::Refused(k),
-    }
+    walk_whole(record, n, ray, list)
 }

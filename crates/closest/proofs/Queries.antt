@@ -2,20 +2,28 @@
 use mathlib.Core.Bool.{Bool, true, false, cond}
 use mathlib.Core.List.{List, []}
 use mathlib.Core.Path.{_≡_, refl, sym, ap, _∙_, subst}
-use Prim.Native.Nat.{ℕ}
+use Prim.Native.Nat.{ℕ, _≤_, _<_}
 use lib.Ieee.{Float, lt}
-use lib.ListN.{getD}
+use lib.ListN.{length, getD}
 use Rattle.ray.specs.declared.Ray.{Ray}
 use Rattle.walk.specs.Step as S
 use Rattle.walk.specs.Queries.{Reaction, Pane, distance, faulty, Found, none, hit, fault, closest, miss, lower, lowerAt, blockAt}
-use Rattle.walk.specs.WordStep.{WalkerWords}
-use Rattle.walk.specs.WordQueries.{OutcomeWords}
-use Rattle.walk_record.specs.Beam.{Beam, reaching}
+use Rattle.record_shape.specs.Record.{nodeCount}
+use Rattle.walk.specs.Words as W
+use Rattle.walk.specs.Words.{firstPosition, restOf}
+use Rattle.walk.specs.WordStep.{WalkerWords, SteppedWords, NodeWords, afterReportWords, seekWords}
+use Rattle.walk.specs.WordQueries.{OutcomeWords, toldAllWords}
+use Rattle.walk_record.specs.Beam.{Beam, reaching, beams}
+use Rattle.walk_record.specs.Record.{FieldsFit, nodeWordsAt}
+use Rattle.advance.specs.declared.Group.{Group}
+use Rattle.advance.specs.declared.Walk.{Walk}
 use Rattle.advance.specs.declared.Turn.{Turn}
-use Rattle.advance.specs.declared.Answer.the-variants.{Position}
-use Rattle.query.specs.declared.Walk.{Walk}
-use Rattle.query.specs.Walk.{walkerOf, afterReport}
-use Rattle.query.proofs.Leads.{Turning, Goes, turn-stops, turn-noted}
+use Rattle.advance.specs.declared.Answer.{Answer}
+use Rattle.advance.specs.declared.Answer.the-variants.{Tested, Position, Done, Refused as AnswerRefused}
+use Rattle.advance.specs.Turn.{groupOf, walkerOf, answerOf, turned}
+use Rattle.query.specs.Walk.{Sized}
+use Rattle.query.proofs.Leads.{Leads, Goes, Sought, leads-past, leads-stops, leads-on, seek-sought}
+use Rattle.query.proofs.Begins.{steady}
 use Rattle.closest.specs.declared.ClosestHit.{ClosestHit}
 use Rattle.closest.specs.declared.ClosestHit.the-variants.{Hit, NoHit, Refused}
 use Rattle.closest.specs.declared.Met.{Met}
@@ -80,54 +88,131 @@ module _ (indices : List ℕ) (panes : List Float) (p : ℕ) (b : Beam) (x : Fou
   miss-faulty : (k : ℕ) → met ≡ Faulty k → miss (paneOf indices panes) nearer p b x ≡ record { noted = fault k; tells = []; stop = true }
   miss-faulty k q = ap (λ (y : Pane Float). blockAt (paneOf indices panes) nearer y p b x) (found-faulty k q)
 
--- ---- a turn that reports a position
+-- ---- at a position in hand
 
--- position p is reported, its pane is met so, and the walk goes on as v₁
-pub record Reporting (indices : List ℕ) (panes : List Float) (bytes : List ℕ) (n : ℕ) (react : ℕ → Beam → Found Float → Reaction Float (Found Float)) (goal : OutcomeWords Beam (Found Float))
-    (ray : Ray) (octant : ℕ) (v : Walk) (stack : List ℕ) (x : Found Float) (t : Turn) (stack₁ : List ℕ) (p : ℕ) (met : Met) (v₁ : Walk) : Type 0 where
-  pub turning : Turning bytes n react goal ray octant v stack x t stack₁
-  pub answer : t .answer ≡ Position p
+-- position p is the first in hand, its pane is met so, and `left` are the others
+pub record AtPosition (indices : List ℕ) (panes : List Float) (bytes : List ℕ) (react : ℕ → Beam → Found Float → Reaction Float (Found Float)) (goal : OutcomeWords Beam (Found Float))
+    (ray : Ray) (octant : ℕ) (v : Walk) (stack : List ℕ) (x : Found Float) (p : ℕ) (met : Met) (left : Group) : Type 0 where
+  pub sized : Sized bytes (length indices)
+  pub fit : FieldsFit bytes
+  pub leads : Leads (nodeCount bytes) (nodeWordsAt bytes beams) (length indices) react goal (walkerOf ray octant v stack) x
+  pub held : 0 < v .positions .bits
+  pub named : p ≡ firstPosition (groupOf (v .positions))
+  pub there : p < length indices
   pub pane : paneOfMet met ≡ paneMet panes (getD indices p 0) ray
-  pub walk : v₁ ≡ afterReport v t
+  pub rest : groupOf left ≡ restOf (groupOf (v .positions))
 
-module _ {indices : List ℕ} {panes : List Float} {bytes : List ℕ} {n : ℕ} {goal : OutcomeWords Beam (Found Float)} {ray : Ray} {octant : ℕ} {v : Walk} {stack : List ℕ}
-    {x : Found Float} {t : Turn} {stack₁ : List ℕ} {p : ℕ} {met : Met} {v₁ : Walk} where
-  module _ (R : Reporting indices panes bytes n (closest (paneOf indices panes) nearer) goal ray octant v stack x t stack₁ p met v₁) where
+module _ {indices : List ℕ} {panes : List Float} {bytes : List ℕ} {react : ℕ → Beam → Found Float → Reaction Float (Found Float)} {goal : OutcomeWords Beam (Found Float)}
+    {ray : Ray} {octant : ℕ} {v : Walk} {stack : List ℕ} {x : Found Float} {p : ℕ} {met : Met} {left : Group}
+    (P : AtPosition indices panes bytes react goal ray octant v stack x p met left) where
+  abbrev N : NodeWords Beam Float
+  N = nodeWordsAt bytes beams
+
+  abbrev n : ℕ
+  n = length indices
+
+  abbrev w : WalkerWords Beam
+  w = walkerOf ray octant v stack
+
+  abbrev beam : Beam
+  beam = record { ray = ray; octant = octant }
+
+  -- the walk after its report
+  abbrev pub reported : Walk
+  reported = record { tests = v .tests; positions = left; current = v .current; depth = v .depth }
+
+  stops : {y : Found Float} {ds : List Float} → react p beam x ≡ record { noted = y; tells = ds; stop = true }
+      → record { walker = toldAllWords N ds (afterReportWords w .walker); noted = y; ended = S.position p } ≡ goal
+  stops q = leads-stops (steady bytes n (P .sized) (P .fit)) (P .leads) (P .held) p (P .named) (P .there) q
+
+  goes : {y : Found Float} {ds : List Float} → react p beam x ≡ record { noted = y; tells = ds; stop = false }
+      → Goes (nodeCount bytes) N n react goal w (toldAllWords N ds (walkerOf ray octant reported stack)) y
+  goes {y = y} {ds = ds} q =
+      subst (λ (g : W.Group). Goes (nodeCount bytes) N n react goal w (toldAllWords N ds (record { ray = beam; tests = v .tests; positions = g; current = groupOf (v .current); depth = v .depth; stack = stack })) y)
+      (sym (P .rest)) (leads-on (steady bytes n (P .sized) (P .fit)) (P .leads) (P .held) p (P .named) (P .there) q)
+
+module _ {indices : List ℕ} {panes : List Float} {bytes : List ℕ} {goal : OutcomeWords Beam (Found Float)}
+    {ray : Ray} {octant : ℕ} {v : Walk} {stack : List ℕ} {x : Found Float} {p : ℕ} {met : Met} {left : Group} where
+  module _ (P : AtPosition indices panes bytes (closest (paneOf indices panes) nearer) goal ray octant v stack x p met left) where
     -- a pane's fault is closest's
     pub closest-fails : (k : ℕ) → met ≡ Faulty k → record { answer = refusedClosest k; tests = 0 } ≡ walked refusedClosest closestFound goal (goal .ended)
     unfolding closestFound
-    closest-fails k f =
-        ends-stopped refusedClosest closestFound
-        (turn-stops (R .turning) p (R .answer) (closest-faulty indices panes p (record { ray = ray; octant = octant }) x met (R .pane) k f))
+    closest-fails k f = ends-stopped refusedClosest closestFound (stops P (closest-faulty indices panes p (record { ray = ray; octant = octant }) x met (P .pane) k f))
 
     -- a distance below the reach is noted and becomes the reach
     pub closest-lowers : (d : Float) → met ≡ At d → lt d (ray .tmax) ≡ true
-        → Goes bytes n (closest (paneOf indices panes) nearer) goal (walkerOf ray octant v stack) (walkerOf (reaching d ray) octant v₁ stack₁) (hit p d)
+        → Goes (nodeCount bytes) (nodeWordsAt bytes beams) (length indices) (closest (paneOf indices panes) nearer) goal (walkerOf ray octant v stack)
+        (walkerOf (reaching d ray) octant (reported P) stack) (hit p d)
     closest-lowers d f h =
-        subst (λ (c : Bool). Goes bytes n (closest (paneOf indices panes) nearer) goal (walkerOf ray octant v stack) (walkerOf (cond c (reaching d ray) ray) octant v₁ stack₁) (hit p d)) h
-        (turn-noted (R .turning) p (R .answer) (closest-at indices panes p (record { ray = ray; octant = octant }) x met (R .pane) d f true h) v₁ (R .walk))
+        subst (λ (c : Bool). Goes (nodeCount bytes) (nodeWordsAt bytes beams) (length indices) (closest (paneOf indices panes) nearer) goal (walkerOf ray octant v stack)
+        (walkerOf (cond c (reaching d ray) ray) octant (reported P) stack) (hit p d)) h
+        (goes P (closest-at indices panes p (record { ray = ray; octant = octant }) x met (P .pane) d f true h))
 
     -- any other changes nothing
     pub closest-passes : (d : Float) → met ≡ At d → lt d (ray .tmax) ≡ false
-        → Goes bytes n (closest (paneOf indices panes) nearer) goal (walkerOf ray octant v stack) (walkerOf ray octant v₁ stack₁) x
-    closest-passes d f h = turn-noted (R .turning) p (R .answer) (closest-at indices panes p (record { ray = ray; octant = octant }) x met (R .pane) d f false h) v₁ (R .walk)
+        → Goes (nodeCount bytes) (nodeWordsAt bytes beams) (length indices) (closest (paneOf indices panes) nearer) goal (walkerOf ray octant v stack) (walkerOf ray octant (reported P) stack) x
+    closest-passes d f h = goes P (closest-at indices panes p (record { ray = ray; octant = octant }) x met (P .pane) d f false h)
 
-  module _ (R : Reporting indices panes bytes n (miss (paneOf indices panes) nearer) goal ray octant v stack x t stack₁ p met v₁) where
+  module _ (P : AtPosition indices panes bytes (miss (paneOf indices panes) nearer) goal ray octant v stack x p met left) where
     -- a pane's fault is miss's
     pub miss-fails : (k : ℕ) → met ≡ Faulty k → record { answer = refusedMiss k; tests = 0 } ≡ walked refusedMiss missFound goal (goal .ended)
     unfolding missFound
-    miss-fails k f =
-        ends-stopped refusedMiss missFound
-        (turn-stops (R .turning) p (R .answer) (miss-faulty indices panes p (record { ray = ray; octant = octant }) x met (R .pane) k f))
+    miss-fails k f = ends-stopped refusedMiss missFound (stops P (miss-faulty indices panes p (record { ray = ray; octant = octant }) x met (P .pane) k f))
 
     -- a distance below the reach ends it
-    pub miss-blocks : (d : Float) → met ≡ At d → lt d (ray .tmax) ≡ true → record { answer = blocked; tests = v₁ .tests } ≡ walked refusedMiss missFound goal (goal .ended)
+    pub miss-blocks : (d : Float) → met ≡ At d → lt d (ray .tmax) ≡ true → record { answer = blocked; tests = v .tests } ≡ walked refusedMiss missFound goal (goal .ended)
     unfolding missFound
-    miss-blocks d f h =
-        ap (λ (z : Walk). record { answer = blocked; tests = z .tests }) (R .walk)
-        ∙ ends-stopped refusedMiss missFound (turn-stops (R .turning) p (R .answer) (miss-at indices panes p (record { ray = ray; octant = octant }) x met (R .pane) d f true h))
+    miss-blocks d f h = ends-stopped refusedMiss missFound (stops P (miss-at indices panes p (record { ray = ray; octant = octant }) x met (P .pane) d f true h))
 
     -- any other changes nothing
     pub miss-passes : (d : Float) → met ≡ At d → lt d (ray .tmax) ≡ false
-        → Goes bytes n (miss (paneOf indices panes) nearer) goal (walkerOf ray octant v stack) (walkerOf ray octant v₁ stack₁) x
-    miss-passes d f h = turn-noted (R .turning) p (R .answer) (miss-at indices panes p (record { ray = ray; octant = octant }) x met (R .pane) d f false h) v₁ (R .walk)
+        → Goes (nodeCount bytes) (nodeWordsAt bytes beams) (length indices) (miss (paneOf indices panes) nearer) goal (walkerOf ray octant v stack) (walkerOf ray octant (reported P) stack) x
+    miss-passes d f h = goes P (miss-at indices panes p (record { ray = ray; octant = octant }) x met (P .pane) d f false h)
+
+-- ---- after a search
+
+-- a search from walk v, which has no position in hand, gave t and a stack
+pub record AfterSearch (bytes indices : List ℕ) (react : ℕ → Beam → Found Float → Reaction Float (Found Float)) (goal : OutcomeWords Beam (Found Float))
+    (ray : Ray) (octant : ℕ) (v : Walk) (stack : List ℕ) (x : Found Float) (t : Turn) (stack₁ : List ℕ) : Type 0 where
+  pub sized : Sized bytes (length indices)
+  pub fit : FieldsFit bytes
+  pub leads : Leads (nodeCount bytes) (nodeWordsAt bytes beams) (length indices) react goal (walkerOf ray octant v stack) x
+  pub none : v .positions .bits ≤ 0
+  pub most : ℕ
+  pub search : turned ray octant t stack₁ ≡ seekWords (nodeCount bytes) (nodeWordsAt bytes beams) most (length indices) (walkerOf ray octant v stack)
+
+module _ {bytes indices : List ℕ} {react : ℕ → Beam → Found Float → Reaction Float (Found Float)} {goal : OutcomeWords Beam (Found Float)}
+    {ray : Ray} {octant : ℕ} {v : Walk} {stack : List ℕ} {x : Found Float} {t : Turn} {stack₁ : List ℕ} (A : AfterSearch bytes indices react goal ray octant v stack x t stack₁) where
+  abbrev Left : S.Answer → Type 0
+  Left b = Sought (nodeCount bytes) (nodeWordsAt bytes beams) (length indices) react goal (walkerOf ray octant v stack) x b (walkerOf ray octant (t .walk) stack₁)
+
+  sought : (b : Answer) → t .answer ≡ b → Left (answerOf b)
+  sought b e =
+      subst (λ (a : Answer). Left (answerOf a)) e
+      (subst (λ (r : SteppedWords Beam). Sought (nodeCount bytes) (nodeWordsAt bytes beams) (length indices) react goal (walkerOf ray octant v stack) x (r .answer) (r .walker)) (sym (A .search))
+      (seek-sought (steady bytes (length indices) (A .sized) (A .fit)) (A .most) (walkerOf ray octant v stack) (A .leads) (A .none)))
+
+  -- the query goes on after a test, ends with done or a refusal, and no position is reported
+  pub search-tested : (u : ℕ) → t .answer ≡ Tested u
+      → Goes (nodeCount bytes) (nodeWordsAt bytes beams) (length indices) react goal (walkerOf ray octant v stack) (walkerOf ray octant (t .walk) stack₁) x
+  unfolding answerOf
+  search-tested u e = sought (Tested u) e
+
+  pub search-done : t .answer ≡ Done → record { walker = walkerOf ray octant (t .walk) stack₁; noted = x; ended = S.done } ≡ goal
+  unfolding answerOf
+  search-done e = sought Done e
+
+  pub search-refused : (k : ℕ) → t .answer ≡ AnswerRefused k → record { walker = walkerOf ray octant (t .walk) stack₁; noted = x; ended = S.refused k } ≡ goal
+  unfolding answerOf
+  search-refused k e = sought (AnswerRefused k) e
+
+  pub search-no-position : (q : ℕ) → t .answer ≡ Position q → ⊥
+  unfolding answerOf
+  search-no-position q e = sought (Position q) e
+
+-- a position in hand past the n refuses the query
+pub position-past : (bytes indices : List ℕ) → Sized bytes (length indices) → FieldsFit bytes
+    → (react : ℕ → Beam → Found Float → Reaction Float (Found Float)) (goal : OutcomeWords Beam (Found Float)) (ray : Ray) (octant : ℕ) (v : Walk) (stack : List ℕ) (x : Found Float)
+    → Leads (nodeCount bytes) (nodeWordsAt bytes beams) (length indices) react goal (walkerOf ray octant v stack) x → 0 < v .positions .bits
+    → (p : ℕ) → p ≡ firstPosition (groupOf (v .positions)) → length indices ≤ p → record { walker = walkerOf ray octant v stack; noted = x; ended = S.refused 10 } ≡ goal
+position-past bytes indices sized fit react goal ray octant v stack x leads held p named h = leads-past (steady bytes (length indices) sized fit) leads held p named h

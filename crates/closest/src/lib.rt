@@ -9,9 +9,12 @@ ghost use Rattle.query.specs.Walk.{Sized};
 ghost use Rattle.closest.specs.Panes.{cornerAt, paneBox, paneMet, paneOfMet, closestWalked, missWalked, closestOf, missOf, closestResult, missResult};
 use aabb::Aabb;
 use advance::Answer;
-use query::Walk;
+use advance::Walk;
 use ray::Ray;
 use ray::Vec3;
+
+// More tests than any walk makes.
+const MOST: u32 = 0xffff_ffff;
 
 // How closest ends: a hit with its position and distance, no hit, or refused for the cause of this number.
 pub enum ClosestHit {
@@ -82,11 +85,11 @@ fn pane_met(panes: &[f32], k: usize, ray: Ray) -> Met
 }
 
 // The pane of position p.
-fn position_met(indices: &[u32], panes: &[f32], p: u32, ray: Ray) -> Met
+fn position_met(indices: &[u32], panes: &[f32], p: usize, ray: Ray) -> Met
     requires { ⌜ p < length (now indices) ⌝ }
     ensures { λ r. ⌜ paneOfMet r ≡ paneMet (now (panes .entry)) (getD (now (indices .entry)) p 0) ray ⌝ }
 {
-    let k = indices[p as usize];
+    let k = indices[p];
     pane_met(panes, k as usize, ray)
 }
 
@@ -104,33 +107,42 @@ fn walk_closest(bytes: &[u8], indices: &[u32], panes: &[f32], start: Ray) -> Clo
 {
     let n = indices.len();
     let octant = ray::octant(start.direction);
+    let e = slot::near_ends(start.direction);
     let mut ray = start;
-    let mut walk = Walk::begin();
+    let mut walk = advance::begin();
     let mut stack = [0u64; 32];
     let mut answer = ClosestHit::NoHit;
     loop {
-        let turn = walk.turn(ray, octant, &mut stack, bytes, n);
-        let reply = turn.answer;
-        match reply {
-            Answer::Tested(_) => walk = walk.tested(turn),
-            Answer::Position(p) => {
-                walk = walk.reported(turn);
-                let met = position_met(indices, panes, p, ray);
-                match met {
-                    Met::At(t) => {
-                        if t < ray.tmax {
-                            answer = ClosestHit::Hit(p, t);
-                            ray = Ray { tmax: t, ..ray };
-                        }
-                    }
-                    Met::Faulty(cause) => return refused_closest(cause),
-                }
+        while walk.positions.bits > 0 {
+            let held = walk.positions;
+            let p = advance::first_position(held);
+            if p >= n {
+                return refused_closest(10);
             }
+            let met = position_met(indices, panes, p, ray);
+            let positions = advance::rest_of(held);
+            walk = Walk { positions, ..walk };
+            match met {
+                Met::At(t) => {
+                    if t < ray.tmax {
+                        answer = ClosestHit::Hit(p as u32, t);
+                        ray = Ray { tmax: t, ..ray };
+                    }
+                }
+                Met::Faulty(cause) => return refused_closest(cause),
+            }
+        }
+        let turn = advance::seek(walk, MOST, ray, e, octant, &mut stack, bytes, n);
+        let reply = turn.answer;
+        let next = turn.walk;
+        match reply {
+            Answer::Tested(_) => walk = next,
             Answer::Done => {
-                let tests = walk.tests;
+                let tests = next.tests;
                 return ClosestFound { answer, tests };
             }
             Answer::Refused(cause) => return refused_closest(cause),
+            Answer::Position(_) => return refused_closest(10),
         }
     }
 }
@@ -174,18 +186,20 @@ fn walk_miss(bytes: &[u8], indices: &[u32], panes: &[f32], ray: Ray) -> MissFoun
 {
     let n = indices.len();
     let octant = ray::octant(ray.direction);
-    let mut walk = Walk::begin();
+    let e = slot::near_ends(ray.direction);
+    let mut walk = advance::begin();
     let mut stack = [0u64; 32];
     let mut answer = Occlusion::Missed;
     'walk: loop {
         while walk.positions.bits > 0 {
-            let turn = walk.turn(ray, octant, &mut stack, bytes, n);
-            let reply = turn.answer;
-            let Answer::Position(p) = reply else {
+            let held = walk.positions;
+            let p = advance::first_position(held);
+            if p >= n {
                 return refused_miss(10);
-            };
-            walk = walk.reported(turn);
+            }
             let met = position_met(indices, panes, p, ray);
+            let positions = advance::rest_of(held);
+            walk = Walk { positions, ..walk };
             match met {
                 Met::At(t) => {
                     if t < ray.tmax {
@@ -196,12 +210,17 @@ fn walk_miss(bytes: &[u8], indices: &[u32], panes: &[f32], ray: Ray) -> MissFoun
                 Met::Faulty(cause) => return refused_miss(cause),
             }
         }
-        let turn = walk.turn(ray, octant, &mut stack, bytes, n);
+        let turn = advance::seek(walk, MOST, ray, e, octant, &mut stack, bytes, n);
         let reply = turn.answer;
+        let next = turn.walk;
         match reply {
-            Answer::Tested(_) => walk = walk.tested(turn),
-            Answer::Done => break 'walk,
-            _ => return refused_miss(10),
+            Answer::Tested(_) => walk = next,
+            Answer::Done => {
+                walk = next;
+                break 'walk;
+            }
+            Answer::Refused(cause) => return refused_miss(cause),
+            Answer::Position(_) => return refused_miss(10),
         }
     }
     let tests = walk.tests;

@@ -24,9 +24,10 @@ fn vec_at(s: &[f32], at: usize) -> Vec3
 fn fill_masks(record: &[u8], ray: Ray, octant: u32, m: usize, out: &mut [u32])
     requires { ⌜ (octant < 8) × (80 * m ≤ length (now «record»)) × (m ≤ length (now out)) ⌝ }
 {
+    let e = slot::near_ends(ray.direction);
     let mut i: usize = 0;
     while i < m {
-        out[i] = slot::intersect_ray(record, 80 * i, ray, octant);
+        out[i] = slot::intersect_ray(record, 80 * i, node::metas(record, 80 * i), ray, e, octant);
         i += 1;
     }
 }

@@ -5,7 +5,7 @@ use mathlib.Core.Path.{_≡_, refl, sym, ap, _∙_, subst}
 use Prim.Native.Nat.{ℕ, zero, suc, _*_, _≤_}
 use native.Mathlib.Omega.{arith}
 use lib.Ieee.{Float}
-use lib.ListN.{replicate}
+use lib.ListN.{length, replicate}
 use borrow.Author.Tests.{le-leb}
 use Rattle.words.specs.Fields.{field}
 use Rattle.words.specs.Ones.{onesBelow}
@@ -17,19 +17,23 @@ use Rattle.walk.specs.Tests.{Tests}
 use Rattle.walk.specs.Step.{fresh, done, emptied, stepOf}
 use Rattle.walk.specs.Queries.{Reaction, Outcome, query, stepsFor}
 use Rattle.walk.specs.Slots.{positionsOf, childrenOf, testsOf}
-use Rattle.walk.specs.WordStep.{Decodes}
+use Rattle.walk.specs.WordStep.{WalkerWords, Decodes}
 use Rattle.walk.specs.WordQueries.{OutcomeWords}
 use Rattle.walk.proofs.Masks.{masks-decode}
 use Rattle.walk.proofs.WordRuns.{fresh-range}
 use Rattle.walk.proofs.WordQueries.{fresh-query}
 use Rattle.walk_record.specs.Beam.{Beam, beamOf, forgedBeam, beams}
 use Rattle.walk_record.specs.Record.{FieldsFit, slotsAt, maskAt, nodeWordsAt}
-use Rattle.walk_record.specs.Walk.{queryAt}
+use Rattle.walk_record.specs.Walk.{stepAt, queryAt}
 use Rattle.walk_record.proofs.Beam.{beam-laws}
 use Rattle.walk_record.proofs.Laws.{mask-laws}
-use Rattle.query.specs.declared.Walk.{Walk}
-use Rattle.query.specs.Walk.{walkerOf, begun}
-use Rattle.query.proofs.Leads.{Leads}
+use Rattle.walk_record.proofs.Steps.{step-range, step-falls}
+use Rattle.advance.specs.declared.Walk.{Walk}
+use Rattle.advance.specs.Turn.{walkerOf, begun, Walkable}
+use Rattle.slot.specs.declared.Ends.{Ends}
+use Rattle.slot.specs.Parts.{endsOf}
+use Rattle.query.specs.Walk.{Sized}
+use Rattle.query.proofs.Leads.{Steady, OnWay, Leads}
 
 -- no position is in hand
 no-ones : onesBelow 32 0 ≡ 0
@@ -43,6 +47,33 @@ unfolding query stepOf
 empty-lists zero e T react k n ray x h f = rw (le-leb n 65536 h, f)
 empty-lists (suc m) e T react k n ray x h f = absurd (omega arith)
 
+-- ---- over a record's bytes
+
+-- steps there are steady,
+pub steady : (bytes : List ℕ) (n : ℕ) → Sized bytes n → FieldsFit bytes → Steady (nodeCount bytes) (nodeWordsAt bytes beams) n
+unfolding stepAt
+steady bytes n sized fit = record {
+  some = sized .some;
+  nodes = sized .nodes;
+  positions = sized .positions;
+  range = step-range bytes beams beam-laws fit n;
+  falls = step-falls bytes beams beam-laws fit n;
+  told = beam-laws .told-accepted;
+}
+
+-- and the core may be called
+pub walkable : (bytes : List ℕ) (n : ℕ) → Sized bytes n → (w : WalkerWords Beam) → OnWay (nodeCount bytes) (nodeWordsAt bytes beams) w → (e : Ends) → e ≡ endsOf (w .ray .ray .direction)
+    → Walkable bytes n (w .ray .ray) e (w .ray .octant) (w .depth) (length (w .stack))
+walkable bytes n sized w o e q = record {
+  whole = sized .whole;
+  nodes = sized .nodes;
+  positions = sized .positions;
+  ends = q;
+  eight = beam-laws .octant-lt (w .ray) (o .accepted);
+  deep = o .deep;
+  stack = o .range .room;
+}
+
 module _ {a : Type 0} (bytes : List ℕ) (n : ℕ) (fit : FieldsFit bytes) (react : ℕ → Beam → a → Reaction Float a) (x : a) (ray : Ray) (accepted : forgedBeam (beamOf ray) ≡ false) where
   decodes : Decodes (nodeCount bytes) (nodeWordsAt bytes beams) (positionsOf (slotsAt bytes beams n)) (childrenOf (slotsAt bytes beams n))
   unfolding shapeAt
@@ -50,11 +81,11 @@ module _ {a : Type 0} (bytes : List ℕ) (n : ℕ) (fit : FieldsFit bytes) (reac
 
   -- the walk that a loop begins with leads to the query's outcome
   pub leads-begun : (octant : ℕ) → octant ≡ octantOf (ray .direction) → (v : Walk) → v ≡ begun
-      → Leads bytes n react (queryAt bytes beams react x n (beamOf ray)) (walkerOf ray octant v (replicate capacity 0)) x
+      → Leads (nodeCount bytes) (nodeWordsAt bytes beams) n react (queryAt bytes beams react x n (beamOf ray)) (walkerOf ray octant v (replicate capacity 0)) x
   unfolding queryAt
   leads-begun octant e v f =
-      subst (λ (z : Walk). Leads bytes n react (queryAt bytes beams react x n (beamOf ray)) (walkerOf ray octant z (replicate capacity 0)) x) (sym f)
-      (subst (λ (o : ℕ). Leads bytes n react (queryAt bytes beams react x n (beamOf ray)) (walkerOf ray o begun (replicate capacity 0)) x) (sym e) (record {
+      subst (λ (z : Walk). Leads (nodeCount bytes) (nodeWordsAt bytes beams) n react (queryAt bytes beams react x n (beamOf ray)) (walkerOf ray octant z (replicate capacity 0)) x) (sym f)
+      (subst (λ (o : ℕ). Leads (nodeCount bytes) (nodeWordsAt bytes beams) n react (queryAt bytes beams react x n (beamOf ray)) (walkerOf ray o begun (replicate capacity 0)) x) (sym e) (record {
         way = record {
           accepted = accepted;
           tests = omega arith;

@@ -1,243 +1,210 @@
--- Queries as loops over turns: what is left of a query, run from the walk that a loop holds and with what it has noted, gives the query's outcome.
-use mathlib.Core.Bool.{true, false, cond}
+-- Queries as loops over positions: what is left of a query, run from the walker that a loop holds and with what it has noted, gives the query's outcome.
+-- For any fields and masks of nodes, any rays and any query.
+use mathlib.Core.Bool.{true, false, _&&_, cond}
 use mathlib.Core.List.{List, [], _∷_}
 use mathlib.Core.Path.{_≡_, refl, sym, ap, _∙_, subst}
 use Prim.Native.Nat.{ℕ, zero, suc, _≤_, _<_}
-use native.Mathlib.Numerals.{add-one}
 use native.Mathlib.Omega.{arith}
-use lib.Ieee.{Float}
-use lib.ListN.{length}
+use lib.Dec.{eqb}
+use borrow.Author.Tests.{le-leb, lt-leb, lt-ltb, eqb-true}
 use Rattle.faststack.specs.Stack.{capacity}
-use Rattle.ray.specs.declared.Ray.{Ray}
-use Rattle.record_shape.specs.Record.{nodeCount}
 use Rattle.walk.specs.Step as S
 use Rattle.walk.specs.Queries.{Reaction, Going}
-use Rattle.walk.specs.WordStep.{WalkerWords, SteppedWords, InRange, tellWords, advanceWords}
+use Rattle.walk.specs.Words.{firstPosition}
+use Rattle.walk.specs.WordStep.{WalkerWords, SteppedWords, NodeWords, InRange, isTest, findsNone, stayWords, afterReportWords, tellWords, reportWords, advanceWords, seekWords, stepWords}
 use Rattle.walk.specs.WordQueries.{OutcomeWords, toldAllWords, followWords, queryWords}
+use Rattle.walk.proofs.Cases.{cond-elim}
 use Rattle.walk.proofs.WordEnds.{stepsLeftWords}
-use Rattle.walk_record.specs.Beam.{Beam, forgedBeam, beams}
-use Rattle.walk_record.specs.Record.{FieldsFit, nodeWordsAt}
-use Rattle.walk_record.specs.Walk.{stepAt}
-use Rattle.walk_record.proofs.Beam.{beam-laws}
-use Rattle.walk_record.proofs.Steps.{step-range, step-falls}
-use Rattle.advance.specs.declared.Turn.{Turn}
-use Rattle.advance.specs.declared.Answer.{Answer}
-use Rattle.advance.specs.declared.Answer.the-variants.{Tested, Position, Done, Refused}
-use Rattle.advance.specs.Turn.{groupOf, holding, turned, turnedBy, Walkable}
-use Rattle.query.specs.declared.Walk.{Walk}
-use Rattle.query.specs.Walk.{walkerOf, afterTest, afterReport, Sized}
-use Rattle.query.proofs.Turns.{Shows, turn-shows, turn-is-step}
+use Rattle.advance.proofs.Shows.{Shows, turn-shows, turn-is-step}
+
+-- what a loop over turns leans on: a step leaves words in range and lowers the number of steps left, and telling makes no ray forged
+pub record Steady {s d : Type 0} (m : ℕ) (N : NodeWords s d) (n : ℕ) : Type 0 where
+  pub some : 0 < m
+  pub nodes : m ≤ 65535
+  pub positions : n ≤ 65536
+  pub range : (w : WalkerWords s) → InRange w → InRange (stepWords m N n w .walker)
+  pub falls : (w : WalkerWords s) → InRange w → Going (stepWords m N n w .answer) → stepsLeftWords m (stepWords m N n w .walker) < stepsLeftWords m w
+  pub told : (x : d) (r : s) → N .forged r ≡ false → N .forged (N .told x r) ≡ false
 
 -- a walker on its way: it is not forged, and its words are in range
-pub record OnWay (bytes : List ℕ) (w : WalkerWords Beam) : Type 0 where
-  pub accepted : forgedBeam (w .ray) ≡ false
-  pub tests : w .tests ≤ nodeCount bytes
+pub record OnWay {s d : Type 0} (m : ℕ) (N : NodeWords s d) (w : WalkerWords s) : Type 0 where
+  pub accepted : N .forged (w .ray) ≡ false
+  pub tests : w .tests ≤ m
   pub deep : w .depth ≤ capacity
   pub range : InRange w
 
 -- from this walker, with x noted, the query ends as the goal says, with steps to spare
-pub record Leads {a : Type 0} (bytes : List ℕ) (n : ℕ) (react : ℕ → Beam → a → Reaction Float a) (goal : OutcomeWords Beam a) (w : WalkerWords Beam) (x : a) : Type 0 where
-  pub way : OnWay bytes w
+pub record Leads {s d a : Type 0} (m : ℕ) (N : NodeWords s d) (n : ℕ) (react : ℕ → s → a → Reaction d a) (goal : OutcomeWords s a) (w : WalkerWords s) (x : a) : Type 0 where
+  pub way : OnWay m N w
   pub steps : ℕ
-  pub enough : stepsLeftWords (nodeCount bytes) w < steps
-  pub rest : queryWords (nodeCount bytes) (nodeWordsAt bytes beams) react steps n w x ≡ goal
+  pub enough : stepsLeftWords m w < steps
+  pub rest : queryWords m N react steps n w x ≡ goal
 
--- ---- a turn of a walker on its way
-
-module _ (bytes : List ℕ) (n : ℕ) (sized : Sized bytes n) (w : WalkerWords Beam) (o : OnWay bytes w) where
-  -- the core may be called
-  pub walkable : Walkable bytes n (w .ray .octant) (w .depth) (length (w .stack))
-  walkable = record {
-    whole = sized .whole;
-    nodes = sized .nodes;
-    positions = sized .positions;
-    eight = beam-laws .octant-lt (w .ray) (o .accepted);
-    deep = o .deep;
-    stack = o .range .room;
-  }
-
-  is-step : stepAt bytes beams n w ≡ advanceWords (nodeCount bytes) (nodeWordsAt bytes beams) n w
-  unfolding stepAt
-  is-step = turn-is-step (nodeCount bytes) (nodeWordsAt bytes beams) n w (sized .nodes) (sized .positions) (sized .some) (o .accepted) (o .deep) (o .tests)
-
-  module _ (r : SteppedWords Beam) (e : r ≡ advanceWords (nodeCount bytes) (nodeWordsAt bytes beams) n w) where
-    shown : Shows (nodeCount bytes) (nodeWordsAt bytes beams) n w (r .answer) (r .walker)
-    shown =
-        subst (λ (q : SteppedWords Beam). Shows (nodeCount bytes) (nodeWordsAt bytes beams) n w (q .answer) (q .walker)) (sym e)
-        (turn-shows (nodeCount bytes) (nodeWordsAt bytes beams) n w (o .deep))
-
-    module _ (fit : FieldsFit bytes) where
-      in-range : InRange (r .walker)
-      in-range = subst (λ (q : SteppedWords Beam). InRange (q .walker)) (is-step ∙ sym e) (step-range bytes beams beam-laws fit n w (o .range))
-
-      falls : Going (r .answer) → stepsLeftWords (nodeCount bytes) (r .walker) < stepsLeftWords (nodeCount bytes) w
-      falls =
-          subst (λ (q : SteppedWords Beam). Going (q .answer) → stepsLeftWords (nodeCount bytes) (q .walker) < stepsLeftWords (nodeCount bytes) w) (is-step ∙ sym e)
-          (step-falls bytes beams beam-laws fit n w (o .range))
+-- the query goes on from walker w, with y noted and fewer steps left than from u
+pub record Goes {s d a : Type 0} (m : ℕ) (N : NodeWords s d) (n : ℕ) (react : ℕ → s → a → Reaction d a) (goal : OutcomeWords s a) (u w : WalkerWords s) (y : a) : Type 0 where
+  pub leads : Leads m N n react goal w y
+  pub less : stepsLeftWords m w < stepsLeftWords m u
 
 -- ---- telling
 
-told-way : (bytes : List ℕ) (l : List Float) (w : WalkerWords Beam) → OnWay bytes w → OnWay bytes (toldAllWords (nodeWordsAt bytes beams) l w)
-told-way bytes [] w o = o
-told-way bytes (t ∷ l) w o =
-    let i = o .range in
-    told-way bytes l (tellWords (nodeWordsAt bytes beams) t w)
-    (record {
-      accepted = beam-laws .told-accepted t (w .ray) (o .accepted);
-      tests = o .tests;
-      deep = o .deep;
-      range = record { positions = i .positions; base = i .base; bits = i .bits; room = i .room; words = i .words };
-    })
+module _ {s d : Type 0} (m : ℕ) (N : NodeWords s d) (n : ℕ) (steady : Steady m N n) where
+  told-way : (l : List d) (w : WalkerWords s) → OnWay m N w → OnWay m N (toldAllWords N l w)
+  told-way [] w o = o
+  told-way (t ∷ l) w o =
+      let i = o .range in
+      told-way l (tellWords N t w)
+      (record {
+        accepted = steady .told t (w .ray) (o .accepted);
+        tests = o .tests;
+        deep = o .deep;
+        range = record { positions = i .positions; base = i .base; bits = i .bits; room = i .room; words = i .words };
+      })
 
-told-left : (bytes : List ℕ) (l : List Float) (w : WalkerWords Beam)
-    → stepsLeftWords (nodeCount bytes) (toldAllWords (nodeWordsAt bytes beams) l w) ≡ stepsLeftWords (nodeCount bytes) w
-told-left bytes [] w = refl
-told-left bytes (t ∷ l) w = told-left bytes l (tellWords (nodeWordsAt bytes beams) t w)
+  told-left : (l : List d) (w : WalkerWords s) → stepsLeftWords m (toldAllWords N l w) ≡ stepsLeftWords m w
+  told-left [] w = refl
+  told-left (t ∷ l) w = told-left l (tellWords N t w)
 
--- ---- a loop's turn, by the numbers that the core gives
+-- ---- a turn of a walker on its way
 
--- a turn from walk v gave t and a stack, with x noted before it
-pub record Turning {a : Type 0} (bytes : List ℕ) (n : ℕ) (react : ℕ → Beam → a → Reaction Float a) (goal : OutcomeWords Beam a)
-    (ray : Ray) (octant : ℕ) (v : Walk) (stack : List ℕ) (x : a) (t : Turn) (stack₁ : List ℕ) : Type 0 where
-  pub sized : Sized bytes n
-  pub fit : FieldsFit bytes
-  pub leads : Leads bytes n react goal (walkerOf ray octant v stack) x
-  pub turn : turnedBy (walkerOf ray octant v stack) t stack₁ ≡ advanceWords (nodeCount bytes) (nodeWordsAt bytes beams) n (walkerOf ray octant v stack)
+module _ {s d a : Type 0} {m : ℕ} {N : NodeWords s d} {n : ℕ} {react : ℕ → s → a → Reaction d a} {goal : OutcomeWords s a} {w : WalkerWords s} {x : a}
+    (steady : Steady m N n) (L : Leads m N n react goal w x) where
+  abbrev o : OnWay m N w
+  o = L .way
 
--- the query goes on from walker w, with y noted and fewer steps left than from u
-pub record Goes {a : Type 0} (bytes : List ℕ) (n : ℕ) (react : ℕ → Beam → a → Reaction Float a) (goal : OutcomeWords Beam a) (u w : WalkerWords Beam) (y : a) : Type 0 where
-  pub leads : Leads bytes n react goal w y
-  pub less : stepsLeftWords (nodeCount bytes) w < stepsLeftWords (nodeCount bytes) u
-
-module _ {a : Type 0} {bytes : List ℕ} {n : ℕ} {react : ℕ → Beam → a → Reaction Float a} {goal : OutcomeWords Beam a}
-    {ray : Ray} {octant : ℕ} {v : Walk} {stack : List ℕ} {x : a} {t : Turn} {stack₁ : List ℕ} (T : Turning bytes n react goal ray octant v stack x t stack₁) where
-  by-answer : (b : Answer) → t .answer ≡ b
-      → turned (walkerOf ray octant v stack) b (groupOf (t .positions)) (groupOf (t .current)) (t .depth) stack₁ ≡ advanceWords (nodeCount bytes) (nodeWordsAt bytes beams) n (walkerOf ray octant v stack)
-  by-answer b q = sym (ap (λ (y : Answer). turned (walkerOf ray octant v stack) y (groupOf (t .positions)) (groupOf (t .current)) (t .depth) stack₁) q) ∙ T .turn
+  is-step : stepWords m N n w ≡ advanceWords m N n w
+  is-step = turn-is-step m N n w (steady .nodes) (steady .positions) (steady .some) (o .accepted) (o .deep) (o .tests)
 
   -- what follows the turn, with so many steps
-  record Follows (r : SteppedWords Beam) : Type 0 where
+  record Follows (r : SteppedWords s) : Type 0 where
     pub spare : ℕ
-    pub enough : stepsLeftWords (nodeCount bytes) (walkerOf ray octant v stack) ≤ spare
-    pub rest : followWords (nodeCount bytes) (nodeWordsAt bytes beams) react (r .answer) (r .walker) x (queryWords (nodeCount bytes) (nodeWordsAt bytes beams) react spare n) ≡ goal
+    pub enough : stepsLeftWords m w ≤ spare
+    pub rest : followWords m N react (r .answer) (r .walker) x (queryWords m N react spare n) ≡ goal
 
-  follows : (r : SteppedWords Beam) → r ≡ advanceWords (nodeCount bytes) (nodeWordsAt bytes beams) n (walkerOf ray octant v stack) → Follows r
-  unfolding queryWords stepAt
-  follows r q = go (T .leads .steps) (T .leads .enough) (T .leads .rest)
+  module _ (r : SteppedWords s) (e : r ≡ advanceWords m N n w) where
+    follows : Follows r
+    unfolding queryWords
+    follows = go (L .steps) (L .enough) (L .rest)
+      where
+        go : (k : ℕ) → stepsLeftWords m w < k → queryWords m N react k n w x ≡ goal → Follows r
+        go zero h p = absurd (omega arith)
+        go (suc f) h p = record {
+          spare = f;
+          enough = omega arith;
+          rest = ap (λ (u : SteppedWords s). followWords m N react (u .answer) (u .walker) x (queryWords m N react f n)) (e ∙ sym is-step) ∙ p;
+        }
+
+    shown : Shows m N n w (r .answer) (r .walker)
+    shown = subst (λ (q : SteppedWords s). Shows m N n w (q .answer) (q .walker)) (sym e) (turn-shows m N n w (o .deep))
+
+    in-range : InRange (r .walker)
+    in-range = subst (λ (q : SteppedWords s). InRange (q .walker)) (is-step ∙ sym e) (steady .range w (o .range))
+
+    falls : Going (r .answer) → stepsLeftWords m (r .walker) < stepsLeftWords m w
+    falls = subst (λ (q : SteppedWords s). Going (q .answer) → stepsLeftWords m (q .walker) < stepsLeftWords m w) (is-step ∙ sym e) (steady .falls w (o .range))
+
+  -- ---- a position in hand
+
+  module _ (held : 0 < w .positions .bits) (p : ℕ) (named : p ≡ firstPosition (w .positions)) where
+    -- one past the n refuses the query
+    pub leads-past : n ≤ p → record { walker = w; noted = x; ended = S.refused 10 } ≡ goal
+    unfolding advanceWords reportWords
+    leads-past h =
+        let e : stayWords w (S.refused 10) ≡ advanceWords m N n w = rw (lt-ltb 0 (w .positions .bits) held, ← named, le-leb n p h) in
+        follows _ e .rest
+
+    module _ (there : p < n) where
+      -- the walker after its report
+      abbrev reported : WalkerWords s
+      reported = afterReportWords w .walker
+
+      is-report : record { walker = reported; answer = S.position p } ≡ advanceWords m N n w
+      unfolding advanceWords reportWords
+      is-report = rw (lt-ltb 0 (w .positions .bits) held, ← named, lt-leb n p there)
+
+      -- what follows the report, by the reaction, with f steps
+      followed : ℕ → Reaction d a → OutcomeWords s a
+      followed f r =
+          let u = toldAllWords N (r .tells) reported in
+          cond (r .stop) (record { walker = u; noted = r .noted; ended = S.position p }) (queryWords m N react f n u (r .noted))
+
+      -- the query stops there,
+      pub leads-stops : {y : a} {ds : List d} → react p (w .ray) x ≡ record { noted = y; tells = ds; stop = true }
+          → record { walker = toldAllWords N ds reported; noted = y; ended = S.position p } ≡ goal
+      unfolding followed
+      leads-stops q = let g = follows _ is-report in ap (followed (g .spare)) (sym q) ∙ g .rest
+
+      -- or goes on
+      pub leads-on : {y : a} {ds : List d} → react p (w .ray) x ≡ record { noted = y; tells = ds; stop = false } → Goes m N n react goal w (toldAllWords N ds reported) y
+      unfolding followed
+      leads-on {ds = ds} q =
+          let g = follows _ is-report in
+          let h = falls _ is-report tt in
+          let k = told-left m N n steady ds reported in
+          record {
+            leads = record {
+              way = told-way m N n steady ds reported (record { accepted = o .accepted; tests = o .tests; deep = o .deep; range = in-range _ is-report });
+              steps = g .spare;
+              enough = omega (arith, g .enough);
+              rest = ap (followed (g .spare)) (sym q) ∙ g .rest;
+            };
+            less = omega arith;
+          }
+
+-- ---- on to the next position
+
+-- how a search for positions leaves a query: it goes on after a test, and ends with done or a refusal
+abbrev pub Sought : {s d a : Type 0} (m : ℕ) (N : NodeWords s d) (n : ℕ) (react : ℕ → s → a → Reaction d a) (goal : OutcomeWords s a) (w : WalkerWords s) (x : a) → S.Answer → WalkerWords s → Type 0
+Sought m N n react goal w x (S.tested v) u = Goes m N n react goal w u x
+Sought m N n react goal w x (S.position p) u = ⊥
+Sought m N n react goal w x S.done u = record { walker = u; noted = x; ended = S.done } ≡ goal
+Sought m N n react goal w x (S.refused k) u = record { walker = u; noted = x; ended = S.refused k } ≡ goal
+
+-- what a later turn's search gives, a first one gives too
+sought-after : {s d a : Type 0} (m : ℕ) (N : NodeWords s d) (n : ℕ) (react : ℕ → s → a → Reaction d a) (goal : OutcomeWords s a) (x : a) (w u : WalkerWords s) (b : S.Answer) (v : WalkerWords s)
+    → stepsLeftWords m u < stepsLeftWords m w → Sought m N n react goal u x b v → Sought m N n react goal w x b v
+sought-after m N n react goal x w u (S.tested j) v l h = record { leads = h .leads; less = omega (arith, l, h .less) }
+sought-after m N n react goal x w u (S.position p) v l h = h
+sought-after m N n react goal x w u S.done v l h = h
+sought-after m N n react goal x w u (S.refused k) v l h = h
+
+module _ {s d a : Type 0} {m : ℕ} {N : NodeWords s d} {n : ℕ} {react : ℕ → s → a → Reaction d a} {goal : OutcomeWords s a} {x : a} (steady : Steady m N n) where
+  -- one turn without positions in hand
+  turn-sought : (w : WalkerWords s) → Leads m N n react goal w x → w .positions .bits ≤ 0 → (r : SteppedWords s) → r ≡ advanceWords m N n w
+      → Sought m N n react goal w x (r .answer) (r .walker)
+  turn-sought w L none r e =
+      go (r .answer) (r .walker) (shown steady L r e) (in-range steady L r e) (falls steady L r e) (follows steady L r e .spare) (follows steady L r e .enough) (follows steady L r e .rest)
     where
-      go : (k : ℕ) → stepsLeftWords (nodeCount bytes) (walkerOf ray octant v stack) < k
-          → queryWords (nodeCount bytes) (nodeWordsAt bytes beams) react k n (walkerOf ray octant v stack) x ≡ goal → Follows r
-      go zero h p = absurd (omega arith)
-      go (suc f) h p = record {
-        spare = f;
-        enough = omega arith;
-        rest =
-            ap (λ (u : SteppedWords Beam). followWords (nodeCount bytes) (nodeWordsAt bytes beams) react (u .answer) (u .walker) x (queryWords (nodeCount bytes) (nodeWordsAt bytes beams) react f n))
-            (q ∙ sym (is-step bytes n (T .sized) (walkerOf ray octant v stack) (T .leads .way)))
-            ∙ p;
-      }
-
-  -- what the answer tells of the walker before it
-  shows : (b : Answer) → t .answer ≡ b
-      → let r = turned (walkerOf ray octant v stack) b (groupOf (t .positions)) (groupOf (t .current)) (t .depth) stack₁ in
-      Shows (nodeCount bytes) (nodeWordsAt bytes beams) n (walkerOf ray octant v stack) (r .answer) (r .walker)
-  shows b q = shown bytes n (T .sized) (walkerOf ray octant v stack) (T .leads .way) _ (by-answer b q)
-
-  -- a position is one of the n
-  pub turn-below : (p : ℕ) → t .answer ≡ Position p → p < n
-  unfolding turned
-  turn-below p q = shows (Position p) q .1
-
-  -- nothing is left, or the walk is refused
-  pub turn-done : t .answer ≡ Done → record { walker = walkerOf ray octant v stack; noted = x; ended = S.done } ≡ goal
-  unfolding turned
-  turn-done q = follows _ (by-answer Done q) .rest
-
-  pub turn-refused : (k : ℕ) → t .answer ≡ Refused k → record { walker = walkerOf ray octant v stack; noted = x; ended = S.refused k } ≡ goal
-  unfolding turned
-  turn-refused k q = follows _ (by-answer (Refused k) q) .rest
-
-  refused-ten : (k : ℕ) → t .answer ≡ Refused k → record { walker = walkerOf ray octant v stack; noted = x; ended = S.refused 10 } ≡ goal
-  unfolding turned
-  refused-ten k q = ap (λ (j : ℕ). record { walker = walkerOf ray octant v stack; noted = x; ended = S.refused j }) (sym (shows (Refused k) q)) ∙ turn-refused k q
-
-  -- with positions in hand a turn that reports none is refused, and without any so is one that tests nothing and is not done
-  pub turn-unreported : 0 < v .positions .bits → ((p : ℕ) → t .answer ≡ Position p → ⊥) → record { walker = walkerOf ray octant v stack; noted = x; ended = S.refused 10 } ≡ goal
-  unfolding turned
-  turn-unreported h other = go (t .answer) refl
-    where
-      go : (b : Answer) → t .answer ≡ b → record { walker = walkerOf ray octant v stack; noted = x; ended = S.refused 10 } ≡ goal
-      go (Tested u) q = absurd (omega (arith, shows (Tested u) q .0))
-      go (Position p) q = absurd (other p q)
-      go Done q = absurd (omega (arith, shows Done q))
-      go (Refused k) q = refused-ten k q
-
-  pub turn-untested : v .positions .bits ≤ 0 → ((u : ℕ) → t .answer ≡ Tested u → ⊥) → (t .answer ≡ Done → ⊥)
-      → record { walker = walkerOf ray octant v stack; noted = x; ended = S.refused 10 } ≡ goal
-  unfolding turned
-  turn-untested h other undone = go (t .answer) refl
-    where
-      go : (b : Answer) → t .answer ≡ b → record { walker = walkerOf ray octant v stack; noted = x; ended = S.refused 10 } ≡ goal
-      go (Tested u) q = absurd (other u q)
-      go (Position p) q = absurd (omega (arith, shows (Position p) q .0))
-      go Done q = absurd (undone q)
-      go (Refused k) q = refused-ten k q
-
-  -- the query goes on after a test
-  pub turn-tested : (u : ℕ) → t .answer ≡ Tested u → (v₁ : Walk) → v₁ ≡ afterTest v t
-      → Goes bytes n react goal (walkerOf ray octant v stack) (walkerOf ray octant v₁ stack₁) x
-  unfolding turned
-  turn-tested u q v₁ f =
-      subst (λ (z : Walk). Goes bytes n react goal (walkerOf ray octant v stack) (walkerOf ray octant z stack₁) x) (sym f)
-      (subst (λ (k : ℕ). Goes bytes n react goal (walkerOf ray octant v stack) (holding ray octant k (groupOf (t .positions)) (groupOf (t .current)) (t .depth) stack₁) x) (sym (add-one (v .tests)))
-      (let o = T .leads .way in
-      let z = by-answer (Tested u) q in
-      let g = follows _ z in
-      let h = shows (Tested u) q in
-      let k = falls bytes n (T .sized) (walkerOf ray octant v stack) o _ z (T .fit) tt in
-      record {
+      go : (b : S.Answer) (u : WalkerWords s) → Shows m N n w b u → InRange u → (Going b → stepsLeftWords m u < stepsLeftWords m w) → (k : ℕ) → stepsLeftWords m w ≤ k
+          → followWords m N react b u x (queryWords m N react k n) ≡ goal → Sought m N n react goal w x b u
+      go (S.tested v) u h i f k l q = record {
         leads = record {
-          way = record { accepted = o .accepted; tests = omega (arith, h .1); deep = h .2; range = in-range bytes n (T .sized) (walkerOf ray octant v stack) o _ z (T .fit) };
-          steps = g .spare;
-          enough = omega (arith, g .enough);
-          rest = g .rest;
+          way = record { accepted = ap (N .forged) (h .3) ∙ L .way .accepted; tests = omega (arith, h .1, h .4); deep = h .2; range = i };
+          steps = k;
+          enough = omega (arith, f tt, l);
+          rest = q;
         };
-        less = k;
-      }))
+        less = f tt;
+      }
+      go (S.position p) u h i f k l q = absurd (omega (arith, h .0))
+      go S.done u h i f k l q = q
+      go (S.refused j) u h i f k l q = q
 
-  -- what follows a report, by the reaction, with f steps
-  followed : ℕ → ℕ → Reaction Float a → OutcomeWords Beam a
-  followed p f r =
-      let w = toldAllWords (nodeWordsAt bytes beams) (r .tells) (walkerOf ray octant (afterReport v t) stack₁) in
-      cond (r .stop) (record { walker = w; noted = r .noted; ended = S.position p }) (queryWords (nodeCount bytes) (nodeWordsAt bytes beams) react f n w (r .noted))
+  -- a whole search
+  pub seek-sought : (k : ℕ) (w : WalkerWords s) → Leads m N n react goal w x → w .positions .bits ≤ 0
+      → Sought m N n react goal w x (seekWords m N k n w .answer) (seekWords m N k n w .walker)
+  unfolding seekWords
+  seek-sought zero w L none = turn-sought w L none _ refl
+  seek-sought (suc k) w L none =
+      cond-elim (λ (q : SteppedWords s). Sought m N n react goal w x (q .answer) (q .walker)) (findsNone (advanceWords m N n w)) _ _
+      (λ h. again (advanceWords m N n w .answer) h (turn-sought w L none _ refl) (seek-sought k (advanceWords m N n w .walker))) (λ h. turn-sought w L none _ refl)
+    where
+      u : WalkerWords s
+      u = advanceWords m N n w .walker
 
-  module _ (p : ℕ) (q : t .answer ≡ Position p) {y : a} {ds : List Float} where
-    -- it stops at a position
-    pub turn-stops : react p (record { ray = ray; octant = octant }) x ≡ record { noted = y; tells = ds; stop = true }
-        → record { walker = toldAllWords (nodeWordsAt bytes beams) ds (walkerOf ray octant (afterReport v t) stack₁); noted = y; ended = S.position p } ≡ goal
-    unfolding turned followed
-    turn-stops s = let g = follows _ (by-answer (Position p) q) in ap (followed p (g .spare)) (sym s) ∙ g .rest
-
-    -- or goes on after it
-    pub turn-noted : react p (record { ray = ray; octant = octant }) x ≡ record { noted = y; tells = ds; stop = false } → (v₁ : Walk) → v₁ ≡ afterReport v t
-        → Goes bytes n react goal (walkerOf ray octant v stack) (toldAllWords (nodeWordsAt bytes beams) ds (walkerOf ray octant v₁ stack₁)) y
-    unfolding turned followed
-    turn-noted s v₁ f =
-        subst (λ (z : Walk). Goes bytes n react goal (walkerOf ray octant v stack) (toldAllWords (nodeWordsAt bytes beams) ds (walkerOf ray octant z stack₁)) y) (sym f)
-        (let u = walkerOf ray octant (afterReport v t) stack₁ in
-        let o = T .leads .way in
-        let z = by-answer (Position p) q in
-        let g = follows _ z in
-        let h = falls bytes n (T .sized) (walkerOf ray octant v stack) o _ z (T .fit) tt in
-        let k = told-left bytes ds u in
-        record {
-          leads = record {
-            way =
-                told-way bytes ds u
-                (record { accepted = o .accepted; tests = o .tests; deep = o .deep; range = in-range bytes n (T .sized) (walkerOf ray octant v stack) o _ z (T .fit) });
-            steps = g .spare;
-            enough = omega (arith, g .enough);
-            rest = ap (followed p (g .spare)) (sym s) ∙ g .rest;
-          };
-          less = omega arith;
-        })
+      again : (b : S.Answer) → isTest b && eqb (u .positions .bits) 0 ≡ true → Sought m N n react goal w x b u
+          → (Leads m N n react goal u x → u .positions .bits ≤ 0 → Sought m N n react goal u x (seekWords m N k n u .answer) (seekWords m N k n u .walker))
+          → Sought m N n react goal w x (seekWords m N k n u .answer) (seekWords m N k n u .walker)
+      again (S.tested v) h g rest = sought-after m N n react goal x w u (seekWords m N k n u .answer) (seekWords m N k n u .walker) (g .less) (rest (g .leads) (let z = eqb-true (u .positions .bits) 0 h in omega arith))
+      again (S.position p) h g rest = absurd g
+      again S.done h g rest = absurd (let z : _≡_ {A = ℕ} 0 1 = cc in omega arith)
+      again (S.refused j) h g rest = absurd (let z : _≡_ {A = ℕ} 0 1 = cc in omega arith)

@@ -1,4 +1,3 @@
 pub mod Entry
-pub mod Turns
 pub mod Leads
 pub mod Begins

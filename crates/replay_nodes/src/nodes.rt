@@ -74,7 +74,8 @@ fn masks(case: &[u8]) -> bool {
         real(case, 26),
         real(case, 27),
     );
-    slot::intersect_ray(case, 0, r, octant) == word(case, 29)
+    let e = slot::near_ends(r.direction);
+    slot::intersect_ray(case, 0, node::metas(case, 0), r, e, octant) == word(case, 29)
 }
 
 // The number of the node in a slot, for a ray of octant 0; all ones where its meta's low five bits are below 24.

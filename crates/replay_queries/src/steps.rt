@@ -103,7 +103,7 @@ fn same_walk(ray: &[u8], from: usize, at: usize, record: &[u8], n: usize, first:
         }
         i += 1;
         if is_last(step) {
-            return ended(i == count, count, stepped.walker.tests, reports);
+            return ended(i == count, count, stepped.walker.walk.tests, reports);
         }
         walker = told(stepped, distance_at(ray, from, reports));
         reports = reports_after(step, reports);

@@ -5,7 +5,7 @@ ghost use lib.Bits.{bitAnd};
 ghost use lib.ListN.{length};
 ghost use Rattle.words.specs.Fields.{field};
 ghost use Rattle.words.specs.Ones.{onesBelow};
-ghost use Rattle.node.specs.Node.{nodeFrom, nodeAt, innerBit};
+ghost use Rattle.node.specs.Node.{nodeFrom, nodeAt, MetaWord, innerBit};
 ghost use Rattle.rule.specs.Rule.{pointOk, exponentOk, headOk, childrenOk, slotsOk, nodeRule};
 ghost use Rattle.rule.specs.Tells.{Tells};
 ghost use Rattle.rule.specs.Words.{Bytes, InnerRule, LeafRule, MetaRule, RoomOf, onesTop};
@@ -58,11 +58,10 @@ pub fn child_count(imask: u8) -> u32
 }
 
 // Whether the children of the node at o, number i of m, come after it and exist.
-fn children_ok(s: &[u8], o: usize, m: usize, i: usize) -> bool
-    requires { ⌜ o + 80 ≤ length (now s) ⌝ }
+fn children_ok(s: &[u8], o: usize, imask: u8, m: usize, i: usize) -> bool
+    requires { ⌜ (o + 80 ≤ length (now s)) × (imask ≡ nodeFrom (now s) o .imask) ⌝ }
     ensures { λ r. ⌜ r ≡ childrenOk (nodeFrom (now (s .entry)) o) m i ⌝ }
 {
-    let imask = node::imask(s, o);
     if imask == 0 {
         return true;
     }
@@ -171,12 +170,26 @@ fn room_of(base: u32, n: usize) -> u32
 }
 
 // Whether the eight slots of the node at o meet the rule, with n positions.
-fn slots_ok(s: &[u8], o: usize, n: usize) -> bool
-    requires { ⌜ o + 80 ≤ length (now s) ⌝ }
+fn slots_ok(s: &[u8], o: usize, meta8: u64, imask: u8, n: usize) -> bool
+    requires { ⌜ (o + 80 ≤ length (now s)) × MetaWord (nodeFrom (now s) o) meta8 × (imask ≡ nodeFrom (now s) o .imask) ⌝ }
     ensures { λ r. ⌜ r ≡ slotsOk 8 (nodeFrom (now (s .entry)) o) n ⌝ }
 {
     let room = room_of(node::primitive_base_idx(s, o), n);
-    metas_ok(node::metas(s, o), node::imask(s, o), room)
+    metas_ok(meta8, imask, room)
+}
+
+// Whether the node at o, whose metas and imask are these, meets the node rule as node i of a record of m nodes and n positions.
+pub fn meets_rule(s: &[u8], o: usize, meta8: u64, imask: u8, i: usize, m: usize, n: usize) -> bool
+    requires { ⌜ (o + 80 ≤ length (now s)) × MetaWord (nodeFrom (now s) o) meta8 × (imask ≡ nodeFrom (now s) o .imask) ⌝ }
+    ensures { λ r. ⌜ r ≡ nodeRule (nodeFrom (now (s .entry)) o) m n i ⌝ }
+{
+    if !head_ok(s, o) {
+        return false;
+    }
+    if !children_ok(s, o, imask, m, i) {
+        return false;
+    }
+    slots_ok(s, o, meta8, imask, n)
 }
 
 // Whether node i of a record of m nodes and n positions meets the node rule.
@@ -185,11 +198,5 @@ pub fn node_rule(s: &[u8], i: usize, m: usize, n: usize) -> bool
     ensures { λ r. ⌜ r ≡ nodeRule (nodeAt (now (s .entry)) i) m n i ⌝ }
 {
     let o = 80 * i;
-    if !head_ok(s, o) {
-        return false;
-    }
-    if !children_ok(s, o, m, i) {
-        return false;
-    }
-    slots_ok(s, o, n)
+    meets_rule(s, o, node::metas(s, o), node::imask(s, o), i, m, n)
 }

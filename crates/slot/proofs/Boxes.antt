@@ -7,10 +7,12 @@ use native.Mathlib.Omega.{arith}
 use lib.Ieee.{Float, binary32, round, ofBits}
 use lib.ListN.{getD}
 use Rattle.ray.specs.declared.Ray.{Ray}
+use Rattle.ray.specs.declared.Vec3.{Vec3}
 use Rattle.ray.specs.Ray.{belowZero}
 use Rattle.node.specs.declared.Node.{Node}
 use Rattle.node.specs.Node.{slotOffset, slotFrom}
 use Rattle.slot.specs.Slot.{nearLimit, nearOf, farOf, passes}
+use Rattle.slot.specs.declared.Ends.{Ends}
 use Rattle.slot.specs.Parts.{gridOf, nearEnd, endsOf, boxPasses, slotPasses}
 
 -- the near limit as code writes it
@@ -18,12 +20,16 @@ pub limit-is : (r : Ray) → ofBits binary32 953267991 ≡ nearLimit r
 unfolding nearLimit ofBits round
 limit-is r = refl
 
-pub near-end-lt : (d : Float) → nearEnd d < 2
+near-end-lt : (d : Float) → nearEnd d < 2
 near-end-lt d = go (belowZero d)
   where
     go : (b : Bool) → cond b 1 0 < 2
     go true = omega arith
     go false = omega arith
+
+-- either end of each axis
+pub ends-lt : (d : Vec3) (e : Ends) → e ≡ endsOf d → (e .x < 2) × (e .y < 2) × (e .z < 2)
+ends-lt d e h = rw h (near-end-lt (d .x), near-end-lt (d .y), near-end-lt (d .z))
 
 -- the bytes at the near ends and at the far ends
 module _ (s : List ℕ) (o k : ℕ) where

@@ -1,14 +1,21 @@
 -- The mask slot by slot.
-use mathlib.Core.Path.{_≡_, sym, ap, ap₂, _∙_}
+use mathlib.Core.Path.{_≡_, refl, sym, ap, ap₂, _∙_}
 use mathlib.Core.Bool.{Bool, true, false}
 use mathlib.Core.List.{List}
-use Prim.Native.Nat.{ℕ, _+_, _*_, _%_, _^_, _<_}
+use Prim.Native.Nat.{ℕ, suc, _+_, _*_, _/_, _%_, _^_, _<_}
+use native.Mathlib.Nat.{mod-eq-of-lt, zero-mul}
 use native.Mathlib.Numerals.{add-one}
-use lib.Bits.{bitOr, or-zero-r}
+use native.Mathlib.Decide.{decLt}
+use native.Mathlib.Omega.{arith}
+use lib.ListN.{length, getD, set}
+use lib.Seq.{getD-set-same, getD-set-other}
+use lib.Bits.{bitAnd, bitOr, and-mask, and-zero-r}
 use lib.Ieee.{Float}
 use Rattle.words.specs.Fields.{field}
 use Rattle.words.specs.Ors.{orOf}
+use Rattle.words.proofs.Fields.{field-lt, field-and}
 use Rattle.words.proofs.Ors.{or-of-congr}
+use Rattle.words.proofs.Upto.{equal}
 use Rattle.ray.specs.declared.Ray.{Ray}
 use Rattle.node.specs.declared.Node.{Node}
 use Rattle.node.specs.declared.Slot.{Slot}
@@ -18,52 +25,96 @@ use Rattle.decode.specs.Meta.{childBits, bitIndex, eachByte}
 use Rattle.decode.proofs.Decode.{child-byte, index-byte, index-lt}
 use Rattle.slot.specs.Mask.{onlyIf, hitBits, passesSlot, slotHit, hitMask}
 use Rattle.slot.specs.Slot.{nearLimit, passes}
-use Rattle.slot.specs.Parts.{gridOf, endsOf, slotPasses, wordHit, wordMask, Placed}
+use Rattle.slot.specs.Parts.{gridOf, endsOf, slotPasses, wordHit, wordMask, Marks, Placed}
 use Rattle.slot.specs.declared.Grid.{Grid}
 use Rattle.slot.specs.declared.Ends.{Ends}
 use Rattle.slot.proofs.Boxes.{slot-is}
 
--- ---- a turn of the loop
-more : (pass : ℕ → Bool) (child index k : ℕ) → wordMask (k + 1) pass child index ≡ bitOr (wordMask k pass child index) (wordHit pass child index k)
-unfolding wordMask orOf
-more pass child index k = ap (λ (x : ℕ). wordMask x pass child index) (add-one k)
+-- ---- the marks, one more
 
-pub turn-on : (pass : ℕ → Bool) (child index k mask a b : ℕ) → mask ≡ wordMask k pass child index → pass k ≡ true → a ≡ field 8 k child → b ≡ field 8 k index
-    → bitOr mask ((a * 2 ^ b) % 2 ^ 32) ≡ wordMask (k + 1) pass child index
-unfolding wordHit
-turn-on pass child index k mask a b e t p q =
-    ap₂ bitOr e
-    (ap₂ (λ (x y : ℕ). (x * 2 ^ y) % 2 ^ 32) p q
-    ∙ ap (λ (c : Bool). onlyIf c ((field 8 k child * 2 ^ field 8 k index) % 2 ^ 32)) (sym t))
-    ∙ sym (more pass child index k)
+pub marks-next : (pass : ℕ → Bool) (l : List ℕ) (k v : ℕ) → k < length l → v ≡ onlyIf (pass k) 7 → ((j : ℕ) → j < k → getD l j 0 ≡ onlyIf (pass j) 7)
+    → (j : ℕ) → j < k + 1 → getD (set l k v) j 0 ≡ onlyIf (pass j) 7
+marks-next pass l k v h e m j q = go (decLt j k)
+  where
+    go : Dec (j < k) → getD (set l k v) j 0 ≡ onlyIf (pass j) 7
+    go (yes p) = getD-set-other l k j v 0 (omega arith) ∙ m j p
+    go (no p) = let s : j ≡ k = omega arith in rw s (getD-set-same l k v 0 h ∙ e)
 
-pub turn-off : (pass : ℕ → Bool) (child index k mask : ℕ) → mask ≡ wordMask k pass child index → pass k ≡ false → mask ≡ wordMask (k + 1) pass child index
-unfolding wordHit
-turn-off pass child index k mask e t =
-    e ∙ sym (or-zero-r (wordMask k pass child index))
-    ∙ ap (λ (c : Bool). bitOr (wordMask k pass child index) (onlyIf c ((field 8 k child * 2 ^ field 8 k index) % 2 ^ 32))) (sym t)
-    ∙ sym (more pass child index k)
+-- ---- a turn of the mask's loop
+
+-- x is w without its k low bytes
+abbrev pub Shifted : ℕ → ℕ → ℕ → Type 0
+Shifted w k x = (j : ℕ) → field 8 j x ≡ field 8 (k + j) w
+
+pub shifted-none : (w : ℕ) → Shifted w 0 w
+shifted-none w j = let e : j ≡ 0 + j = omega arith in ap (λ (i : ℕ). field 8 i w) e
+
+pub shifted-next : (w k x : ℕ) → Shifted w k x → Shifted w (k + 1) (x / 256)
+unfolding field
+shifted-next w k x h j = let e : k + suc j ≡ k + 1 + j = omega arith in h (suc j) ∙ ap (λ (i : ℕ). field 8 i w) e
+
+low-is : (w k x a : ℕ) → Shifted w k x → a ≡ field 8 0 x → a ≡ field 8 k w
+low-is w k x a h e = let z : k + 0 ≡ k = omega arith in e ∙ h 0 ∙ ap (λ (i : ℕ). field 8 i w) z
+
+pub place-lt : (index k y b : ℕ) → Placed index → k < 8 → Shifted index k y → b ≡ field 8 0 y → b < 32
+place-lt index k y b p l h e = let q = low-is index k y b h e in omega (arith, p .place k l)
+
+pub turn : (child index k mask x y a b : ℕ) → mask ≡ wordMask k child index → Shifted child k x → Shifted index k y → a ≡ field 8 0 x → b ≡ field 8 0 y
+    → bitOr mask ((a * 2 ^ b) % 2 ^ 32) ≡ wordMask (k + 1) child index
+unfolding wordMask wordHit orOf
+turn child index k mask x y a b e s t p q =
+    ap₂ bitOr e (ap₂ (λ (c i : ℕ). (c * 2 ^ i) % 2 ^ 32) (low-is child k x a s p) (low-is index k y b t q))
+    ∙ ap (λ (z : ℕ). wordMask z child index) (sym (add-one k))
 
 -- ---- the decoded words
 pub placed : (o w : ℕ) → o < 8 → Placed (eachByte (bitIndex o) w)
 placed o w h = record { place = λ k l. rw (index-byte o w k h l) (index-lt o (field 8 k w) h) }
 
-pub mask-is : (v : Node) (r : Ray) (o w : ℕ) (pass : ℕ → Bool) → o < 8 → MetaWord v w → ((k : ℕ) → k < 8 → pass k ≡ passesSlot v r k)
-    → wordMask 8 pass (eachByte childBits w) (eachByte (bitIndex o) w) ≡ hitMask v r o
+-- a mark lets a slot's bits through, all of them
+through : (p : Bool) (c i : ℕ) → c < 8 → (bitAnd c (onlyIf p 7) * 2 ^ i) % 2 ^ 32 ≡ onlyIf p ((c * 2 ^ i) % 2 ^ 32)
+through true c i h = ap (λ (x : ℕ). (x * 2 ^ i) % 2 ^ 32) (and-mask c 3 ∙ mod-eq-of-lt h)
+through false c i h = rw (and-zero-r c, zero-mul (2 ^ i))
+
+child-bits-lt : (meta : ℕ) → meta < 256 → childBits meta < 8
+child-bits-lt meta h = omega arith
+
+pub mask-is : (v : Node) (r : Ray) (o w marks : ℕ) (pass : ℕ → Bool) → o < 8 → MetaWord v w → Marks pass marks → ((k : ℕ) → k < 8 → pass k ≡ passesSlot v r k)
+    → wordMask 8 (bitAnd (eachByte childBits w) marks) (eachByte (bitIndex o) w) ≡ hitMask v r o
 unfolding wordMask hitMask wordHit slotHit hitBits
-mask-is v r o w pass h m p =
-    or-of-congr 8 (wordHit pass (eachByte childBits w) (eachByte (bitIndex o) w)) (slotHit v r o)
-    (λ k l. rw (p k l, child-byte w k l, index-byte o w k h l, m .bytes k l))
+mask-is v r o w marks pass h m g p =
+    or-of-congr 8 (wordHit (bitAnd (eachByte childBits w) marks) (eachByte (bitIndex o) w)) (slotHit v r o)
+    (λ k l. rw (field-and 8 k (eachByte childBits w) marks, child-byte w k l, index-byte o w k h l, g .byte k l, p k l, ← m .bytes k l)
+        (through (passesSlot v r k) (childBits (field 8 k w)) (bitIndex o (field 8 k w)) (child-bits-lt (field 8 k w) (field-lt 8 k w))))
+
+-- where nothing is marked there is nothing in the mask
+unmarked : (p : Bool) (n : ℕ) → onlyIf p 7 ≡ 0 → onlyIf p n ≡ 0
+unmarked true n e = absurd (omega arith)
+unmarked false n e = refl
+
+zero-field : (k : ℕ) → k < 8 → field 8 k 0 ≡ 0
+unfolding field
+zero-field = equal (λ k. field 8 k 0) (λ k. 0) 8 tt
+
+no-bits : orOf 8 (λ k. 0) ≡ 0
+unfolding orOf
+no-bits = refl
+
+pub mask-none : (v : Node) (r : Ray) (o marks : ℕ) (pass : ℕ → Bool) → marks ≡ 0 → Marks pass marks → ((k : ℕ) → k < 8 → pass k ≡ passesSlot v r k) → hitMask v r o ≡ 0
+unfolding hitMask slotHit
+mask-none v r o marks pass z g p =
+    or-of-congr 8 (slotHit v r o) (λ k. 0)
+    (λ k l. unmarked (passesSlot v r k) _ (ap (λ (b : Bool). onlyIf b 7) (sym (p k l)) ∙ sym (g .byte k l) ∙ ap (field 8 k) z ∙ zero-field k l))
+    ∙ no-bits
 
 -- ---- the whole test, as code makes it up
-slot-passed : (s : List ℕ) (o : ℕ) (r : Ray) (e : Ends) (g : Grid) (near : Float) → e ≡ endsOf (r .direction) → g ≡ gridOf (nodeFrom s o) r → near ≡ nearLimit r
-    → (k : ℕ) → k < 8 → slotPasses s o e g near (r .tmax) k ≡ passesSlot (nodeFrom s o) r k
-slot-passed s o r e g near p q n k l =
-    rw (p, q, n) (slot-is s o k (nodeFrom s o) r) ∙ ap (λ (t : Slot). passes (nodeFrom s o) t r) (sym (slots-at s o k l))
+module _ (s : List ℕ) (o : ℕ) (r : Ray) (octant : ℕ) (e : Ends) (g : Grid) (near : Float) (marks : ℕ) (p : e ≡ endsOf (r .direction)) (q : g ≡ gridOf (nodeFrom s o) r)
+    (n : near ≡ nearLimit r) (m : Marks (slotPasses s o e g near (r .tmax)) marks) where
+  slot-passed : (k : ℕ) → k < 8 → slotPasses s o e g near (r .tmax) k ≡ passesSlot (nodeFrom s o) r k
+  slot-passed k l = rw (p, q, n) (slot-is s o k (nodeFrom s o) r) ∙ ap (λ (t : Slot). passes (nodeFrom s o) t r) (sym (slots-at s o k l))
 
-pub mask-whole : (s : List ℕ) (o : ℕ) (r : Ray) (octant : ℕ) (e : Ends) (g : Grid) (near : Float) (w child index : ℕ) → octant < 8
-    → e ≡ endsOf (r .direction) → g ≡ gridOf (nodeFrom s o) r → near ≡ nearLimit r
-    → MetaWord (nodeFrom s o) w → child ≡ eachByte childBits w → index ≡ eachByte (bitIndex octant) w
-    → wordMask 8 (slotPasses s o e g near (r .tmax)) child index ≡ hitMask (nodeFrom s o) r octant
-mask-whole s o r octant e g near w child index l p q n m f d =
-    rw (f, d) (mask-is (nodeFrom s o) r octant w (slotPasses s o e g near (r .tmax)) l m (slot-passed s o r e g near p q n))
+  pub nothing-marked : marks ≡ 0 → hitMask (nodeFrom s o) r octant ≡ 0
+  nothing-marked z = mask-none (nodeFrom s o) r octant marks (slotPasses s o e g near (r .tmax)) z m slot-passed
+
+  pub mask-whole : (w child index : ℕ) → octant < 8 → MetaWord (nodeFrom s o) w → child ≡ eachByte childBits w → index ≡ eachByte (bitIndex octant) w
+      → wordMask 8 (bitAnd child marks) index ≡ hitMask (nodeFrom s o) r octant
+  mask-whole w child index l d f h = rw (f, h) (mask-is (nodeFrom s o) r octant w marks (slotPasses s o e g near (r .tmax)) l d m slot-passed)

@@ -1,6 +1,7 @@
 -- What the parts of the test of eight slots compute, for their contracts.
 use mathlib.Core.Bool.{Bool, cond}
 use mathlib.Core.List.{List}
+use mathlib.Core.Path.{_≡_}
 use Prim.Native.Nat.{ℕ, _+_, _-_, _*_, _%_, _^_, _<_}
 use lib.Ieee.{Float, binary32, ofBits, le}
 use lib.ListN.{getD}
@@ -63,15 +64,19 @@ slotPasses s o e g near tmax k =
     (getD s (o + slotOffset 0 (1 - e .x) k) 0) (getD s (o + slotOffset 1 (1 - e .y) k) 0) (getD s (o + slotOffset 2 (1 - e .z) k) 0)
     g near tmax
 
+-- a byte for each slot: 7 where it is passed, 0 where not
+pub record Marks (pass : ℕ → Bool) (w : ℕ) : Type 0 where
+  pub byte : (k : ℕ) → k < 8 → field 8 k w ≡ onlyIf (pass k) 7
+
 -- what slot k puts in, by the words of child bits and of indices
-unfoldable pub wordHit : (ℕ → Bool) → ℕ → ℕ → ℕ → ℕ
+unfoldable pub wordHit : ℕ → ℕ → ℕ → ℕ
 unfolding field
-wordHit pass child index k = onlyIf (pass k) ((field 8 k child * 2 ^ field 8 k index) % 2 ^ 32)
+wordHit child index k = (field 8 k child * 2 ^ field 8 k index) % 2 ^ 32
 
 -- the first n slots
-unfoldable pub wordMask : ℕ → (ℕ → Bool) → ℕ → ℕ → ℕ
+unfoldable pub wordMask : ℕ → ℕ → ℕ → ℕ
 unfolding orOf wordHit
-wordMask n pass child index = orOf n (wordHit pass child index)
+wordMask n child index = orOf n (wordHit child index)
 
 -- each index is a place of a word of 32 bits
 pub record Placed (index : ℕ) : Type 0 where

@@ -1,17 +1,17 @@
 // Internal: a ray against the eight slot boxes of a node, as a mask of children and positions (cwbvh/node.rs).
 ghost use mathlib.Core.Path.{_≡_};
 ghost use Prim.Native.Nat.{_+_, _-_, _%_, _≤_, _<_};
-ghost use lib.Bits.{bitXor};
+ghost use lib.Bits.{bitAnd, bitXor};
 ghost use lib.ListN.{length};
-ghost use Rattle.node.specs.Node.{nodeFrom, childIndex};
+ghost use Rattle.node.specs.Node.{nodeFrom, MetaWord, childIndex};
 ghost use Rattle.slot.specs.Slot.{planeAt};
-ghost use Rattle.slot.specs.Mask.{hitMask};
-ghost use Rattle.slot.specs.Parts.{extentsOf, pointOf, gridOf, nearEnd, endsOf, boxPasses, slotPasses, wordMask, Placed};
+ghost use Rattle.slot.specs.Mask.{onlyIf, hitMask};
+ghost use Rattle.slot.specs.Parts.{extentsOf, pointOf, gridOf, nearEnd, endsOf, boxPasses, slotPasses, wordMask, Marks, Placed};
 use ray::Ray;
 use ray::Vec3;
 
 // No slot counts nearer than this.
-const EPSILON: f32 = 0.0001;
+const NEAR_LIMIT: f32 = 0.0001;
 
 // The ray in a node's grid: what a step of the grid adds to the distance on each axis, and the distances of p's planes.
 pub struct Grid {
@@ -113,43 +113,68 @@ fn slot_passes(s: &[u8], o: usize, e: Ends, g: Grid, near: f32, tmax: f32, k: us
     box_passes(nx, ny, nz, fx, fy, fz, g, near, tmax)
 }
 
-// The bits of the slots that the ray passes, each at its index. Test and mask stand in one loop, which compiles to no branch.
-fn hit_mask(
-    s: &[u8],
-    o: usize,
-    e: Ends,
-    g: Grid,
-    near: f32,
-    tmax: f32,
-    child8: u64,
-    index8: u64,
-) -> u32
-    requires { ⌜ (o + 80 ≤ length (now s)) × (e .x < 2) × (e .y < 2) × (e .z < 2) × Placed index8 ⌝ }
-    ensures { λ r. ⌜ r ≡ wordMask 8 (slotPasses (now (s .entry)) o e g near tmax) child8 index8 ⌝ }
+// 7 where the ray passes a slot, 0 where not.
+fn mark(passes: bool) -> u8
+    ensures { λ r. ⌜ r ≡ onlyIf passes 7 ⌝ }
 {
+    if passes { 7 } else { 0 }
+}
+
+// A byte for each slot of the node at o, its mark. The loop compiles to no branch, four slots at once.
+fn marks(s: &[u8], o: usize, e: Ends, g: Grid, near: f32, tmax: f32) -> u64
+    requires { ⌜ (o + 80 ≤ length (now s)) × (e .x < 2) × (e .y < 2) × (e .z < 2) ⌝ }
+    ensures { λ r. ⌜ Marks (slotPasses (now (s .entry)) o e g near tmax) r ⌝ }
+{
+    let mut marks = [0u8; 8];
+    let mut k: usize = 0;
+    while k < 8 {
+        marks[k] = mark(slot_passes(s, o, e, g, near, tmax, k));
+        k += 1;
+    }
+    words::load_u64(&marks, 0)
+}
+
+// The bits of the marked slots, each at its index.
+fn marked_bits(marks: u64, child8: u64, index8: u64) -> u32
+    requires { ⌜ Placed index8 ⌝ }
+    ensures { λ r. ⌜ r ≡ wordMask 8 (bitAnd child8 marks) index8 ⌝ }
+{
+    let mut child = child8 & marks;
+    let mut index = index8;
     let mut mask: u32 = 0;
     let mut k: u32 = 0;
     while k < 8 {
-        if slot_passes(s, o, e, g, near, tmax, k as usize) {
-            mask |= words::byte(child8, k) << words::byte(index8, k);
-        }
+        mask |= words::low_byte(child) << words::low_byte(index);
+        child = child / 256;
+        index = index / 256;
         k += 1;
     }
     mask
 }
 
-// The hit mask of the node at o for a ray of this octant.
-pub fn intersect_ray(s: &[u8], o: usize, ray: Ray, octant: u32) -> u32
-    requires { ⌜ (o + 80 ≤ length (now s)) × (octant < 8) ⌝ }
+// The ends that a ray of this direction meets first: once for a ray, whatever nodes it meets.
+pub fn near_ends(direction: Vec3) -> Ends
+    ensures { λ r. ⌜ r ≡ endsOf direction ⌝ }
+{
+    Ends {
+        x: near_end(direction.x),
+        y: near_end(direction.y),
+        z: near_end(direction.z),
+    }
+}
+
+// The hit mask of the node at o, whose metas are meta8, for a ray of this octant that meets the ends e first.
+pub fn intersect_ray(s: &[u8], o: usize, meta8: u64, ray: Ray, e: Ends, octant: u32) -> u32
+    requires { ⌜ (o + 80 ≤ length (now s)) × MetaWord (nodeFrom (now s) o) meta8 × (e ≡ endsOf (ray .direction)) × (octant < 8) ⌝ }
     ensures { λ r. ⌜ r ≡ hitMask (nodeFrom (now (s .entry)) o) ray octant ⌝ }
 {
     let g = ray_in_grid(s, o, ray);
-    let x = near_end(ray.direction.x);
-    let y = near_end(ray.direction.y);
-    let z = near_end(ray.direction.z);
-    let e = Ends { x, y, z };
-    let bits = decode::get_child_and_index_bits(node::metas(s, o), octant);
-    hit_mask(s, o, e, g, EPSILON, ray.tmax, bits.child, bits.index)
+    let on = marks(s, o, e, g, NEAR_LIMIT, ray.tmax);
+    if on == 0 {
+        return 0;
+    }
+    let bits = decode::get_child_and_index_bits(meta8, octant);
+    marked_bits(on, bits.child, bits.index)
 }
 
 // The number of the child that a bit of a hit mask stands for. The low byte of group is the node's imask, above which hit bits may stand:

@@ -5,19 +5,21 @@ use Prim.Native.Nat.{ℕ}
 use lib.ListN.{replicate}
 use Rattle.ray.specs.declared.Ray.{Ray}
 use Rattle.ray.specs.Ray.{octantOf, acceptedRay}
-use Rattle.walk.specs.WordStep.{noGroup, freshWords}
+use Rattle.walk.specs.WordStep.{freshWords}
 use Rattle.walk_record.specs.Beam.{beamOf}
+use Rattle.advance.specs.declared.Walk.{Walk}
+use Rattle.advance.specs.Turn.{begun, walkerOf}
 use Rattle.traverse.specs.Walker.{Begun, noWalker, started}
 
 module _ (r : Ray) where
   by : Bool → Begun
   by a = elim a [ true ↦ record { walker = freshWords (beamOf r); refused = 0 } | false ↦ record { walker = noWalker; refused = 9 } ]
 
-  pub starts : (q : Ray) (o : ℕ) → q ≡ r → o ≡ octantOf (r .direction) → acceptedRay q ≡ true
-      → record { walker = record { ray = record { ray = q; octant = o }; tests = 0; positions = noGroup; current = record { base = 0; bits = 0x8000_0000 }; depth = 0; stack = replicate 32 0 }; refused = 0 } ≡ started r
+  pub starts : (q : Ray) (o : ℕ) (v : Walk) → q ≡ r → o ≡ octantOf (r .direction) → v ≡ begun → acceptedRay q ≡ true
+      → record { walker = walkerOf q o v (replicate 32 0); refused = 0 } ≡ started r
   unfolding started by
-  starts q o e f h =
-      (λ i. record { walker = record { ray = record { ray = e i; octant = f i }; tests = 0; positions = noGroup; current = record { base = 0; bits = 0x8000_0000 }; depth = 0; stack = replicate 32 0 }; refused = 0 })
+  starts q o v e f g h =
+      (λ i. record { walker = walkerOf (e i) (f i) (g i) (replicate 32 0); refused = 0 })
       ∙ sym (ap by (ap acceptedRay (sym e) ∙ h))
 
   pub refuses : (q : Ray) → q ≡ r → acceptedRay q ≡ false → record { walker = noWalker; refused = 9 } ≡ started r

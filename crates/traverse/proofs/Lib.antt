@@ -1,5 +1,5 @@
-pub mod Turned
 pub mod Tests
 pub mod Begun
+pub mod Reports
 pub mod Steps
 pub mod Calls

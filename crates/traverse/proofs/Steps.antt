@@ -2,12 +2,14 @@
 use mathlib.Core.Path.{_≡_, refl, sym, ap, _∙_, subst}
 use mathlib.Core.Bool.{Bool, true, false, _&&_, _||_, cond}
 use mathlib.Core.List.{List}
-use Prim.Native.Nat.{ℕ, _%_, _<_}
+use Prim.Native.Nat.{ℕ, _%_}
 use native.Mathlib.Omega.{arith}
 use lib.Dec.{eqb, leb, ltb, T}
 use lib.ListN.{length}
 use lib.Ieee.{Float, lt}
 use borrow.Author.Tests.{leb-true, eqb-true, ltb-false}
+use Rattle.slot.specs.declared.Ends.{Ends}
+use Rattle.slot.specs.Parts.{endsOf}
 use Rattle.record_shape.specs.Record.{nodeCount}
 use Rattle.walk.specs.Step as S
 use Rattle.walk.specs.Step.{sizesFit}
@@ -109,20 +111,16 @@ module _ (bytes : List ℕ) (n : ℕ) (w : WalkerWords Beam) where
     own-say true b c e = absurd (subst T e tt)
 
     -- what the core asks, of a walker that is not forged
-    pub walks : forged ≡ false → Walkable bytes n (w .ray .octant) (w .depth) 32
-    walks e =
+    pub walks : forged ≡ false → (e : Ends) → e ≡ endsOf (w .ray .ray .direction) → Walkable bytes n (w .ray .ray) e (w .ray .octant) (w .depth) 32
+    walks h e q =
         let s = sizes-say (leb n 65536) (leb m 65535) (f .sizes) in
-        let o = own-say (forgedBeam (w .ray)) (ltb 32 (w .depth)) (ltb m (w .tests)) e in
+        let o = own-say (forgedBeam (w .ray)) (ltb 32 (w .depth)) (ltb m (w .tests)) h in
         record {
           whole = eqb-true (length bytes % 80) 0 (f .whole);
           nodes = leb-true m 65535 (s .1);
           positions = leb-true n 65536 (s .0);
+          ends = q;
           eight = beam-laws .octant-lt (w .ray) (o .0);
           deep = ltb-false 32 (w .depth) (o .1);
           stack = omega arith;
         }
-
-    pub tests-fit : forged ≡ false → w .tests < 65536
-    tests-fit e =
-        let o = own-say (forgedBeam (w .ray)) (ltb 32 (w .depth)) (ltb m (w .tests)) e in
-        omega (arith, ltb-false m (w .tests) (o .2), walks e .nodes)

@@ -17,7 +17,7 @@ use Rattle.walk.specs.WordStep.{WalkerWords, SteppedWords, noGroup, freshWords,
 use Rattle.walk_record.specs.Beam.{Beam, beamOf, forgedBeam, beams}
 use Rattle.walk_record.specs.Record.{nodeWordsAt}
 use Rattle.walk_record.specs.Walk.{stepAt}
-use Rattle.advance.specs.Turn.{groupOf, answerOf}
+use Rattle.advance.specs.Turn.{answerOf, walkerOf}
 use Rattle.traverse.specs.declared.Walker.{Walker}
 use Rattle.traverse.specs.declared.Stepped.{Stepped}
 use Rattle.traverse.specs.declared.Started.{Started}
@@ -25,14 +25,7 @@ use Rattle.traverse.specs.declared.Started.{Started}
 -- ---- the structs in the requirements' terms
 
 abbrev pub wordsOf : Walker → WalkerWords Beam
-wordsOf w = record {
-  ray = record { ray = w .ray; octant = w .octant };
-  tests = w .tests;
-  positions = groupOf (w .positions);
-  current = groupOf (w .current);
-  depth = w .depth;
-  stack = w .stack;
-}
+wordsOf w = walkerOf (w .ray) (w .octant) (w .walk) (w .stack)
 
 -- the walker after a step with the step's answer: a node tested, a position reported, done, or refused with the number of a cause
 abbrev pub steppedOf : Stepped → SteppedWords Beam

@@ -1,15 +1,20 @@
 // The walk of a ray through a record, step by step (cwbvh/traverse_macro.rs). A walker goes in by value, and its successor comes out.
 pub use advance::Answer;
 pub use advance::Group;
+pub use advance::Walk;
 ghost use mathlib.Core.Path.{_≡_};
-ghost use Prim.Native.Nat.{_<_};
+ghost use mathlib.Core.List.{List};
+ghost use Prim.Native.Nat.{ℕ, _≤_, _<_};
 ghost use lib.Ieee.{eq};
 ghost use Rattle.ray.specs.Ray.{rayOf};
 ghost use Rattle.walk_record.specs.Beam.{ownInverse, forgedBeam, beams};
 ghost use Rattle.record_shape.specs.Record.{nodeCount};
-ghost use Rattle.walk.specs.WordStep.{emptiedWords, advanceWords};
+ghost use Rattle.walk.specs.WordStep.{emptiedWords, reportWords, advanceWords};
 ghost use Rattle.walk_record.specs.Record.{nodeWordsAt};
-ghost use Rattle.advance.specs.Turn.{groupOf, holding, turnedBy, Walkable};
+ghost use Rattle.ray.specs.declared.Ray as declared;
+ghost use Rattle.slot.specs.declared.Ends as slots;
+ghost use Rattle.slot.specs.Parts.{endsOf};
+ghost use Rattle.advance.specs.Turn.{groupOf, walkerOf, turned, Walkable};
 ghost use Rattle.traverse.specs.Walker.{wordsOf, steppedOf, startedOf, started, toldWalker, stepBytes, sizesCause, isForged, isOver};
 use advance::Turn;
 use ray::Ray;
@@ -19,10 +24,7 @@ use ray::Vec3;
 pub struct Walker {
     pub ray: Ray,
     pub octant: u32,
-    pub tests: u32,
-    pub positions: Group,
-    pub current: Group,
-    pub depth: u32,
+    pub walk: Walk,
     pub stack: [u64; 32],
 }
 
@@ -104,31 +106,28 @@ fn is_forged(ray: Ray, octant: u32, depth: u32, tests: u32, m: usize) -> bool
 }
 
 // Whether there are no nodes, only the first is in hand, and nothing waits.
-fn is_over(m: usize, positions: Group, current: Group, depth: u32, octant: u32) -> bool
+fn is_over(m: usize, walk: Walk, octant: u32) -> bool
     requires { ⌜ octant < 8 ⌝ }
-    ensures { λ r. ⌜ r ≡ isOver m (groupOf positions) (groupOf current) depth octant ⌝ }
+    ensures { λ r. ⌜ r ≡ isOver m (groupOf (walk .positions)) (groupOf (walk .current)) (walk .depth) octant ⌝ }
 {
-    let base = current.base;
-    let bits = current.bits;
+    let current = walk.current;
     if m != 0 {
         return false;
     }
-    if positions.bits != 0 {
+    if walk.positions.bits != 0 {
         return false;
     }
-    if bits < 0x100_0000 {
+    if current.bits < 0x100_0000 {
         return false;
     }
-    let top = words::highest(bits);
-    let child = slot::hit_child(base, bits, top, octant);
-    if child != 0 {
+    if advance::first_child(current, octant) != 0 {
         return false;
     }
-    let rest = words::clear_highest(bits, top);
-    if rest >= 0x100_0000 {
+    let rest = advance::rest_of(current);
+    if rest.bits >= 0x100_0000 {
         return false;
     }
-    depth == 0
+    walk.depth == 0
 }
 
 // The walker with nothing in hand, done.
@@ -136,72 +135,49 @@ fn emptied(w: Walker) -> Stepped
     ensures { λ r. ⌜ steppedOf r ≡ emptiedWords (wordsOf w) ⌝ }
 {
     let hand = Group { base: 0, bits: 0 };
-    let walker = Walker { current: hand, ..w };
+    let walk = w.walk;
+    let empty = Walk {
+        current: hand,
+        ..walk
+    };
+    let walker = Walker { walk: empty, ..w };
     Stepped {
         walker,
         answer: Answer::Done,
     }
 }
 
-// A turn of a walk whose stack is an array.
-fn turn(
-    ray: Ray,
-    octant: u32,
-    tests: u32,
-    positions: Group,
-    current: Group,
-    depth: u32,
-    stack: &mut [u64; 32],
-    record: &[u8],
-    n: usize,
-) -> Turn
-    requires { ⌜ Walkable (now «record») n octant depth 32 ⌝ }
-    ensures { λ r. ⌜ turnedBy (holding ray octant tests (groupOf positions) (groupOf current) depth (now (stack .entry))) r (now (stack .exit)) ≡ advanceWords (nodeCount (now («record» .entry))) (nodeWordsAt (now («record» .entry)) beams) n (holding ray octant tests (groupOf positions) (groupOf current) depth (now (stack .entry))) ⌝ }
+// Reports the highest of the positions in hand, on a record taken to have n positions.
+fn report(walk: Walk, n: usize) -> Turn
+    requires { ⌜ (0 < walk .positions .bits) × (n ≤ 65536) ⌝ }
+    ensures { λ r. ⌜ ((ray : declared.Ray) (octant : ℕ) (stack : List ℕ) → turned ray octant r stack ≡ reportWords n (walkerOf ray octant walk stack)) ⌝ }
 {
-    advance::advance(
-        ray,
-        octant,
-        tests,
-        positions,
-        current,
-        depth,
-        stack,
-        record,
-        n,
-    )
+    let held = walk.positions;
+    let p = advance::first_position(held);
+    if p >= n {
+        return Turn {
+            answer: Answer::Refused(10),
+            walk,
+        };
+    }
+    let positions = advance::rest_of(held);
+    let left = Walk { positions, ..walk };
+    Turn {
+        answer: Answer::Position(p as u32),
+        walk: left,
+    }
 }
 
-// The walker after a turn of its own, whose stack is given.
-fn after(w: Walker, t: Turn, stack: [u64; 32]) -> Stepped
-    requires { ⌜ w .tests < 65536 ⌝ }
-    ensures { λ r. ⌜ steppedOf r ≡ turnedBy (wordsOf w) t stack ⌝ }
+// One turn of a walk whose stack is an array: a report where positions are in hand, else one test.
+fn turn(walk: Walk, ray: Ray, octant: u32, stack: &mut [u64; 32], record: &[u8], n: usize) -> Turn
+    requires { ⌜ ((e : slots.Ends) → e ≡ endsOf (ray .direction) → Walkable (now «record») n ray e octant (walk .depth) 32) ⌝ }
+    ensures { λ r. ⌜ turned ray octant r (now (stack .exit)) ≡ advanceWords (nodeCount (now («record» .entry))) (nodeWordsAt (now («record» .entry)) beams) n (walkerOf ray octant walk (now (stack .entry))) ⌝ }
 {
-    let answer = t.answer;
-    let positions = t.positions;
-    let current = t.current;
-    match answer {
-        Answer::Tested(v) => {
-            let walker = Walker {
-                tests: w.tests + 1,
-                positions,
-                current,
-                depth: t.depth,
-                stack,
-                ..w
-            };
-            Stepped { walker, answer }
-        }
-        Answer::Position(p) => {
-            let walker = Walker {
-                positions,
-                stack,
-                ..w
-            };
-            Stepped { walker, answer }
-        }
-        Answer::Done => Stepped { walker: w, answer },
-        Answer::Refused(k) => Stepped { walker: w, answer },
+    if walk.positions.bits > 0 {
+        return report(walk, n);
     }
+    let e = slot::near_ends(ray.direction);
+    advance::seek(walk, 0, ray, e, octant, stack, record, n)
 }
 
 impl Walker {
@@ -210,20 +186,12 @@ impl Walker {
         ensures { λ r. ⌜ startedOf r ≡ started (rayOf origin direction tmin tmax) ⌝ }
     {
         let ray = Ray::new(origin, direction, tmin, tmax);
-        let none = Group { base: 0, bits: 0 };
-        let first = Group {
-            base: 0,
-            bits: 0x8000_0000,
-        };
         let stack = [0u64; 32];
         if ray.accepted() {
             let walker = Walker {
                 ray,
                 octant: ray::octant(direction),
-                tests: 0,
-                positions: none,
-                current: first,
-                depth: 0,
+                walk: advance::begin(),
                 stack,
             };
             return Started { walker, refused: 0 };
@@ -240,13 +208,17 @@ impl Walker {
             tmin: 0.0,
             tmax: 0.0,
         };
-        let walker = Walker {
-            ray: nothing,
-            octant: 0,
+        let none = Group { base: 0, bits: 0 };
+        let walk = Walk {
             tests: 0,
             positions: none,
             current: none,
             depth: 0,
+        };
+        let walker = Walker {
+            ray: nothing,
+            octant: 0,
+            walk,
             stack,
         };
         Started { walker, refused: 9 }
@@ -264,30 +236,26 @@ impl Walker {
             };
         }
         let m = record.len() / 80;
-        if is_forged(self.ray, self.octant, self.depth, self.tests, m) {
+        let walk = self.walk;
+        if is_forged(self.ray, self.octant, walk.depth, walk.tests, m) {
             return Stepped {
                 walker: self,
                 answer: Answer::Refused(10),
             };
         }
-        let positions = self.positions;
-        let current = self.current;
-        if is_over(m, positions, current, self.depth, self.octant) {
+        if is_over(m, walk, self.octant) {
             return emptied(self);
         }
         let mut stack = self.stack;
-        let t = turn(
-            self.ray,
-            self.octant,
-            self.tests,
-            positions,
-            current,
-            self.depth,
-            &mut stack,
-            record,
-            n,
-        );
-        after(self, t, stack)
+        let t = turn(walk, self.ray, self.octant, &mut stack, record, n);
+        let answer = t.answer;
+        let next = t.walk;
+        let walker = Walker {
+            walk: next,
+            stack,
+            ..self
+        };
+        Stepped { walker, answer }
     }
 
     // Tells the walker a distance: one below its reach becomes the reach, any other does nothing, NaN too.

@@ -2,7 +2,7 @@
 use mathlib.Core.Bool.{Bool, true, false, not, _&&_, _||_, cond}
 use mathlib.Core.List.{List, [], _∷_}
 use mathlib.Core.Path.{_≡_}
-use Prim.Native.Nat.{ℕ, suc, _+_, _-_, _*_, _/_, _%_, _^_, _≤_, _<_}
+use Prim.Native.Nat.{ℕ, zero, suc, _+_, _-_, _*_, _/_, _%_, _^_, _≤_, _<_}
 use lib.Dec.{eqb, leb, ltb}
 use lib.ListN.{length, getD, replicate}
 use Rattle.faststack.specs.Stack.{capacity, hasRoom, pushed, topOf}
@@ -74,6 +74,17 @@ afterReportWords w =
 -- it is reported if it is one of the n
 unfoldable pub reportWords : {s : Type 0} → ℕ → WalkerWords s → SteppedWords s
 reportWords n w = cond (badPosition n (firstPosition (w .positions))) (stayWords w (refused 10)) (afterReportWords w)
+
+-- a node was tested
+abbrev pub isTest : Answer → Bool
+isTest (tested v) = true
+isTest (position p) = false
+isTest done = false
+isTest (refused k) = false
+
+-- a node was tested and none of its positions is passed
+abbrev pub findsNone : {s : Type 0} → SteppedWords s → Bool
+findsNone r = isTest (r .answer) && eqb (r .walker .positions .bits) 0
 
 -- the walker last held, and the answers of the steps
 pub record RunWords (s : Type 0) : Type 0 where
@@ -158,6 +169,12 @@ module _ {s d : Type 0} (m : ℕ) (N : NodeWords s d) where
   advanceWords n w =
       cond (ltb 0 (w .positions .bits)) (reportWords n w)
       (cond (hasChild (w .current)) (visitWords n w (w .current) (w .depth)) (popWords n w (waitingDepth (w .stack) (w .depth))))
+
+  -- A turn, and up to k more after tests of nodes of which no position is passed: on until positions are in hand, nothing is left, or one is refused.
+  unfoldable pub seekWords : ℕ → ℕ → WalkerWords s → SteppedWords s
+  unfolding advanceWords
+  seekWords zero n w = advanceWords n w
+  seekWords (suc k) n w = let r = advanceWords n w in cond (findsNone r) (seekWords k n (r .walker)) r
 
   unfoldable pub stepWords : ℕ → WalkerWords s → SteppedWords s
   stepWords n w =

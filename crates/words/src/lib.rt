@@ -72,10 +72,9 @@ pub fn store_u32(s: &mut [u8], at: usize, v: u32)
     s[at + 3] = (v3 % 256) as u8;
 }
 
-// Byte i of a word.
-pub fn byte(w: u64, i: u32) -> u32
-    requires { ⌜ i < 8 ⌝ }
-    ensures { λ r. ⌜ r ≡ field 8 i w ⌝ }
+// The lowest byte of a word.
+pub fn low_byte(w: u64) -> u32
+    ensures { λ r. ⌜ r ≡ field 8 0 w ⌝ }
 {
-    ((w >> (i * 8)) & 0xff) as u32
+    (w % 256) as u32
 }

@@ -1,4 +1,4 @@
-use Rattle.advance.proofs.Parts.{room-unneeded, room-counted}
+use Rattle.advance.proofs.Groups.{room-unneeded, room-counted}
 use Rattle.advance.proofs.lacks_room.Statement.{statement}
 use Rattle.advance.proofs.lacks_room.Tie as tie
 

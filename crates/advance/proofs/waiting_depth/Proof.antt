@@ -3,7 +3,7 @@ use Prim.Native.Nat.{_≤_}
 use native.Mathlib.Omega.{arith}
 use borrow.Author.Needs.{needs}
 use Rattle.walk.specs.Words.{waitingDepth}
-use Rattle.advance.proofs.Parts.{waiting-here, waiting-next, waiting-none}
+use Rattle.advance.proofs.Groups.{waiting-here, waiting-next, waiting-none}
 use Rattle.advance.proofs.waiting_depth.Statement.{statement}
 use Rattle.advance.proofs.waiting_depth.Tie as tie
 

@@ -3,20 +3,30 @@ use mathlib.Core.Path.{_≡_}
 use Prim.Native.Nat.{_-_}
 use lib.ListN.{length}
 use borrow.Author.Needs.{needs}
+use Rattle.slot.specs.Parts.{endsOf}
 use Rattle.measured.proofs.fill_masks.Statement.{statement}
 use Rattle.measured.proofs.fill_masks.Tie as tie
 
 abbrev Inv-loop : tie.InvT-loop
-Inv-loop «record» ray octant m out₀ i₀ out i = length out ≡ length out₀
+Inv-loop «record» ray octant m out₀ e i₀ out i = (length out ≡ length out₀) × (e ≡ endsOf (ray .direction))
 
 abbrev μ-loop : tie.MeasureT-loop
-μ-loop «record» ray octant m out₀ i₀ out i = m - i
+μ-loop «record» ray octant m out₀ e i₀ out i = m - i
+
+near-ends-requires : tie.Need-near-ends-requires Inv-loop μ-loop
+near-ends-requires c κs = search needs
 
 loop-holds : tie.Need-loop-holds Inv-loop μ-loop
 loop-holds c = search needs
 
 mul-intersect-ray : tie.Need-mul-intersect-ray Inv-loop μ-loop
 mul-intersect-ray c = search needs
+
+mul-metas : tie.Need-mul-metas Inv-loop μ-loop
+mul-metas c = search needs
+
+metas-requires : tie.Need-metas-requires Inv-loop μ-loop
+metas-requires c κs = search needs
 
 intersect-ray-requires : tie.Need-intersect-ray-requires Inv-loop μ-loop
 intersect-ray-requires c κs = search needs
@@ -48,8 +58,11 @@ fill-masks-spec =
     (tie.spec
     Inv-loop
     μ-loop
+    near-ends-requires
     loop-holds
     mul-intersect-ray
+    mul-metas
+    metas-requires
     intersect-ray-requires
     mul-out
     slice-write-out

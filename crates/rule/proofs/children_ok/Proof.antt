@@ -4,11 +4,8 @@ use borrow.Author.Needs.{needs}
 use Rattle.rule.proofs.children_ok.Statement.{statement}
 use Rattle.rule.proofs.children_ok.Tie as tie
 
-imask-requires : tie.Need-imask-requires
-imask-requires c κs = search needs
-
 returns : tie.Need-returns
-returns c = no-children _ _ _ (sym (c .before .imask .ensures) ∙ c .if1 .taken)
+returns c = no-children _ _ _ (sym (c .before .before .pre .1) ∙ c .if1 .taken)
 
 child-base-idx-requires : tie.Need-child-base-idx-requires
 child-base-idx-requires c κs = search needs
@@ -17,7 +14,7 @@ cast-base : tie.Need-cast-base
 cast-base c = search needs
 
 returns-2 : tie.Need-returns-2
-returns-2 c = children-early _ _ _ (λ e. c .before .before .if1 .left (c .before .before .before .imask .ensures ∙ e)) (rw (c .before .child-base-idx .ensures) at (c .if2 .taken))
+returns-2 c = children-early _ _ _ (λ e. c .before .before .if1 .left (c .before .before .before .before .pre .1 ∙ e)) (rw (c .before .child-base-idx .ensures) at (c .if2 .taken))
 
 child-count-requires : tie.Need-child-count-requires
 child-count-requires c κs = search needs
@@ -29,13 +26,12 @@ add-result : tie.Need-add-result
 add-result c = search needs
 
 returns-3 : tie.Need-returns-3
-returns-3 c = children-end _ _ _ _ _ _ (c .before .before .before .before .imask .ensures) (c .before .before .child-base-idx .ensures) (c .before .before .before .if1 .left) (c .before .if2 .left) (c .child-count .ensures .0)
+returns-3 c = children-end _ _ _ _ _ _ (c .before .before .before .before .before .pre .1) (c .before .before .child-base-idx .ensures) (c .before .before .before .if1 .left) (c .before .if2 .left) (c .child-count .ensures .0)
 
 pub children-ok-spec : {M : Type 1} → statement M
 children-ok-spec =
     tie.close
     (tie.spec
-    imask-requires
     returns
     child-base-idx-requires
     cast-base

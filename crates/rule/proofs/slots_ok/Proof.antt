@@ -9,17 +9,11 @@ primitive-base-idx-requires c κs = search needs
 room-of-requires : tie.Need-room-of-requires
 room-of-requires c κs = search needs
 
-metas-requires : tie.Need-metas-requires
-metas-requires c κs = search needs
-
-imask-requires : tie.Need-imask-requires
-imask-requires c κs = search needs
-
 metas-ok-requires : tie.Need-metas-ok-requires
 metas-ok-requires c κs = search needs
 
 returns : tie.Need-returns
-returns c = slots-word _ _ _ _ _ _ _ (c .before .before .metas .ensures) (c .before .imask .ensures) (c .before .before .before .before .primitive-base-idx .ensures) (c .before .before .before .room-of .ensures) (c .metas-ok .ensures)
+returns c = let o = c .before .before .before .before in slots-word _ _ _ _ _ _ _ (o .pre .1) (o .pre .2) (c .before .before .primitive-base-idx .ensures) (c .before .room-of .ensures) (c .metas-ok .ensures)
 
 pub slots-ok-spec : {M : Type 1} → statement M
 slots-ok-spec =
@@ -27,7 +21,5 @@ slots-ok-spec =
     (tie.spec
     primitive-base-idx-requires
     room-of-requires
-    metas-requires
-    imask-requires
     metas-ok-requires
     returns)

@@ -15,11 +15,14 @@ accepted-requires c κs = search needs
 octant-requires : tie.Need-octant-requires
 octant-requires c κs = search needs
 
+begin-requires : tie.Need-begin-requires
+begin-requires c κs = search needs
+
 returns : tie.Need-returns
 unfolding rayOf
 returns c =
-    let a = c .before .before .before .before .args in
-    starts (rayOf (a .origin) (a .direction) (a .tmin) (a .tmax)) (c .before .before .before .new .result) (c .octant .result) (c .before .before .before .new .ensures) (c .octant .ensures) (sym (c .before .before .accepted .ensures) ∙ c .before .if1 .taken)
+    let a = c .before .before .before .before .before .args in
+    starts (rayOf (a .origin) (a .direction) (a .tmin) (a .tmax)) (c .before .before .before .before .new .result) (c .before .octant .result) (c .begin .result) (c .before .before .before .before .new .ensures) (c .before .octant .ensures) (c .begin .ensures) (sym (c .before .before .before .accepted .ensures) ∙ c .before .before .if1 .taken)
 
 returns-2 : tie.Need-returns-2
 unfolding ofBits
@@ -28,4 +31,4 @@ returns-2 c =
     refuses (rayOf (a .origin) (a .direction) (a .tmin) (a .tmax)) (c .before .before .new .result) (c .before .before .new .ensures) (sym (c .before .accepted .ensures) ∙ c .if1 .left)
 
 pub new-spec : {M : Type 1} → statement M
-new-spec = tie.close (tie.spec new-requires accepted-requires octant-requires returns returns-2)
+new-spec = tie.close (tie.spec new-requires accepted-requires octant-requires begin-requires returns returns-2)

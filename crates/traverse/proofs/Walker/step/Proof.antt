@@ -1,8 +1,9 @@
-use mathlib.Core.Path.{sym, _∙_}
-use borrow.Author.Needs.{needs}
+use mathlib.Core.Path.{refl, sym, _∙_}
+use Rattle.slot.specs.Parts.{endsOf}
 use Rattle.advance.specs.Turn.{answerOf}
 use Rattle.traverse.specs.Walker.{wordsOf}
-use Rattle.traverse.proofs.Steps.{step-sizes, fits, step-forged, step-over, step-advances, walks, tests-fit}
+use Rattle.traverse.proofs.Steps.{step-sizes, fits, step-forged, step-over, step-advances, walks}
+use borrow.Author.Needs.{needs}
 use Rattle.traverse.proofs.Walker.step.Statement.{statement}
 use Rattle.traverse.proofs.Walker.step.Tie as tie
 
@@ -21,46 +22,36 @@ is-forged-requires c κs = search needs
 returns-2 : tie.Need-returns-2
 unfolding answerOf
 returns-2 c =
-    let a = c .before .before .before .before .before .args in
-    let f = fits (a .«record» .now) (a .n) (wordsOf (a .self)) (c .before .before .before .sizes-cause .result) (c .before .before .before .sizes-cause .ensures) (c .before .before .if1 .left) in
+    let a = c .before .before .before .before .before .before .args in
+    let f = fits (a .«record» .now) (a .n) (wordsOf (a .self)) (c .before .before .before .before .sizes-cause .result) (c .before .before .before .before .sizes-cause .ensures) (c .before .before .before .if1 .left) in
     step-forged (a .«record» .now) (a .n) (wordsOf (a .self)) f (sym (c .before .is-forged .ensures) ∙ c .if2 .taken)
 
 is-over-requires : tie.Need-is-over-requires
 is-over-requires c κs =
-    let a = c .before .before .before .before .before .before .before .args in
-    let f = fits (a .«record» .now) (a .n) (wordsOf (a .self)) (c .before .before .before .before .before .sizes-cause .result) (c .before .before .before .before .before .sizes-cause .ensures) (c .before .before .before .before .if1 .left) in
-    walks (a .«record» .now) (a .n) (wordsOf (a .self)) f (sym (c .before .before .before .is-forged .ensures) ∙ c .before .before .if2 .left) .eight
+    let a = c .before .before .before .before .before .before .args in
+    let f = fits (a .«record» .now) (a .n) (wordsOf (a .self)) (c .before .before .before .before .sizes-cause .result) (c .before .before .before .before .sizes-cause .ensures) (c .before .before .before .if1 .left) in
+    walks (a .«record» .now) (a .n) (wordsOf (a .self)) f (sym (c .before .is-forged .ensures) ∙ c .if2 .left) _ refl .eight
 
 emptied-requires : tie.Need-emptied-requires
 emptied-requires c κs = search needs
 
 returns-3 : tie.Need-returns-3
 returns-3 c =
-    let g = c .before .before .before .before .before in
-    let b = g .before .before in
-    let a = b .before .before .before .args in
-    let f = fits (a .«record» .now) (a .n) (wordsOf (a .self)) (b .before .sizes-cause .result) (b .before .sizes-cause .ensures) (b .if1 .left) in
-    c .emptied .ensures
-    ∙ step-over (a .«record» .now) (a .n) (wordsOf (a .self)) f (sym (g .before .is-forged .ensures) ∙ g .if2 .left)
-    (sym (c .before .before .is-over .ensures) ∙ c .before .if3 .taken)
+    let a = c .before .before .before .before .before .before .before .before .before .args in
+    let f = fits (a .«record» .now) (a .n) (wordsOf (a .self)) (c .before .before .before .before .before .before .before .sizes-cause .result) (c .before .before .before .before .before .before .before .sizes-cause .ensures) (c .before .before .before .before .before .before .if1 .left) in
+    c .emptied .ensures ∙ step-over (a .«record» .now) (a .n) (wordsOf (a .self)) f (sym (c .before .before .before .before .is-forged .ensures) ∙ c .before .before .before .if2 .left) (sym (c .before .before .is-over .ensures) ∙ c .before .if3 .taken)
 
 turn-requires : tie.Need-turn-requires
 turn-requires c κs =
-    let a = c .before .before .before .before .before .before .before .before .before .before .before .args in
-    let f = fits (a .«record» .now) (a .n) (wordsOf (a .self)) (c .before .before .before .before .before .before .before .before .before .sizes-cause .result) (c .before .before .before .before .before .before .before .before .before .sizes-cause .ensures) (c .before .before .before .before .before .before .before .before .if1 .left) in
-    walks (a .«record» .now) (a .n) (wordsOf (a .self)) f (sym (c .before .before .before .before .before .before .before .is-forged .ensures) ∙ c .before .before .before .before .before .before .if2 .left)
-
-after-requires : tie.Need-after-requires
-after-requires c κs =
-    let a = c .before .before .before .before .before .before .before .before .before .before .before .before .args in
-    let f = fits (a .«record» .now) (a .n) (wordsOf (a .self)) (c .before .before .before .before .before .before .before .before .before .before .sizes-cause .result) (c .before .before .before .before .before .before .before .before .before .before .sizes-cause .ensures) (c .before .before .before .before .before .before .before .before .before .if1 .left) in
-    tests-fit (a .«record» .now) (a .n) (wordsOf (a .self)) f (sym (c .before .before .before .before .before .before .before .before .is-forged .ensures) ∙ c .before .before .before .before .before .before .before .if2 .left)
+    let a = c .before .before .before .before .before .before .before .before .before .before .args in
+    let f = fits (a .«record» .now) (a .n) (wordsOf (a .self)) (c .before .before .before .before .before .before .before .before .sizes-cause .result) (c .before .before .before .before .before .before .before .before .sizes-cause .ensures) (c .before .before .before .before .before .before .before .if1 .left) in
+    walks (a .«record» .now) (a .n) (wordsOf (a .self)) f (sym (c .before .before .before .before .before .is-forged .ensures) ∙ c .before .before .before .before .if2 .left)
 
 returns-4 : tie.Need-returns-4
 returns-4 c =
     let a = c .before .before .before .before .before .before .before .before .before .before .before .before .before .args in
     let f = fits (a .«record» .now) (a .n) (wordsOf (a .self)) (c .before .before .before .before .before .before .before .before .before .before .before .sizes-cause .result) (c .before .before .before .before .before .before .before .before .before .before .before .sizes-cause .ensures) (c .before .before .before .before .before .before .before .before .before .before .if1 .left) in
-    c .after .ensures ∙ c .before .turn .ensures ∙ step-advances (a .«record» .now) (a .n) (wordsOf (a .self)) f (sym (c .before .before .before .before .before .before .before .before .before .is-forged .ensures) ∙ c .before .before .before .before .before .before .before .before .if2 .left) (sym (c .before .before .before .before .before .is-over .ensures) ∙ c .before .before .before .before .if3 .left)
+    c .before .before .turn .ensures ∙ step-advances (a .«record» .now) (a .n) (wordsOf (a .self)) f (sym (c .before .before .before .before .before .before .before .before .is-forged .ensures) ∙ c .before .before .before .before .before .before .before .if2 .left) (sym (c .before .before .before .before .before .before .is-over .ensures) ∙ c .before .before .before .before .before .if3 .left)
 
 pub step-spec : {M : Type 1} → statement M
 step-spec =
@@ -74,5 +65,4 @@ step-spec =
     emptied-requires
     returns-3
     turn-requires
-    after-requires
     returns-4)

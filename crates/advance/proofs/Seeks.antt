@@ -1,0 +1,95 @@
+-- On from turn to turn until positions are in hand.
+use mathlib.Core.Path.{_≡_, refl, sym, subst, _∙_}
+use mathlib.Core.Bool.{Bool, true, false, _&&_, cond}
+use mathlib.Core.List.{[], _∷_}
+use mathlib.Core.Logic.{⊎-elim}
+use Prim.Native.Nat.{ℕ, zero, suc, _-_, _≤_, _<_}
+use native.Mathlib.Omega.{arith}
+use lib.Dec.{eqb, ltb}
+use denote.Enum.Declared.{tagOf}
+use types.Run.{OneOf}
+use borrow.Author.Tests.{eq-eqb, ne-eqb, lt-ltb, ltb-true, eqb-true}
+use Rattle.faststack.specs.Stack.{capacity}
+use Rattle.walk.specs.Step as S
+use Rattle.walk.specs.WordStep.{WalkerWords, SteppedWords, NodeWords, isTest, findsNone, advanceWords, seekWords}
+use Rattle.advance.specs.declared.Turn.{Turn}
+use Rattle.advance.specs.declared.Answer.{Answer}
+use Rattle.advance.specs.declared.Answer.the-variants.{Tested, Position, Done, Refused}
+use Rattle.advance.specs.Turn.{answerOf, goesOn}
+use Rattle.advance.proofs.Answer.{the-type}
+use Rattle.advance.proofs.Shows.{Shows, turn-shows}
+
+-- ---- by the tests that the code makes
+
+module _ (t : Turn) (left : ℕ) where
+  pub found-some : (v : ℕ) → t .answer ≡ Tested v → 0 < t .walk .positions .bits → false ≡ goesOn t left
+  unfolding goesOn answerOf
+  found-some v e h = rw (e, ne-eqb (t .walk .positions .bits) 0 (λ z. omega arith))
+
+  pub found-none : (v : ℕ) → t .answer ≡ Tested v → t .walk .positions .bits ≤ 0 → ltb 0 left ≡ goesOn t left
+  unfolding goesOn answerOf
+  found-none v e h = rw (e, eq-eqb (t .walk .positions .bits) 0 (omega arith))
+
+  pub found-end : OneOf (1 ∷ 2 ∷ 3 ∷ []) (tagOf the-type (t .answer)) → false ≡ goesOn t left
+  unfolding goesOn answerOf
+  found-end h = go (t .answer) h
+    where
+      go : (b : Answer) → OneOf (1 ∷ 2 ∷ 3 ∷ []) (tagOf the-type b) → false ≡ (isTest (answerOf b) && eqb (t .walk .positions .bits) 0 && ltb 0 left)
+      go (Tested v) k = absurd (⊎-elim (λ e. omega arith) (⊎-elim (λ e. omega arith) (λ e. omega arith)) k)
+      go (Position p) k = refl
+      go Done k = refl
+      go (Refused j) k = refl
+
+-- ---- a search, turn by turn, for any fields and masks of nodes and any rays
+
+and-true : (a b : Bool) → a && b ≡ true → (a ≡ true) × (b ≡ true)
+and-true true true e = (refl, refl)
+and-true true false e = (refl, e)
+and-true false b e = (e, absurd (let z : _≡_ {A = ℕ} 0 1 = cc in omega arith))
+
+module _ {s d : Type 0} (m : ℕ) (N : NodeWords s d) (n : ℕ) (w : WalkerWords s) (r : SteppedWords s) (left : ℕ) (turn : r ≡ advanceWords m N n w) where
+  -- the turn is the last
+  pub seek-ends : (findsNone r && ltb 0 left) ≡ false → r ≡ seekWords m N left n w
+  unfolding seekWords
+  seek-ends h = go left h
+    where
+      pick : (b : Bool) (u : SteppedWords s) → b ≡ false → r ≡ cond b u r
+      pick true u e = absurd (let z : _≡_ {A = ℕ} 0 1 = cc in omega arith)
+      pick false u e = refl
+
+      go : (k : ℕ) → (findsNone r && ltb 0 k) ≡ false → r ≡ seekWords m N k n w
+      go zero e = turn
+      go (suc k) e = rw (← turn) (pick (findsNone r) _ (last (findsNone r) e))
+        where
+          last : (b : Bool) → (b && ltb 0 (suc k)) ≡ false → b ≡ false
+          last true f = sym (lt-ltb 0 (suc k) (omega arith)) ∙ f
+          last false f = refl
+
+  -- another follows
+  pub seek-goes : (findsNone r && ltb 0 left) ≡ true → seekWords m N (left - 1) n (r .walker) ≡ seekWords m N left n w
+  unfolding seekWords
+  seek-goes h = go left (and-true (findsNone r) (ltb 0 left) h .0) (ltb-true 0 left (and-true (findsNone r) (ltb 0 left) h .1))
+    where
+      go : (k : ℕ) → findsNone r ≡ true → 0 < k → seekWords m N (k - 1) n (r .walker) ≡ seekWords m N k n w
+      go zero f l = absurd (omega arith)
+      go (suc k) f l = let z : suc k - 1 ≡ k = omega arith in rw (z, ← turn, f)
+
+  -- and then no position is in hand
+  pub seek-none : (findsNone r && ltb 0 left) ≡ true → r .walker .positions .bits ≡ 0
+  seek-none h = eqb-true _ _ (and-true (isTest (r .answer)) _ (and-true (findsNone r) (ltb 0 left) h .0) .1)
+
+  -- it was not the last test allowed
+  pub seek-left : (findsNone r && ltb 0 left) ≡ true → 0 < left
+  seek-left h = ltb-true 0 left (and-true (findsNone r) (ltb 0 left) h .1)
+
+  -- and no more groups wait than there is room for
+  pub seek-deep : w .depth ≤ capacity → (findsNone r && ltb 0 left) ≡ true → r .walker .depth ≤ capacity
+  seek-deep deep h =
+      tested-deep (r .answer) (and-true (isTest (r .answer)) _ (and-true (findsNone r) (ltb 0 left) h .0) .0)
+      (subst (λ (q : SteppedWords s). Shows m N n w (q .answer) (q .walker)) (sym turn) (turn-shows m N n w deep))
+    where
+      tested-deep : (b : S.Answer) → isTest b ≡ true → Shows m N n w b (r .walker) → r .walker .depth ≤ capacity
+      tested-deep (S.tested v) e k = k .2
+      tested-deep (S.position p) e k = absurd (let z : _≡_ {A = ℕ} 0 1 = cc in omega arith)
+      tested-deep S.done e k = absurd (let z : _≡_ {A = ℕ} 0 1 = cc in omega arith)
+      tested-deep (S.refused j) e k = absurd (let z : _≡_ {A = ℕ} 0 1 = cc in omega arith)

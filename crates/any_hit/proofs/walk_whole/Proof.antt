@@ -1,0 +1,136 @@
+use mathlib.Core.List.{List}
+use mathlib.Core.Path.{_≡_, ap, subst, _∙_}
+use Prim.Native.Nat.{ℕ}
+use native.Mathlib.Omega.{arith}
+use borrow.Author.Needs.{needs}
+use lib.ListN.{replicate}
+use Rattle.walk.specs.WordStep.{WalkerWords}
+use Rattle.walk_record.specs.Beam.{Beam}
+use Rattle.walk_record.proofs.Laws.{bytes-fit}
+use Rattle.advance.specs.declared.Walk.{Walk}
+use Rattle.advance.specs.Turn.{walkerOf}
+use Rattle.any_hit.specs.declared.State.{State}
+use Rattle.any_hit.specs.AnyHit.{answerOf}
+use Rattle.any_hit.specs.Gather.{Stands}
+use Rattle.any_hit.proofs.Walks.{walk-begins, walk-kept}
+use Rattle.any_hit.proofs.Answers.{ends-kept, ends-refused}
+use Rattle.any_hit.proofs.walk_whole.Statement.{statement}
+use Rattle.any_hit.proofs.walk_whole.Tie as tie
+
+-- ---- after the first walk
+
+module _ (c : tie.After-gather) where
+  abbrev s : tie.Start
+  s = c .before .before .before .before .before .before .before
+
+  -- the walker then, and the positions kept aside
+  abbrev w : WalkerWords Beam
+  w = walkerOf (s .args .ray) (c .before .before .before .before .octant .result) (c .gather .result .walk) (c .gather .last .1 .1 .1 .1 .1 .1 .1 .0)
+
+  abbrev kept : List ℕ
+  kept = c .gather .last .1 .1 .1 .1 .1 .1 .1 .1 .0
+
+  stands : (x : State) → c .gather .result .state ≡ x → Stands (s .args .«record» .now) (s .args .n) (s .args .ray) x 40 w (c .gather .result .count) (replicate 64 0) kept
+  stands x e = subst (λ (y : State). Stands (s .args .«record» .now) (s .args .n) (s .args .ray) y 40 w (c .gather .result .count) (replicate 64 0) kept) e (c .gather .ensures .1)
+
+-- ---- the needs
+
+octant-requires : tie.Need-octant-requires
+octant-requires c κs = search needs
+
+begin-requires : tie.Need-begin-requires
+begin-requires c κs = search needs
+
+slice-aggregate-gather : tie.Need-slice-aggregate-gather
+slice-aggregate-gather c = search needs
+
+slice-aggregate-gather-2 : tie.Need-slice-aggregate-gather-2
+slice-aggregate-gather-2 c = search needs
+
+gather-requires : tie.Need-gather-requires
+gather-requires c κs =
+    let b = c .before .before in
+    let i = b .before .before .before in
+    let s = i .before in
+    let fit = bytes-fit _ (λ j. i .shared-slice-known .given j .fits) in (
+      (s .pre .0, walk-begins (s .args .«record» .now) (s .args .n) (s .args .ray) (replicate 64 0) fit (s .pre .1) (b .before .octant .result) (b .before .octant .ensures) (b .begin .result) (b .begin .ensures)),
+      (ap (λ (v : Walk). v .positions .bits) (b .begin .ensures), omega arith),
+    )
+
+enum-told : tie.Need-enum-told
+enum-told c = search needs
+
+slice-aggregate-deliver : tie.Need-slice-aggregate-deliver
+slice-aggregate-deliver c = search needs
+
+deliver-requires : tie.Need-deliver-requires
+deliver-requires c κs = search needs
+
+enum-known-state : tie.Need-enum-known-state
+enum-known-state c = search needs
+
+enum-told-2 : tie.Need-enum-told-2
+enum-told-2 c = search needs
+
+slice-aggregate-walk-on : tie.Need-slice-aggregate-walk-on
+slice-aggregate-walk-on c = search needs
+
+slice-aggregate-walk-on-2 : tie.Need-slice-aggregate-walk-on-2
+slice-aggregate-walk-on-2 c = search needs
+
+walk-on-requires : tie.Need-walk-on-requires
+walk-on-requires c κs =
+    let t = c .before .before .before in
+    let k = t .before .before .before .before in
+    let p = stands k _ (t .enum-told2 .given .1) in
+    let h = k .gather .ensures .0 in
+    let e = k .gather .kept .1 .1 .1 .1 .1 .1 .1 .1 .0 in
+    ((s k .pre .0, s k .pre .1, k .before .before .before .before .octant .ensures), (walk-kept (p .2), (p .1, omega (arith, h, e), omega (arith, h))))
+
+same-length : tie.Need-same-length
+same-length c = search needs
+
+returns : tie.Need-returns
+returns c =
+    let d = c .before .before in
+    let t = d .before .before .before in
+    let k = t .before .before .before .before in
+    let p = stands k _ (t .enum-told .given .1) in
+    let q = ends-kept (s k .args .«record» .now) (s k .args .n) (s k .args .ray) (s k .args .list .now) (p .0) (replicate 64 0) (kept k) (p .1) (omega (arith, k .gather .ensures .0, k .gather .kept .1 .1 .1 .1 .1 .1 .1 .1 .0)) in
+    (d .deliver .ensures .0 ∙ q .0, d .deliver .ensures .1 ∙ q .1)
+
+returns-2 : tie.Need-returns-2
+unfolding answerOf
+returns-2 c =
+    let k = c .before .before .before .before .before in
+    let g = c .before .state .given in
+    ends-refused (s k .args .«record» .now) (s k .args .n) (s k .args .ray) (s k .args .list .now) (g .0 .0) (stands k _ (g .1))
+
+same-length-2 : tie.Need-same-length-2
+same-length-2 c = search needs
+
+returns-3 : tie.Need-returns-3
+returns-3 c = search needs
+
+pub walk-whole-spec : {M : Type 1} → statement M
+walk-whole-spec =
+    tie.close
+    (tie.spec
+    octant-requires
+    begin-requires
+    slice-aggregate-gather
+    slice-aggregate-gather-2
+    gather-requires
+    enum-told
+    slice-aggregate-deliver
+    deliver-requires
+    enum-known-state
+    enum-told-2
+    slice-aggregate-walk-on
+    slice-aggregate-walk-on-2
+    walk-on-requires
+    same-length
+    returns
+    returns-2
+    same-length-2
+    returns-3)

@@ -1,0 +1,39 @@
+use mathlib.Core.Path.{_≡_, refl, _∙_}
+use native.Mathlib.Omega.{arith}
+use Rattle.record_shape.specs.Record.{nodeCount}
+use Rattle.walk_record.specs.Beam.{beams}
+use Rattle.walk_record.specs.Record.{nodeWordsAt}
+use Rattle.slot.specs.Parts.{endsOf}
+use Rattle.advance.specs.Turn.{walkerOf}
+use Rattle.traverse.proofs.Reports.{report-due, one-turn}
+use borrow.Author.Needs.{needs}
+use Rattle.traverse.proofs.turn.Statement.{statement}
+use Rattle.traverse.proofs.turn.Tie as tie
+
+report-requires : tie.Need-report-requires
+report-requires c κs = let s = c .before .before .before in (c .if1 .taken, s .pre (endsOf (s .args .ray .direction)) refl .positions)
+
+returns : tie.Need-returns
+returns c =
+    let a = c .before .before .before .before .args in
+    c .report .ensures (a .ray) (a .octant) (a .stack .now)
+    ∙ report-due (a .n) (walkerOf (a .ray) (a .octant) (a .walk) (a .stack .now)) (nodeCount (a .«record» .now)) (nodeWordsAt (a .«record» .now) beams) (c .before .if1 .taken)
+
+near-ends-requires : tie.Need-near-ends-requires
+near-ends-requires c κs = search needs
+
+seek-requires : tie.Need-seek-requires
+seek-requires c κs =
+    let s = c .before .before .before .before .before in
+    let w = s .pre (c .before .near-ends .result) (c .before .near-ends .ensures) in (
+      record { whole = w .whole; nodes = w .nodes; positions = w .positions; ends = w .ends; eight = w .eight; deep = w .deep; stack = omega arith },
+      omega (arith, c .before .before .if1 .left),
+    )
+
+returns-2 : tie.Need-returns-2
+returns-2 c =
+    let a = c .before .before .before .before .before .before .args in
+    c .seek .ensures ∙ one-turn (a .n) (walkerOf (a .ray) (a .octant) (a .walk) (a .stack .now)) (nodeCount (a .«record» .now)) (nodeWordsAt (a .«record» .now) beams)
+
+pub turn-spec : {M : Type 1} → statement M
+turn-spec = tie.close (tie.spec report-requires returns near-ends-requires seek-requires returns-2)
