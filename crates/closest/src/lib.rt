@@ -201,8 +201,8 @@ fn walk_miss(bytes: &[u8], indices: &[u32], panes: &[f32], ray: Ray) -> MissFoun
             let positions = advance::rest_of(held);
             walk = Walk { positions, ..walk };
             match met {
-                Met::At(t) => {
-                    if t < ray.tmax {
+                Met::At(distance) => {
+                    if distance < ray.tmax {
                         answer = Occlusion::Blocked;
                         break 'walk;
                     }
