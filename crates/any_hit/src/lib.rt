@@ -20,7 +20,7 @@ pub enum AnyHit {
     Refused(u32),
 }
 
-// The answer after a whole walk without a fault, for a list with this room.
+// The answer once a walk has ended with no fault met, for a list with this room.
 fn fit(count: u32, tests: u32, room: usize) -> AnyHit
     ensures { λ r. ⌜ answerOf r ≡ fitted count tests room ⌝ }
 {

@@ -69,7 +69,7 @@ pub record Samples : Type 0 where
   -- B is met first, at 3.0, and A is nearer; the pane is the one that the index word names
   pub nearest : closestOf bytesT (0 ∷ 1 ∷ []) panesT ahead ≡ closestIs (hitAt 0 one) 1
   pub by-index : closestOf bytesT (1 ∷ 0 ∷ []) panesT ahead ≡ closestIs (hitAt 1 one) 1
-  -- a tie keeps the first met
+  -- of equal distances the first met counts
   pub tie : closestOf bytesT (0 ∷ 0 ∷ []) panesT ahead ≡ closestIs (hitAt 1 one) 1
   -- a distance equal to the reach is not below it
   pub at-reach : closestOf bytesT (0 ∷ 1 ∷ []) panesT (along zero+ one) ≡ closestIs noHit 1

@@ -13,7 +13,7 @@ use query::Walk;
 use ray::Ray;
 use ray::Vec3;
 
-// How closest ends: a hit with its position and distance, no hit, or refused for the cause of this number.
+// How closest ends: the position that is hit and how far off, nothing hit, or refused for the cause of this number.
 pub enum ClosestHit {
     Hit(u32, f32),
     NoHit,

@@ -1,4 +1,4 @@
--- The sample tree T (01, "Samples"): ordering on puts A in slot 0 and B in slot 4.
+-- The sample tree T (01, "Samples"): with ordering, A takes slot 0 and B takes slot 4.
 use mathlib.Core.Path.{_≡_, refl}
 use mathlib.Core.Bool.{true, false}
 use mathlib.Core.List.{List, [], _∷_}

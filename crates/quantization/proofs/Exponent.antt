@@ -1,4 +1,5 @@
--- The exponent byte: read from the bit pattern, at least 53 always, at most 161 within the bounds, and there the smallest power of two not below the scaled extent.
+-- The exponent byte: read from the bit pattern, at least 53 always, at most 161 within the bounds, and there that of the next power of two at or
+-- above the scaled extent.
 use mathlib.Core.Path.{_≡_, refl, sym, subst}
 use mathlib.Core.Bool.{Bool, true, false, not, _&&_, cond, true≢false}
 use Prim.Native.Nat.{ℕ, _^_, _≤_}
@@ -119,7 +120,7 @@ box-in-range b t =
       z = exponent-range (b .min .z) (b .max .z) (lo .z) (hi .z);
     }
 
--- ---- within the bounds the byte is that of the smallest power of two not below the scale
+-- ---- within the bounds the byte is that of the next power of two at or above the scale
 pub exponent-next-power : (lo hi : Float) → Within 40 lo → Within 40 hi → NextPower (extentScale lo hi) (exponentOf lo hi)
 unfolding exponentOf round mul div lt le isNan
 exponent-next-power lo hi p q =

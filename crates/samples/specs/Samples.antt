@@ -66,7 +66,7 @@ pub record Samples : Type 0 where
   -- any-hit along (1, 0, 0): position 1, then 0, by one test
   pub any-hit-T : anyHitOf bytesT 2 (rayAlong (number 0)) 2 ≡ listed 2 1
   pub any-hit-T-list : listAfter bytesT 2 (rayAlong (number 0)) (7 ∷ 7 ∷ 7 ∷ []) ≡ 1 ∷ 0 ∷ 7 ∷ []
-  -- closest along (1, 0, 0), panes 0 and 1 being the boxes of A and B: position 0 at 1.0, by one test
+  -- closest along (1, 0, 0), with the boxes of A and B for panes: position 0 at 1.0, by one test
   pub closest-T : closestOf bytesT indicesT panesT (rayAlong (number 0)) ≡ record { answer = hitAt 0 (number 1); tests = 1 }
   -- along (1, −0.0, 0) nothing is met, by one test
   pub any-hit-zero : anyHitOf bytesT 2 (rayAlong (ofBits binary32 0x8000_0000)) 2 ≡ listed 0 1

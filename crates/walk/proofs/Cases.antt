@@ -118,7 +118,7 @@ module _ {s d : Type 0} (m : ℕ) (T : Tests s d) (n : ℕ) (w : Walker s) where
   IsDone done = Unit {0}
   IsDone (refused e) = ⊥
 
-  -- done stays done, whatever count a later step brings, if it is no cause of refusal
+  -- a walker that is done stays so, whatever count a later step brings, if it is no cause of refusal
   pub done-stays : stepOf m T n w .answer ≡ done → (k : ℕ) → sizesFit m k ≡ true → stepOf m T k (stepOf m T n w .walker) ≡ stay w done
   unfolding stepOf
   done-stays e k z =

@@ -1,4 +1,4 @@
--- A step in words that is refused, or done, leaves the walker's words as they were, and done stays done.
+-- A step in words that is refused, or done, leaves the walker's words as they were; and once done, a walker is done at every later step.
 use mathlib.Core.Bool.{true, _&&_}
 use mathlib.Core.Path.{_≡_, refl, sym, ap, _∙_, subst}
 use Prim.Native.Nat.{ℕ, _-_}
@@ -59,7 +59,7 @@ module _ {s d : Type 0} (m : ℕ) (N : NodeWords s d) (n : ℕ) (w : WalkerWords
       P : SteppedWords s → Type 0
       P r = IsDone (r .answer) → stepWords m N k w ≡ stayWords w done
 
-  -- done stays done, whatever count a later step brings, if it is no cause of refusal
+  -- a walker that is done stays so, whatever count a later step brings, if it is no cause of refusal
   pub words-done-stays : stepWords m N n w .answer ≡ done → (k : ℕ) → sizesFit m k ≡ true → stepWords m N k (stepWords m N n w .walker) ≡ stayWords w done
   words-done-stays e k z =
       ap (stepWords m N k) (subst (λ (a : Answer). Keeps a (stepWords m N n w .walker)) e words-kept) ∙ done-again k z (subst IsDone (sym e) tt)

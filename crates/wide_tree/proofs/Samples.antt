@@ -19,12 +19,12 @@ use Rattle.wide_tree.specs.Ordered.{placing}
 three-empty : Slots 4 → Slots 7
 three-empty s = empty (empty (empty s))
 
--- ordering off: A in slot 0, B in slot 1
+-- ordering off: A takes slot 0 and B takes slot 1
 in-order : rootSlots (placing false) 3 (treeOf T) ≡ W.leaf (boxAt T 1) (0 ∷ []) (W.leaf (boxAt T 2) (1 ∷ []) (empty (empty (empty (empty (empty (empty end)))))))
 unfolding linkOf boxAt readLink boxOf positions table decision bestOf leaves halfArea ofBits ofInt add sub mul lt slotsFrom childrenOf slotsOf inOrder partner
 in-order = refl
 
--- ordering on: A in slot 0, B in slot 4
+-- ordering on: A takes slot 0 and B takes slot 4
 by-directions : rootSlots (placing true) 3 (treeOf T) ≡ W.leaf (boxAt T 1) (0 ∷ []) (three-empty (W.leaf (boxAt T 2) (1 ∷ []) (empty (empty (empty end)))))
 unfolding linkOf boxAt readLink boxOf positions table decision bestOf leaves halfArea ofBits ofInt add sub mul lt slotsFrom childrenOf three-empty slotsOf costTable directionCost dotOf directionOf signOf centerOf assigned leastPair openPairs partner pairs rowPairs keep some round
 by-directions = refl
