@@ -25,7 +25,7 @@ fn exact_exponent(extent: f32) -> u32 {
 
 /// Extents from 255 * 2^k on, for each k that the bound allows.
 fn logarithm() {
-    println!("log2().ceil().exp2() against the smallest power of two not below, extents from 255 * 2^k on:");
+    println!("log2().ceil().exp2() against the next power of two, extents from 255 * 2^k on:");
     let mut all = 0;
     let mut least: Option<f32> = None;
     for k in -74..=33 {

@@ -48,7 +48,7 @@ pub fn run() -> bool {
     let o = convert(&t, 3, true);
     let metas: Vec<usize> = (0..8).filter(|&s| o.record[24 + s] != 0).collect();
     all.holds(
-        "S5 ordering puts A in slot 0, B in slot 4",
+        "S5 with ordering A takes slot 0 and B takes slot 4",
         metas == [0, 4] && o.list == [0, 1] && (o.record[32], o.record[40]) == (0, 0x40) && (o.record[36], o.record[44]) == (0x80, 0xc0),
     );
     let bvh = bvh_of(&c.record, &c.list);
@@ -57,7 +57,7 @@ pub fn run() -> bool {
     let any = query::any_hit(&bvh, ray(0.0));
     let near = query::closest(&bvh, &panes, ray(0.0));
     all.holds(
-        "S6 any-hit 1 then 0, one test, closest position 0 at 1.0",
+        "S6 any-hit lists 1 and 0 after one test, closest answers position 0 at 1.0",
         any.found == [1, 0] && any.tests == 1 && near.found == [0, 1.0f32.to_bits()] && near.tests == 1,
     );
     let turned = query::any_hit(&bvh, ray(-0.0));
@@ -67,7 +67,7 @@ pub fn run() -> bool {
     all.holds("S8 n = 0: no nodes, nothing, no test", empty.record.is_empty() && none == Default::default());
     let room = Room::needed(2);
     all.holds(
-        "S9 leaf limit 3 accepted, 4 refused 3 (by the rules; the Rust refuses nothing)",
+        "S9 a leaf limit of 3 is accepted, one of 4 refused 3 (by the rules; the Rust refuses nothing)",
         conversion_refusal(&t, 3, room) == 0 && conversion_refusal(&t, 4, room) == 3,
     );
     let far = |x: f32| accepted_box(&Aabb::new(vec3a(-x, 0.0, 0.0), vec3a(x, 0.0, 0.0)));

@@ -124,7 +124,7 @@ impl Vec3A {
         self.compare(o, f32::lt)
     }
     /// The logarithm without rounding, by keeping its argument: `log2().ceil().exp2()` is then
-    /// the smallest power of two not below the argument.
+    /// the next power of two at or above the argument.
     pub fn log2(self) -> Log2 {
         Log2(self)
     }
@@ -152,7 +152,7 @@ impl CeilLog2 {
     }
 }
 
-/// The smallest power of two not below a positive normal float: one more in the exponent field unless
+/// The next power of two at or above a positive normal float: one more in the exponent field unless
 /// the fraction is zero.
 pub fn power_of_two_not_below(v: f32) -> f32 {
     let bits = v.to_bits();

@@ -7,7 +7,8 @@ use lib.IntN.{negsuc}
 use lib.Ieee.{Float, fin, binary32, add, sub, mul, le}
 use lib.Ieee.Fits.{and-l, and-r}
 use Rattle.float.specs.Magnitude.{Upto, Held, Within}
-use Rattle.float.proofs.Magnitude.{sub-upto, add-upto, mul-upto, upto-le, held-pow, held-up, add-within, mul-atmost, atmost-le}
+use Rattle.float.proofs.Held.{held-pow, held-up}
+use Rattle.float.proofs.Magnitude.{sub-upto, add-upto, mul-upto, upto-le, add-within, mul-atmost, atmost-le}
 use Rattle.ray.specs.Ray.{boundedVec}
 use Rattle.ray.proofs.Bounds.{Bounded, bounded}
 use Rattle.aabb.specs.declared.Aabb.{Aabb}

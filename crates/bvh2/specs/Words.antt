@@ -10,7 +10,7 @@ use Rattle.bvh2.specs.Tree.{Tree, leaf, inner}
 abbrev pub nodeCount : ℕ → ℕ
 nodeCount n = 2 * n - 1
 
--- what a link word says: the first of two adjacent children, or a leaf's position, by the kind in its two high bits
+-- what a link word says, by the kind in its two high bits: where a pair of children begins, or which position a leaf holds
 pub data Link : Type 0 where
   children : ℕ → Link
   position : ℕ → Link

@@ -10,7 +10,7 @@ use borrow.Author.Tests.{lt-ltb}
 use Rattle.float.specs.Compare.{plusZero, unsignedZero}
 use Rattle.float.specs.Magnitude.{Within}
 use Rattle.float.proofs.Magnitude.{sub-within, mul-within}
-use Rattle.float.proofs.Strict.{lt-through, lt-self, lt-between}
+use Rattle.float.proofs.Order.{lt-through, lt-self, lt-between}
 use Rattle.ray.specs.declared.Ray.{Ray}
 use Rattle.ray.specs.declared.Vec3.{Vec3}
 use Rattle.ray.specs.Ray.{rayOf, acceptedRay}

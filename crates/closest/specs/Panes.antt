@@ -57,7 +57,7 @@ pub record Result (A : Type 0) : Type 0 where
   pub answer : A
   pub tests : ℕ
 
--- closest: a hit with its position and distance, or no hit, or a refusal
+-- closest: the position that is hit and how far off, or that none is, or a refusal
 pub data ClosestAnswer : Type 0 where
   hitAt : (position : ℕ) → Float → ClosestAnswer
   noHit : ClosestAnswer
@@ -99,7 +99,7 @@ module _ (bytes indices : List ℕ) (panes : List Float) (r : Ray) where
   abbrev pub paneCause : ℕ
   paneCause = entryCause (eqb (length panes % 6) 0) (length bytes) (length indices) r
 
-  -- the walks that they take: closest notes and tells each distance below the reach, so that a tie keeps the first met; miss stops at the first
+  -- the walks that they take: closest notes and tells each distance below the reach, so of equal ones the first counts; miss stops at the first
   unfoldable pub closestWalk : OutcomeWords Beam (Found Float)
   unfolding paneOf queryAt
   closestWalk = queryAt bytes beams (closest (paneOf indices panes) nearer) none (length indices) (beamOf r)

@@ -16,7 +16,7 @@ use ray::Vec3;
 // More tests than any walk makes.
 const MOST: u32 = 0xffff_ffff;
 
-// How closest ends: a hit with its position and distance, no hit, or refused for the cause of this number.
+// How closest ends: the position that is hit and how far off, nothing hit, or refused for the cause of this number.
 pub enum ClosestHit {
     Hit(u32, f32),
     NoHit,

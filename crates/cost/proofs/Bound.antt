@@ -9,7 +9,9 @@ use lib.Dec.{T, eqb, leb, lit<, lit≤}
 use lib.IntN.{pos}
 use lib.Ieee.{Float, nan, inf, fin, binary32, add, mul, lt, ofBits, ofInt}
 use Rattle.float.specs.Magnitude.{Upto, Held}
-use Rattle.float.proofs.Magnitude.{held-up, held-pow, mul-upto, upto-le, round-upto, add-costs}
+use Rattle.float.proofs.Held.{held-up, held-pow}
+use Rattle.float.proofs.Magnitude.{mul-upto, upto-le, add-costs}
+use Rattle.float.proofs.Rounding.{round-upto}
 use Rattle.aabb.specs.declared.Aabb.{Aabb}
 use Rattle.aabb.specs.Aabb.{halfArea, acceptedBox}
 use Rattle.aabb.proofs.Bounds.{accepted, half-area-bound}

@@ -1,4 +1,4 @@
-// Internal: a last-in, first-out stack of 32 groups (faststack.rs). A group is a word, the stack a lent part of an array with its depth beside it.
+// Internal: a stack with room for 32 groups (faststack.rs). A group is a word, the stack a lent part of an array with its depth beside it.
 ghost use mathlib.Core.Path.{_≡_};
 ghost use Prim.Native.Nat.{_≤_};
 ghost use lib.ListN.{length};

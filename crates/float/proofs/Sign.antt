@@ -6,39 +6,36 @@ use lib.Dec.{T, leb, eqb}
 use lib.Ieee.{Float, nan, inf, fin, Format, prec, low, ones, hid, top, odd, ofFields, ofBits, toBits, fits, isNan, lt, le, eq, level, up, down}
 use borrow.Author.Tests.{eq-eqb}
 use lib.Ieee.Bits.{ofBits-toBits}
-use Rattle.float.specs.Sign.{negative}
+use Rattle.float.specs.Sign.{signBit}
 
-odd-negative : (d : ℕ) (s : Bool) (q k l : ℕ) → negative (odd d s q k l) ≡ s
+odd-sign-bit : (d : ℕ) (s : Bool) (q k l : ℕ) → signBit (odd d s q k l) ≡ s
 unfolding odd
-odd-negative d s zero k l = refl
-odd-negative d s (suc q) k l = refl
+odd-sign-bit d s zero k l = refl
+odd-sign-bit d s (suc q) k l = refl
 
-fields-negative : (f : Format) (s : Bool) (x t : ℕ) → T (not (isNan (ofFields f s x t))) → negative (ofFields f s x t) ≡ s
+fields-sign : (f : Format) (s : Bool) (x t : ℕ) → T (not (isNan (ofFields f s x t))) → signBit (ofFields f s x t) ≡ s
 unfolding ofFields isNan
-fields-negative f s zero t h = odd-negative (prec f) s t 0 (low f)
-fields-negative f s (suc x) t h = go (eqb (suc x) (ones f)) (eqb t 0) h
+fields-sign f s zero t h = odd-sign-bit (prec f) s t 0 (low f)
+fields-sign f s (suc x) t h = go (eqb (suc x) (ones f)) (eqb t 0) h
   where
-    go : (a b : Bool) → T (not (isNan (cond a (cond b (inf s) nan) (odd (prec f) s (hid f + t) x (low f))))) → negative (cond a (cond b (inf s) nan) (odd (prec f) s (hid f + t) x (low f))) ≡ s
+    number : Float
+    number = odd (prec f) s (hid f + t) x (low f)
+
+    go : (a b : Bool) → T (not (isNan (cond a (cond b (inf s) nan) number))) → signBit (cond a (cond b (inf s) nan) number) ≡ s
     go true true h = refl
     go true false h = absurd h
-    go false b h = odd-negative (prec f) s (hid f + t) x (low f)
+    go false b h = odd-sign-bit (prec f) s (hid f + t) x (low f)
 
-bits-negative : (f : Format) (b : ℕ) → T (not (isNan (ofBits f b))) → negative (ofBits f b) ≡ leb (top f) b
+bits-sign : (f : Format) (b : ℕ) → T (not (isNan (ofBits f b))) → signBit (ofBits f b) ≡ leb (top f) b
 unfolding ofBits
-bits-negative f b h = fields-negative f (leb (top f) b) (b % top f / hid f) (b % hid f) h
+bits-sign f b h = fields-sign f (leb (top f) b) (b % top f / hid f) (b % hid f) h
 
 -- the sign bit is the pattern's highest
-pub sign-of-bits : (f : Format) (v : Float) → T (fits f v) → T (not (isNan v)) → negative v ≡ leb (top f) (toBits f v)
+pub sign-of-bits : (f : Format) (v : Float) → T (fits f v) → T (not (isNan v)) → signBit v ≡ leb (top f) (toBits f v)
 sign-of-bits f v h k =
-    ap negative (sym (ofBits-toBits f v h)) ∙ bits-negative f (toBits f v) (subst (λ (z : Float). T (not (isNan z))) (sym (ofBits-toBits f v h)) k)
+    ap signBit (sym (ofBits-toBits f v h)) ∙ bits-sign f (toBits f v) (subst (λ (z : Float). T (not (isNan z))) (sym (ofBits-toBits f v h)) k)
 
 -- ---- a comparison that holds has no NaN in it
-pub no-nan-le-l : (x y : Float) → le x y ≡ true → T (not (isNan x))
-unfolding le isNan
-no-nan-le-l nan y h = subst T (sym h) tt
-no-nan-le-l (inf s) y h = tt
-no-nan-le-l (fin s m e) y h = tt
-
 pub no-nan-le-r : (x y : Float) → le x y ≡ true → T (not (isNan y))
 unfolding le isNan
 no-nan-le-r nan nan h = subst T (sym h) tt

@@ -9,7 +9,8 @@ use lib.Ieee.{Float, fin, binary32, minus, le, ofBits}
 abbrev pub power : ℕ → Float
 power e = fin false 1 (minus e 127)
 
--- e is the biased exponent of the smallest power of two that is not below x: 2 ^ (e - 127) is not below x, and no power of two that is not below x is smaller
+-- e is the biased exponent of the smallest power of two that is not below x: 2 ^ (e - 127) is not below x, and each power of two that is
+-- not below x is at least that
 pub record NextPower (x : Float) (e : ℕ) : Type 0 where
   pub reaches : T (le x (power e))
   pub least : (z : ℤ) → T (le x (fin false 1 z)) → T (le (power e) (fin false 1 z))

@@ -3,7 +3,7 @@ use mathlib.Core.Bool.{Bool, false}
 use lib.Ieee.{Float, nan, inf, fin}
 
 -- the sign bit; -0 has it
-abbrev pub negative : Float → Bool
-negative nan = false
-negative (inf s) = s
-negative (fin s m e) = s
+abbrev pub signBit : Float → Bool
+signBit nan = false
+signBit (inf s) = s
+signBit (fin s m e) = s

@@ -1,12 +1,12 @@
 -- When a ray passes a slot box, value by value: each near value and the near limit are at most each far value and tmax.
 -- So the nesting of the maxima and minima does not matter.
-use mathlib.Core.Path.{_≡_, refl, subst}
+use mathlib.Core.Path.{_≡_, refl}
 use mathlib.Core.Bool.{Bool, true, false, not, cond}
 use mathlib.Core.Logic.{_↔_}
 use lib.Dec.{T}
-use lib.Ieee.{Float, nan, inf, fin, lt, le, eq, isNan}
+use lib.Ieee.{Float, lt, le, isNan}
 use Rattle.float.specs.Compare.{minOf, maxOf}
-use Rattle.float.proofs.Order.{le-transitive, le-of-lt-test, le-of-lt-left}
+use Rattle.float.proofs.Order.{le-transitive, le-of-lt, le-of-not-lt}
 use Rattle.ray.specs.declared.Ray.{Ray}
 use Rattle.ray.proofs.Bounds.{Accepted}
 use Rattle.node.specs.declared.Slot.{Slot}
@@ -22,22 +22,6 @@ pub record AtMostFar (v : Node) (t : Slot) (r : Ray) (a : Float) : Type 0 where
   pub z : T (le a (farZ v t r))
   pub tmax : T (le a (r .tmax))
 
--- of two values that are no NaN one is at most the other
-pub le-unless-below : (x y : Float) → T (not (isNan x)) → T (not (isNan y)) → lt x y ≡ false → T (le y x)
-unfolding lt le eq isNan
-le-unless-below nan y p q h = absurd p
-le-unless-below (inf s) nan p q h = absurd q
-le-unless-below (inf true) (inf true) p q h = tt
-le-unless-below (inf true) (inf false) p q h = absurd (subst T h tt)
-le-unless-below (inf false) (inf true) p q h = tt
-le-unless-below (inf false) (inf false) p q h = tt
-le-unless-below (inf true) (fin t n d) p q h = absurd (subst T h tt)
-le-unless-below (inf false) (fin t n d) p q h = tt
-le-unless-below (fin s m e) nan p q h = absurd q
-le-unless-below (fin s m e) (inf true) p q h = tt
-le-unless-below (fin s m e) (inf false) p q h = absurd (subst T h tt)
-le-unless-below (fin s m e) (fin t n d) p q h = le-of-lt-left (fin s m e) (fin t n d) tt tt h
-
 -- the greater of two is at most x exactly if both are
 module _ (a b x : Float) (p : T (not (isNan a))) (q : T (not (isNan b))) where
   pub max-to : T (le (maxOf a b) x) → T (le a x) × T (le b x)
@@ -45,8 +29,8 @@ module _ (a b x : Float) (p : T (not (isNan a))) (q : T (not (isNan b))) where
   max-to = go (lt b a) refl
     where
       go : (c : Bool) → lt b a ≡ c → T (le (cond c a b) x) → T (le a x) × T (le b x)
-      go true e h = (h, le-transitive b a x (le-of-lt-test b a e) h)
-      go false e h = (le-transitive a b x (le-unless-below b a q p e) h, h)
+      go true e h = (h, le-transitive b a x (le-of-lt b a e) h)
+      go false e h = (le-transitive a b x (le-of-not-lt b a q p e) h, h)
 
   pub max-from : T (le a x) → T (le b x) → T (le (maxOf a b) x)
   unfolding maxOf
@@ -62,8 +46,8 @@ module _ (a b x : Float) (p : T (not (isNan a))) (q : T (not (isNan b))) where
   min-to = go (lt a b) refl
     where
       go : (c : Bool) → lt a b ≡ c → T (le x (cond c a b)) → T (le x a) × T (le x b)
-      go true e h = (h, le-transitive x a b h (le-of-lt-test a b e))
-      go false e h = (le-transitive x b a h (le-unless-below a b p q e), h)
+      go true e h = (h, le-transitive x a b h (le-of-lt a b e))
+      go false e h = (le-transitive x b a h (le-of-not-lt a b p q e), h)
 
   pub min-from : T (le x a) → T (le x b) → T (le x (minOf a b))
   unfolding minOf

@@ -8,7 +8,7 @@ use lib.ListN.{getD}
 use lib.Ieee.{Float, nan, inf, fin, lt, le, isNan}
 use lib.Ieee.Bits.{is-true}
 use Rattle.float.specs.Compare.{minOf}
-use Rattle.float.proofs.Order.{le-transitive, le-of-lt-test}
+use Rattle.float.proofs.Order.{le-transitive, le-of-lt, le-of-not-lt}
 use Rattle.words.specs.Fields.{field}
 use Rattle.words.proofs.Ors.{bit-from, bit-to, zero-bit}
 use Rattle.ray.specs.declared.Ray.{Ray}
@@ -17,7 +17,6 @@ use Rattle.node.specs.declared.Node.{Node}
 use Rattle.node.specs.Node.{noSlot}
 use Rattle.slot.specs.Slot.{nearLimit, farX, farY, farZ, nearOf, farOf, passes}
 use Rattle.slot.specs.Mask.{onlyIf, hitBits, passesSlot, slotHit, hitMask}
-use Rattle.hits.proofs.Passing.{le-unless-below}
 
 -- two rays that differ in their reach alone, which is no higher for the first
 pub record LowerReach (r s : Ray) : Type 0 where
@@ -41,8 +40,8 @@ min-rises n x a b h = go (lt x a) refl (lt x b) refl
   where
     go : (c : Bool) → lt x a ≡ c → (d : Bool) → lt x b ≡ d → T (le n (cond c x a)) → T (le n (cond d x b))
     go true e true f p = p
-    go true e false f p = le-transitive n x b p (le-transitive x a b (le-of-lt-test x a e) h)
-    go false e true f p = le-transitive n a x p (le-unless-below x a (no-nan-left x b (le-of-lt-test x b f)) (no-nan-left a b h) e)
+    go true e false f p = le-transitive n x b p (le-transitive x a b (le-of-lt x a e) h)
+    go false e true f p = le-transitive n a x p (le-of-not-lt x a (no-nan-left x b (le-of-lt x b f)) (no-nan-left a b h) e)
     go false e false f p = le-transitive n a b p h
 
 -- the first ray is the second with its own reach

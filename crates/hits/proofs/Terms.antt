@@ -13,7 +13,9 @@ use lib.Ieee.Scale.{finite}
 use Rattle.float.specs.Compare.{minOf, maxOf, inBounds}
 use Rattle.float.specs.Magnitude.{Within}
 use Rattle.float.specs.PowerOfTwo.{scaleOf}
-use Rattle.float.proofs.Magnitude.{round-atmost, held-pow, atmost-le, atmost-finite, atmost-no-nan, add-within, sub-within, mul-within}
+use Rattle.float.proofs.Held.{held-pow}
+use Rattle.float.proofs.Magnitude.{atmost-le, atmost-finite, atmost-no-nan, add-within, sub-within, mul-within}
+use Rattle.float.proofs.Rounding.{round-atmost}
 use Rattle.ray.specs.declared.Ray.{Ray}
 use Rattle.ray.specs.Ray.{safeInverse, belowZero}
 use Rattle.ray.proofs.Bounds.{Accepted, in-bounds-within, inverse-within}

@@ -130,7 +130,7 @@ pub extern "C" fn measured_orders(words: &[u32], cases: &[u32], out: &mut [u32])
     count
 }
 
-// The first of causes 1, 2 and 5 to 7 of a tree of n leaves, or 0; 4 if there are not three marks to a leaf.
+// The first of causes 1, 2, 5, 6 and 7 of a tree of n leaves, or 0; 4 if there are not three marks to a leaf.
 #[no_mangle]
 pub extern "C" fn measured_accept(words: &[u32], n: usize, marks: &mut [u32]) -> u32 {
     let first = bvh2_check::sizes(words, n);

@@ -6,8 +6,8 @@ use mathlib.Core.List.{List, [], _∷_, _++_}
 use lib.Dec.{T}
 use lib.ListN.{take}
 use lib.Ieee.{Float, ofBits, lt, isNan}
+use Rattle.float.proofs.Order.{lt-through, lt-self, lt-between}
 use Rattle.float.proofs.Sign.{no-nan-lt-l}
-use Rattle.float.proofs.Strict.{lt-through, lt-self, lt-between}
 use Rattle.order.specs.Lists.{keep, some}
 use Rattle.order.specs.Assign.{Pair, greatest, leastPair}
 use Rattle.order.specs.Scan.{priced, noBest, firstOr, bestPair, cheaper}

@@ -2,8 +2,10 @@
 -- of two.
 use mathlib.Core.Path.{_≡_, refl, sym, ap, _∙_, subst}
 use mathlib.Core.Logic.{inl, inr}
-use Prim.Native.Nat.{ℕ, suc, _+_, _-_, _*_, _/_, _%_, _^_, _≤_, _<_, min, zero-le}
-use native.Mathlib.Nat.{le-trans, le-refl, le-suc, le-of-eq, le-of-lt, lt-of-lt-of-le, lt-div-mul-add, lt-of-mul-lt-mul-right, eq-zero-or-pos, add-zero, suc-mul, zero-div, zero-mod, mul-pos, mul-right-comm, mul-le-mul-right, le-of-mul-le-mul-right, min-le-left, min-le-right, le-min, div-add-mod', div-mul-le-self}
+use Prim.Native.Nat.{ℕ, suc, _+_, _-_, _*_, _/_, _%_, _^_, _≤_, _<_, zero-le}
+use native.Mathlib.Nat.{le-trans, le-refl, le-suc, le-of-eq, le-of-lt, lt-of-lt-of-le, eq-zero-or-pos, add-zero, min-le-left, min-le-right, le-min}
+use native.Mathlib.Nat.{zero-mul, suc-mul, mul-right-comm, mul-le-mul-right, le-of-mul-le-mul-right, lt-of-mul-lt-mul-right}
+use native.Mathlib.Nat.{zero-div, zero-mod, lt-div-mul-add, div-add-mod', div-mul-le-self}
 use native.Mathlib.Omega.{arith}
 use mathlib.Core.Bool.{Bool, true, false, cond}
 use lib.IntN.{pos}
@@ -13,9 +15,9 @@ use lib.Ieee.Fits.{down-pos, eq→eqb}
 use lib.Ieee.Scale.{finite}
 use Rattle.float.specs.Magnitude.{Within}
 use Rattle.float.specs.PowerOfTwo.{power}
-use Rattle.float.proofs.Magnitude.{sub-within, atmost-finite}
+use Rattle.float.proofs.Magnitude.{sub-within, atmost-finite, atmost-no-nan}
 use Rattle.float.proofs.Monotone.{sub-mono, mul-mono-left}
-use Rattle.float.proofs.Order.{le→Le, le-self}
+use Rattle.float.proofs.Order.{le-nonneg, le-nonpos, le-self}
 use Rattle.float.proofs.PowerOfTwo.{scale-power, power-inverse}
 use Rattle.quantization.specs.Ends.{roundDown, roundUp, clampedByte, quantMin, quantMax, reciprocalOf, onGrid, childMin, childMax}
 
@@ -80,17 +82,10 @@ byte-mono r g (fin true m e) y h = zero-le
 byte-mono r g (fin false m e) nan h = absurd (unfold le in h)
 byte-mono r g (fin false m e) (inf true) h = absurd (unfold le in h)
 byte-mono r g (fin false m e) (inf false) h = min-le-right (r (m * up e) (down e)) 255
-byte-mono r g (fin false m e) (fin true n d) h =
-    let z : m * up e ≡ 0 = zero-part (m * up e) (down d) (n * up d * down e) (down-pos d) (le→Le (fin false m e) (fin true n d) tt tt h) in
-    le-of-eq (ap (λ (k : ℕ). min (r k (down e)) 255) z ∙ ap (λ (k : ℕ). min k 255) (g .none (down e)))
-  where
-    zero-part : (a d b : ℕ) → 0 < d → a * d + b ≡ 0 → a ≡ 0
-    zero-part a d b D h = elim (eq-zero-or-pos a) [ inl z ↦ z | inr p ↦ absurd (clash (a * d) b (mul-pos p D) h) ]
-      where
-        clash : (u b : ℕ) → 0 < u → u + b ≡ 0 → ⊥
-        clash u b p h = omega arith
+byte-mono r g (fin false m e) (fin true n d) h = rw (le-nonpos m e n d h, zero-mul (up e), g .none (down e)) zero-le
 byte-mono r g (fin false m e) (fin false n d) h =
-    let k : r (m * up e) (down e) ≤ r (n * up d) (down d) = g .order (m * up e) (down e) (n * up d) (down d) (down-pos e) (down-pos d) (le→Le (fin false m e) (fin false n d) tt tt h) in
+    let k : r (m * up e) (down e) ≤ r (n * up d) (down d) =
+    g .order (m * up e) (down e) (n * up d) (down d) (down-pos e) (down-pos d) (le-nonneg m e n d .0 h) in
     le-min (le-trans (min-le-left (r (m * up e) (down e)) 255) k) (min-le-right (r (m * up e) (down e)) 255)
 
 byte-down-up : (x : Float) → quantMin x ≤ quantMax x
@@ -114,7 +109,8 @@ unfolding onGrid
 grid-mono p e x y l u P X Y h =
     subst (λ (r : Float). T (le (mul binary32 (sub binary32 x p) r) (mul binary32 (sub binary32 y p) r))) (sym (reciprocal-power e l u))
     (mul-mono-left binary32 (sub binary32 x p) (sub binary32 y p) 1 (minus (254 - e) 127) (difference x X) (difference y Y)
-    (sub-mono binary32 x y p p (atmost-finite x (2 ^ 40) 1 X) (atmost-finite y (2 ^ 40) 1 Y) (atmost-finite p (2 ^ 40) 1 P) (atmost-finite p (2 ^ 40) 1 P) h (le-self p (atmost-finite p (2 ^ 40) 1 P))))
+    (sub-mono binary32 x y p p (atmost-finite x (2 ^ 40) 1 X) (atmost-finite y (2 ^ 40) 1 Y) (atmost-finite p (2 ^ 40) 1 P) (atmost-finite p (2 ^ 40) 1 P)
+    h (le-self p (atmost-no-nan p (2 ^ 40) 1 P))))
   where
     difference : (v : Float) → Within 40 v → T (finite (sub binary32 v p))
     difference v w = atmost-finite (sub binary32 v p) (2 ^ 41) 1 (sub-within binary32 40 v p (lit< tt) w P)

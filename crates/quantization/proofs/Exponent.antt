@@ -1,4 +1,5 @@
--- The exponent byte: read from the bit pattern, at least 53 always, at most 161 within the bounds, and there the smallest power of two not below the scaled extent.
+-- The exponent byte: read from the bit pattern, at least 53 always, at most 161 within the bounds, and there that of the next power of two at or
+-- above the scaled extent.
 use mathlib.Core.Path.{_≡_, refl, sym, subst}
 use mathlib.Core.Bool.{Bool, true, false, not, _&&_, cond, true≢false}
 use Prim.Native.Nat.{ℕ, _^_, _≤_}
@@ -7,17 +8,15 @@ use lib.Dec.{T, lit<}
 use lib.Ieee.{Float, nan, inf, fin, binary32, round, sub, mul, div, lt, le, toBits, isNan}
 use lib.Ieee.Bits.{is-true}
 use lib.Ieee.Fits.{mul-fits, and-l, and-r}
-use lib.Ieee.Positive.{positive-finite, between}
-use lib.Ieee.Scale.{finite}
 use Rattle.float.specs.Compare.{maxOf}
 use Rattle.float.specs.Magnitude.{Within}
 use Rattle.float.specs.PowerOfTwo.{power, NextPower, nextPower}
-use Rattle.float.proofs.Magnitude.{sub-within, atmost-finite}
+use Rattle.float.proofs.Magnitude.{sub-within, atmost-finite, atmost-tests}
 use Rattle.float.proofs.Monotone.{mul-mono-left}
-use Rattle.float.proofs.Order.{le-of-lt-test, le-of-lt-left, le-transitive, atmost-tests}
-use Rattle.float.proofs.Patterns.{leastNormal, pattern-upto}
+use Rattle.float.proofs.Order.{le-of-lt, le-transitive, lt-of-not-le}
 use Rattle.float.proofs.PowerOfTwo.{roundedField, next-power, next-power-mono, next-power-of-bits}
 use Rattle.float.proofs.Sign.{no-nan-le-r}
+use Rattle.float.proofs.Units.{leastNormal, pattern-upto}
 use Rattle.ray.proofs.Bounds.{bounded}
 use Rattle.aabb.specs.declared.Aabb.{Aabb}
 use Rattle.aabb.specs.Aabb.{inOrder, acceptedBox}
@@ -37,7 +36,7 @@ scaled-least x = go x (lt leastExtent x) refl
     go nan true h = absurd (true≢false (sym h))
     go (inf true) true h = absurd (true≢false (sym h))
     go (inf false) true h = tt
-    go (fin s m e) true h = mul-mono-left binary32 leastExtent (fin s m e) 8421505 (negsuc 30) tt tt (le-of-lt-test leastExtent (fin s m e) h)
+    go (fin s m e) true h = mul-mono-left binary32 leastExtent (fin s m e) 8421505 (negsuc 30) tt tt (le-of-lt leastExtent (fin s m e) h)
 
 pub scale-least : (lo hi : Float) → T (le leastScale (extentScale lo hi))
 unfolding extentScale
@@ -121,17 +120,10 @@ box-in-range b t =
       z = exponent-range (b .min .z) (b .max .z) (lo .z) (hi .z);
     }
 
--- ---- within the bounds the byte is that of the smallest power of two not below the scale
+-- ---- within the bounds the byte is that of the next power of two at or above the scale
 pub exponent-next-power : (lo hi : Float) → Within 40 lo → Within 40 hi → NextPower (extentScale lo hi) (exponentOf lo hi)
-unfolding exponentOf round mul div lt le
+unfolding exponentOf round mul div lt le isNan
 exponent-next-power lo hi p q =
     let s = extentScale lo hi in
-    let f : T (finite s) = positive-finite s (between leastScale s largestScale tt tt (scale-least lo hi) (scale-most lo hi p q)) in
-    next-power s (lt-of-not-le (power 0) s tt f (λ (h : T (le s (power 0))). le-transitive leastScale s (power 0) (scale-least lo hi) h)) (le-transitive s largestScale (power 255) (scale-most lo hi p q) tt)
-  where
-    lt-of-not-le : (x y : Float) → T (finite x) → T (finite y) → (T (le y x) → ⊥) → T (lt x y)
-    lt-of-not-le x y f g h = go (lt x y) refl
-      where
-        go : (b : Bool) → lt x y ≡ b → T b
-        go true e = tt
-        go false e = h (le-of-lt-left x y f g e)
+    let small : T (le s (power 0)) → ⊥ = λ h. le-transitive leastScale s (power 0) (scale-least lo hi) h in
+    next-power s (lt-of-not-le (power 0) s tt (scale-no-nan lo hi) small) (le-transitive s largestScale (power 255) (scale-most lo hi p q) tt)

@@ -6,13 +6,13 @@ use native.Mathlib.Omega.{arith}
 use mathlib.Core.Bool.{Bool, true, false, not, cond, true≢false}
 use lib.IntN.{pos}
 use lib.Dec.{T, ltb, eqb, ltb→lt, nltb→le, lt→ltb, eqb→eq, lit≤, not-T}
-use lib.Ieee.{Float, nan, inf, fin, binary32, up, down, lt, le, ofInt, toUnsigned}
+use lib.Ieee.{Float, nan, inf, fin, binary32, up, down, lt, le, ofInt, toUnsigned, isNan}
 use lib.Ieee.Fits.{down-pos, eq→eqb}
 use lib.Ieee.Bits.{is-true, cond-no}
 use lib.Ieee.Exact.{HasValue}
 use lib.Ieee.Back.{round-whole}
 use lib.Ieee.Positive.{above-of-le}
-use Rattle.float.proofs.Order.{le→Le, Le→le, le-of-lt-left}
+use Rattle.float.proofs.Order.{le-nonneg, le-of-not-lt}
 use Rattle.quantization.proofs.Ends.{down-up}
 use Rattle.quantization.specs.Ends.{roundUp, clampedByte, quantMin, quantMax}
 
@@ -36,7 +36,7 @@ inside (inf true) p q = absurd (true≢false (sym p))
 inside (inf false) p q = absurd (true≢false q)
 inside (fin true m e) p q = absurd (true≢false (sym p))
 inside (fin false m e) p q =
-    lt-of-not-le (λ (h : 255 * down e ≤ m * up e). subst T q (Le→le (fin false 255 (pos 0)) (fin false m e) (le-trans h (le-of-eq (sym (mul-one (m * up e)))))))
+    lt-of-not-le (λ (h : 255 * down e ≤ m * up e). subst T q (le-nonneg 255 (pos 0) m e .1 (le-trans h (le-of-eq (sym (mul-one (m * up e)))))))
 
 -- what the truncation asks there, and what it gives
 pub above-minus-one : (x : Float) → Inside x → T (lt (fin true 1 (pos 0)) x)
@@ -75,17 +75,17 @@ at-the-top (inf true) p = absurd (true≢false (sym p))
 at-the-top (inf false) p = refl
 at-the-top (fin true m e) p = absurd (above-of-le (fin false 255 (pos 0)) (fin true m e) tt (yes (le (fin false 255 (pos 0)) (fin true m e)) p))
 at-the-top (fin false m e) p =
-    let h : 255 * down e ≤ m * up e * 1 = le→Le (fin false 255 (pos 0)) (fin false m e) tt tt (yes (le (fin false 255 (pos 0)) (fin false m e)) p) in
+    let h : 255 * down e ≤ m * up e * 1 = le-nonneg 255 (pos 0) m e .0 (yes (le (fin false 255 (pos 0)) (fin false m e)) p) in
     sym (min-eq-right (le-div-iff-mul-le (down-pos e) .1 (le-trans h (le-of-eq (mul-one (m * up e))))))
 
 pub at-the-bottom : (x : Float) → lt (fin false 0 (pos 0)) x ≡ false → 0 ≡ quantMin x
-unfolding clampedByte
+unfolding clampedByte isNan
 at-the-bottom nan p = refl
 at-the-bottom (inf true) p = refl
 at-the-bottom (inf false) p = absurd (true≢false (unfold lt in p))
 at-the-bottom (fin true m e) p = refl
 at-the-bottom (fin false m e) p =
-    let h : m * up e * 1 ≤ 0 * 1 * down e = le→Le (fin false m e) (fin false 0 (pos 0)) tt tt (le-of-lt-left (fin false 0 (pos 0)) (fin false m e) tt tt p) in
+    let h : m * up e * 1 ≤ 0 * 1 * down e = le-nonneg m e 0 (pos 0) .0 (le-of-not-lt (fin false 0 (pos 0)) (fin false m e) tt tt p) in
     let z : m * up e ≡ 0 = none (m * up e) (le-trans (le-of-eq (sym (mul-one (m * up e)))) (le-trans h (le-of-eq (zero-mul (down e))))) in
     sym (ap (λ (n : ℕ). min (n / down e) 255) z ∙ ap (λ (n : ℕ). min n 255) (zero-div (down e)))
   where

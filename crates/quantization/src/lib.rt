@@ -14,7 +14,7 @@ fn extent_scale(lo: f32, hi: f32) -> f32
     float::max(hi - lo, LEAST_EXTENT) * DENOM
 }
 
-// The biased exponent of the smallest power of two not below the extent's 255th part.
+// The biased exponent of the next power of two at or above the extent's 255th part.
 // 2^23 - 1 added to a pattern carries into its exponent field unless the digits below are all 0.
 pub fn exponent_byte(lo: f32, hi: f32) -> u8
     ensures { λ r. ⌜ r ≡ exponentOf lo hi ⌝ }

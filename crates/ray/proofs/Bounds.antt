@@ -9,9 +9,9 @@ use lib.Ieee.{Float, fin, binary32, div, le, isNan}
 use lib.Ieee.Fits.{and-l, and-r}
 use Rattle.float.specs.Compare.{inBounds}
 use Rattle.float.specs.Magnitude.{Within}
-use Rattle.float.specs.Sign.{negative}
-use Rattle.float.proofs.Magnitude.{div-atmost, held-pow, atmost-of-tests, atmost-no-nan}
-use Rattle.float.proofs.Order.{atleast-of-test}
+use Rattle.float.specs.Sign.{signBit}
+use Rattle.float.proofs.Held.{held-pow}
+use Rattle.float.proofs.Magnitude.{div-atmost, atmost-of-tests, atleast-of-test, atmost-no-nan}
 use Rattle.ray.specs.declared.Vec3.{Vec3}
 use Rattle.ray.specs.declared.Ray.{Ray}
 use Rattle.ray.specs.Ray.{tiny, safeInverse, octantOf, boundedVec, acceptedRay}
@@ -52,7 +52,7 @@ pub safe-inverse-within : (v : Float) → T (not (isNan v)) → Within 23 (safeI
 unfolding safeInverse
 safe-inverse-within v p = go (tiny v) refl
   where
-    go : (t : Bool) → tiny v ≡ t → Within 23 (cond t (fin (negative v) 1 (pos 23)) (div binary32 (fin false 1 (pos 0)) v))
+    go : (t : Bool) → tiny v ≡ t → Within 23 (cond t (fin (signBit v) 1 (pos 23)) (div binary32 (fin false 1 (pos 0)) v))
     go true h = lit≤ tt
     go false h =
         div-atmost binary32 (fin false 1 (pos 0)) v 1 1 1 (2 ^ 23) (lit< tt) (lit< tt) (held-pow binary32 23 (lit≤ tt)) (lit≤ tt) (atleast-of-test v 1 (negsuc 22) p h)

@@ -4,7 +4,7 @@ use mathlib.Core.Bool.{Bool, true, false, not, _&&_, cond}
 use lib.IntN.{pos, negsuc}
 use lib.Ieee.{Float, fin, binary32, div, lt, le, isNan}
 use Rattle.float.specs.Compare.{plusZero, inBounds}
-use Rattle.float.specs.Sign.{negative}
+use Rattle.float.specs.Sign.{signBit}
 use Rattle.ray.specs.declared.Vec3.{Vec3}
 use Rattle.ray.specs.declared.Ray.{Ray}
 
@@ -14,7 +14,7 @@ tiny v = le (fin true 1 (negsuc 22)) v && le v (fin false 1 (negsuc 22))
 
 -- 2 ^ 23 with v's sign bit where v is tiny, else 1 / v rounded
 unfoldable pub safeInverse : Float → Float
-safeInverse v = cond (tiny v) (fin (negative v) 1 (pos 23)) (div binary32 (fin false 1 (pos 0)) v)
+safeInverse v = cond (tiny v) (fin (signBit v) 1 (pos 23)) (div binary32 (fin false 1 (pos 0)) v)
 
 -- below zero as a number, so not -0
 abbrev pub belowZero : Float → Bool

@@ -24,7 +24,7 @@ pub fn node_count(n: usize) -> usize
     2 * n - 1
 }
 
-// The first of causes 1, 2 and 5 to 7, or 0; NO_ANSWER if marks are left.
+// The first of causes 1, 2, 5, 6 and 7, or 0; NO_ANSWER if marks are left.
 pub fn first_cause(words: &[u32], n: usize) -> u32
     requires { ⌜ n ≤ 512 ⌝ }
     ensures { λ r. ⌜ (r ≡ 0 → Accepted (now (words .entry)) n) ⌝ }

@@ -15,8 +15,7 @@ use lib.Ieee.Fits.{down-pos, and-i, and-l, and-r}
 use lib.Ieee.Order.{transfer}
 use Rattle.float.specs.Compare.{inBounds}
 use Rattle.float.specs.Magnitude.{AtMost}
-use Rattle.float.proofs.Magnitude.{atmost-of-tests}
-use Rattle.float.proofs.Order.{atmost-tests}
+use Rattle.float.proofs.Magnitude.{atmost-of-tests, atmost-tests}
 use Rattle.words.proofs.Upto.{lt-or-ge}
 use Rattle.rule.specs.Rule.{pointOk}
 use Rattle.rule.proofs.Answers.{tells, agree, leb-tells}

@@ -56,7 +56,7 @@ orderText ws indices limit zero = treeText ws indices limit false
 orderText ws indices limit (suc zero) = treeText ws indices limit true
 orderText ws indices limit (suc (suc k)) = refusalText 3
 
--- for n leaves: n is looked at first, then the length, then order
+-- for n leaves: too many are refused before a wrong length, and that before a wrong order (01, "Samples")
 unfoldable pub leavesText : List ℕ → ℕ → List ℕ
 unfolding orderText
 leavesText input n =

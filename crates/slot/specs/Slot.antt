@@ -1,5 +1,5 @@
--- Whether a ray passes the box of a slot (01, "Walking", and "Corners of each file", node.rs): `intersect_ray_basic` for one slot, each f32
--- operation rounded once, in the order in which the Rust writes it. The test sees p, e, the slot's six bytes and the ray, and no slot number.
+-- Whether a ray passes the box of a slot (01, "Walking", and "Corners of each file", node.rs): `intersect_ray_basic` for one slot, by
+-- the f32 operations of the Rust in their order, each with one rounding. The test sees p, e, the slot's six bytes and the ray, and no slot number.
 -- Where no value is a NaN, as in every node that meets the rule (law `terms-finite`), any nesting of the three maxima gives the same
 -- answer, and so do the Rust's own max and min of two floats.
 use mathlib.Core.Bool.{Bool, false, cond}

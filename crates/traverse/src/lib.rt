@@ -1,4 +1,4 @@
-// The walk of a ray through a record, step by step (cwbvh/traverse_macro.rs). A walker goes in by value, and its successor comes out.
+// The walk of a ray through a record, step by step (cwbvh/traverse_macro.rs). A call takes a walker by value and gives back the next one.
 pub use advance::Answer;
 pub use advance::Group;
 pub use advance::Walk;
@@ -224,7 +224,7 @@ impl Walker {
         Started { walker, refused: 9 }
     }
 
-    // Does one node test, or reports one position, or says done; the record is taken to have n positions. A refused step gives the walker back.
+    // Tests one node, reports one position, or is done; the record is taken to have n positions. A refused step gives the walker back.
     pub fn step(self, record: &[u8], n: usize) -> Stepped
         ensures { λ r. ⌜ steppedOf r ≡ stepBytes (now («record» .entry)) n (wordsOf self) ⌝ }
     {

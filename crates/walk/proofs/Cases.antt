@@ -144,7 +144,7 @@ pub nothing-due-done : {s d : Type 0} (m : ℕ) (T : Tests s d) (n : ℕ) (w : W
 unfolding stepOf
 nothing-due-done m T n w e z f = rw (z, f, nothing-not-first (w .positions) (w .group) (w .stack) e, and-false (leb m 0), e)
 
--- done stays done, whatever count a later step brings, if it is no cause of refusal
+-- a walker that is done stays so, whatever count a later step brings, if it is no cause of refusal
 pub done-stays : {s d : Type 0} (m : ℕ) (T : Tests s d) (n : ℕ) (w : Walker s) → stepOf m T n w .answer ≡ done → (k : ℕ) → sizesFit m k ≡ true
     → stepOf m T k (stepOf m T n w .walker) ≡ stay (stepOf m T n w .walker) done
 done-stays m T n w e k z =

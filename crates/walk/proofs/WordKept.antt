@@ -84,7 +84,7 @@ module _ {s d : Type 0} (m : ℕ) (N : NodeWords s d) (n : ℕ) (w : WalkerWords
       let z = eq-eqb (w .positions .bits) 0 (omega (arith, ltb-false 0 (w .positions .bits) (f .positions))) in
       rw (z, f .current, and-false (leb m 0), f .positions, f .stack)
 
--- done stays done, whatever count a later step on the same record brings, if it is no cause of refusal
+-- a walker that is done stays so, whatever count a later step on the same record brings, if it is no cause of refusal
 pub words-done-stays : {s d : Type 0} (m : ℕ) (N : NodeWords s d) (n : ℕ) (w : WalkerWords s)
     → stepWords m N n w .answer ≡ done → (k : ℕ) → sizesFit m k ≡ true
     → stepWords m N k (stepWords m N n w .walker) ≡ stayWords (stepWords m N n w .walker) done

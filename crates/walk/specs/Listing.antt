@@ -29,12 +29,12 @@ flat f l = joined [] _++_ f l
 -- ---- a ray over a record of m nodes
 
 module _ {s d : Type 0} (m : ℕ) (T : Tests s d) (ray : s) where
-  -- the first node is reached; another is reached if its parent is and the ray passes it there
+  -- node 0 is reached, and with a node all children that the ray passes in it (01, "Walking")
   pub data Reached : ℕ → Type 0 where
     first : {v : ℕ} → v ≡ 0 → 0 < m → Reached v
     child : {v c : ℕ} → Reached v → In c (T .children ray v) → Reached c
 
-  -- a position is passed if its node is reached and the ray passes it there
+  -- p is passed: some reached node has it among the positions that the ray passes
   abbrev pub Passed : ℕ → Type 0
   Passed p = (v : ℕ) × Reached v × In p (T .positions ray v)
 

@@ -84,7 +84,7 @@ pub data Found (d : Type 0) : Type 0 where
   fault : ℕ → Found d
 
 module _ {s d : Type 0} (pane : ℕ → s → Pane d) (nearer : d → s → Bool) where
-  -- closest: a distance below the reach is noted and told, so that a tie keeps the first met
+  -- closest: a distance below the reach is noted and told, so that of equal distances the first counts
   abbrev pub lower : Bool → ℕ → d → Found d → Reaction d (Found d)
   lower true p t x = record { noted = hit p t; tells = t ∷ []; stop = false }
   lower false p t x = record { noted = x; tells = []; stop = false }

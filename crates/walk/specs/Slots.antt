@@ -63,12 +63,12 @@ module _ {s d : Type 0} (W : Slots s d) where
 
   -- ---- in the words of the demand
 
-  -- the first node is reached; another is reached if its parent is and the ray passes its slot there
+  -- node 0 is reached, and with a node each child in a slot that the ray passes (01, "Walking")
   pub data ReachedBySlots (ray : s) : ℕ → Type 0 where
     first : {v : ℕ} → v ≡ 0 → 0 < W .shape .nodes → ReachedBySlots ray v
     child : {v c : ℕ} (j : ℕ) → ReachedBySlots ray v → j < 8 → innerBit (W .imask v) j ≡ 1 → W .passes ray v j ≡ true → c ≡ childAt v j → ReachedBySlots ray c
 
-  -- a position is passed if its node is reached and the ray passes its slot there, and the position itself
+  -- p is passed: it stands in a slot that the ray passes, in a reached node, and the ray admits it
   pub record PassedBySlots (ray : s) (p : ℕ) : Type 0 where
     pub node : ℕ
     pub reached : ReachedBySlots ray node

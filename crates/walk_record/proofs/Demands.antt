@@ -99,7 +99,7 @@ module _ {s d : Type 0} (bytes : List ℕ) (R : Rays s d) (laws : RayLaws R) (fi
       unfolding anyHitAt queryAt shapeAt
       any-hit-listing = any-hit-words-listing (slotsAt bytes R n) (maskAt bytes R) (RuleAt bytes n) (slot-laws bytes R laws n) (mask-laws bytes R laws n fit) sound r accepted few-positions few-nodes
 
-      -- and a node's listing its passed positions, then its reached children's listings, each in the order of the walk
+      -- and a node lists what the ray passes in it, then what its reached children list, each in the order of the walk
       pub listing-order : (v : ℕ) → v < nodeCount bytes
           → listing (nodeCount bytes) (testsOf (slotsAt bytes R n)) r v
           ≡ positionsOf (slotsAt bytes R n) r v ++ flat (listing (nodeCount bytes) (testsOf (slotsAt bytes R n)) r) (childrenOf (slotsAt bytes R n) r v)

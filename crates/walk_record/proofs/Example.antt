@@ -65,7 +65,7 @@ pub record Examples : Type 0 where
   pub octant-7 : anyHitAt three beams 4 along .noted ≡ 0 ∷ 2 ∷ 1 ∷ 3 ∷ []
   pub octant-3 : anyHitAt three beams 4 against .noted ≡ 0 ∷ 3 ∷ 2 ∷ 1 ∷ []
   -- a count too small refuses a position and one too large is refused as such, and the walker goes on; a told 0 lets nothing more pass, but what
-  -- is in hand is reported and what waits is tested; done stays done
+  -- is in hand is reported and what waits is tested; a walker that is done stays so
   pub mixed :
       runAt three beams (step 4 ∷ step 0 ∷ step 65537 ∷ step 4 ∷ step 4 ∷ tell nought ∷ step 4 ∷ step 4 ∷ step 4 ∷ step 4 ∷ step 4 ∷ []) (freshWords along) .answers
       ≡ tested 0 ∷ refused 10 ∷ refused 2 ∷ position 0 ∷ tested 1 ∷ position 2 ∷ position 1 ∷ tested 2 ∷ done ∷ done ∷ []

@@ -6,7 +6,7 @@ use mathlib.Core.Path.{_≡_, refl}
 use Prim.Native.Nat.{ℕ}
 use lib.ListN.{getD}
 use lib.Ieee.{Float, lt}
-use Rattle.float.proofs.Order.{le-of-lt-test}
+use Rattle.float.proofs.Order.{le-of-lt}
 use Rattle.ray.specs.declared.Ray.{Ray}
 use Rattle.node.specs.Node.{nodeAt, noSlot}
 use Rattle.slot.specs.Mask.{passesSlot}
@@ -35,7 +35,7 @@ module _ (bytes : List ℕ) (r s : Ray) (lower : LowerReach r s) where
 
 -- a distance below the reach lowers it
 told-lower : (t : Float) (r : Ray) → lt t (r .tmax) ≡ true → LowerReach (reaching t r) r
-told-lower t r h = record { origin = refl; direction = refl; inverse = refl; tmin = refl; reach = le-of-lt-test t (r .tmax) h }
+told-lower t r h = record { origin = refl; direction = refl; inverse = refl; tmin = refl; reach = le-of-lt t (r .tmax) h }
 
 -- so that what a higher reach keeps held before the telling
 told-held : (P : Ray → Type 0) → ((r s : Ray) → LowerReach r s → P r → P s) → (t : Float) (b : Beam) → P (toldBeam t b .ray) → P (b .ray)

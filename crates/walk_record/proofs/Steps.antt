@@ -36,7 +36,7 @@ module _ {s d : Type 0} (bytes : List ℕ) (R : Rays s d) (n : ℕ) (w : WalkerW
   unfolding stepAt
   step-finished = finished-step (nodeCount bytes) (nodeWordsAt bytes R) n w
 
-  -- and done stays done
+  -- and a walker that is done stays so
   pub done-stays : stepAt bytes R n w .answer ≡ done → (k : ℕ) → sizesFit (nodeCount bytes) k ≡ true
       → stepAt bytes R k (stepAt bytes R n w .walker) ≡ stayWords (stepAt bytes R n w .walker) done
   unfolding stepAt

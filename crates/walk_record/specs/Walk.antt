@@ -41,13 +41,13 @@ module _ {s d : Type 0} (bytes : List ℕ) (R : Rays s d) where
   abbrev pub listingAt : ℕ → s → List ℕ
   listingAt n r = listing (nodeCount bytes) (testsOf (slotsAt bytes R n)) r 0
 
--- The first node is reached. Another is reached if its parent is and the ray passes its slot there.
+-- Node 0 is reached, and with a node each child in a slot that the ray passes (01, "Walking").
 pub data Reached (bytes : List ℕ) (ray : Ray) : ℕ → Type 0 where
   first : {v : ℕ} → v ≡ 0 → 0 < nodeCount bytes → Reached bytes ray v
   child : {v c : ℕ} (j : ℕ) → Reached bytes ray v → j < 8 → innerBit (nodeAt bytes v .imask) j ≡ 1 → passesSlot (nodeAt bytes v) ray j ≡ true
       → c ≡ childIndex (nodeAt bytes v .«child_base_idx») (nodeAt bytes v .imask) j → Reached bytes ray c
 
--- A position is passed if its node is reached and the ray passes its slot there.
+-- p is passed: it stands in a slot that the ray passes, in a reached node.
 pub record Passed (bytes : List ℕ) (n : ℕ) (ray : Ray) (p : ℕ) : Type 0 where
   pub node : ℕ
   pub reached : Reached bytes ray node

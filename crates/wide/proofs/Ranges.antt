@@ -67,7 +67,7 @@ leaf-ranges t = simp (slot-ranges (t .slots) 0, leaf-ranges-below, upto-append)
 
 -- ---- by counting
 
--- every node but the first stands in one child range, the first in none, and no range holds another number
+-- child ranges hold the nodes from 1 on, each once, and nothing else
 pub child-count : (t : Wide) (v : ℕ) → count v (childRanges (layout t)) ≡ inRange v 1 (innerChildren (t .slots) + nodesBelow (t .slots))
 child-count t v = ap (λ (l : List ℕ). count v l) (child-ranges t) ∙ count-range v 1 (innerChildren (t .slots) + nodesBelow (t .slots))
 

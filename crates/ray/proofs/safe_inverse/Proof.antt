@@ -1,13 +1,13 @@
 -- `safe_inverse`: the sign bit of the pattern is the sign of the value, which the tests passed have shown to be no NaN.
-use mathlib.Core.Path.{_≡_, refl, sym, ap, _∙_, subst}
+use mathlib.Core.Path.{_≡_, sym, ap, _∙_, subst}
 use mathlib.Core.Logic.{inl, inr}
-use mathlib.Core.Bool.{Bool, true, false, _&&_, cond}
+use mathlib.Core.Bool.{Bool, true, false, _&&_, cond, and-false}
 use native.Mathlib.Nat.{not-le-of-lt}
 use lib.IntN.{pos, negsuc}
 use lib.Dec.{T, leb, leb→le, le→leb, not-T}
 use lib.Ieee.{Float, fin, binary32, div, le, neg, ofBits, toBits, fits}
 use lib.Ieee.Bits.{is-true, is-false}
-use Rattle.float.specs.Sign.{negative}
+use Rattle.float.specs.Sign.{signBit}
 use Rattle.float.proofs.Sign.{sign-of-bits, no-nan-le-r}
 use Rattle.ray.specs.Ray.{safeInverse}
 use Rattle.ray.proofs.safe_inverse.Statement.{statement}
@@ -19,20 +19,16 @@ lo = fin true 1 (negsuc 22)
 abbrev hi : Float
 hi = fin false 1 (negsuc 22)
 
-near : (v : Float) (s : Bool) → le lo v ≡ true → le v hi ≡ true → negative v ≡ s → fin s 1 (pos 23) ≡ safeInverse v
+near : (v : Float) (s : Bool) → le lo v ≡ true → le v hi ≡ true → signBit v ≡ s → fin s 1 (pos 23) ≡ safeInverse v
 unfolding safeInverse
 near v s p q n =
-    sym (ap (λ (t : Bool). cond (t && le v hi) (fin (negative v) 1 (pos 23)) (div binary32 (fin false 1 (pos 0)) v)) p
-    ∙ ap (λ (t : Bool). cond t (fin (negative v) 1 (pos 23)) (div binary32 (fin false 1 (pos 0)) v)) q
+    sym (ap (λ (t : Bool). cond (t && le v hi) (fin (signBit v) 1 (pos 23)) (div binary32 (fin false 1 (pos 0)) v)) p
+    ∙ ap (λ (t : Bool). cond t (fin (signBit v) 1 (pos 23)) (div binary32 (fin false 1 (pos 0)) v)) q
     ∙ ap (λ (t : Bool). fin t 1 (pos 23)) n)
 
 far : (v : Float) → (le lo v && le v hi) ≡ false → div binary32 (fin false 1 (pos 0)) v ≡ safeInverse v
 unfolding safeInverse
-far v p = sym (ap (λ (t : Bool). cond t (fin (negative v) 1 (pos 23)) (div binary32 (fin false 1 (pos 0)) v)) p)
-
-and-false : (b : Bool) → (b && false) ≡ false
-and-false true = refl
-and-false false = refl
+far v p = sym (ap (λ (t : Bool). cond t (fin (signBit v) 1 (pos 23)) (div binary32 (fin false 1 (pos 0)) v)) p)
 
 held : (c : tie.Start) → T (fits binary32 (c .args .v))
 held c = subst T (sym (c .good .0 .1)) tt
