@@ -47,10 +47,12 @@ module _ (count tests room : ℕ) where
 
 module _ (bytes : List ℕ) (n : ℕ) (ray : Ray) where
   -- over any number of positions that a walk reports, it never pauses
-  never-paused : (most : ℕ) (w : WalkerWords Beam) (count : ℕ) (before found : List ℕ) → Sized bytes n → 25 * 65535 ≤ most → Stands bytes n ray Paused most w count before found → ⊥
+  never-paused : (most : ℕ) (w : WalkerWords Beam) (count : ℕ) (before found : List ℕ) → Sized bytes n → 25 * 65535 ≤ most
+      → Stands bytes n ray Paused most w count before found → ⊥
   never-paused most w count before found sized h k = omega (arith, sized .nodes, k .0, k .2 .few)
 
-  pub counted-only : (s : State) (most : ℕ) (w : WalkerWords Beam) (count : ℕ) (before found : List ℕ) → OneOf (0 ∷ 1 ∷ []) (tagOf the-type s) → Sized bytes n → 25 * 65535 ≤ most
+  pub counted-only : (s : State) (most : ℕ) (w : WalkerWords Beam) (count : ℕ) (before found : List ℕ)
+      → OneOf (0 ∷ 1 ∷ []) (tagOf the-type s) → Sized bytes n → 25 * 65535 ≤ most
       → Stands bytes n ray s most w count before found → Stands bytes n ray Done most w count before found
   counted-only Done most w count before found t sized h k = k
   counted-only Paused most w count before found t sized h k = absurd (never-paused most w count before found sized h k)
@@ -80,7 +82,8 @@ module _ (bytes : List ℕ) (n : ℕ) (ray : Ray) where
           → Ends (fitted count tests (length list)) (listFor (fitted count tests (length list)) (take count found) list)
       ends-kept before found e h =
           let k = ends-as (fitted count tests (length list)) is-fitted in
-          (k .0, ap (λ (x : List ℕ). listFor (fitted count tests (length list)) x list) (met-front before (outcome bytes n ray .noted) found e count (C .all) h) ∙ k .1)
+          let f = met-front before (outcome bytes n ray .noted) found e count (C .all) h in
+          (k .0, ap (λ (x : List ℕ). listFor (fitted count tests (length list)) x list) f ∙ k .1)
 
       -- too many for the list
       pub ends-short : length list < count → Ends (lacking 11 count) list
@@ -88,7 +91,8 @@ module _ (bytes : List ℕ) (n : ℕ) (ray : Ray) where
       ends-short h = ends-as (lacking 11 count) (lacks count tests (length list) h ∙ is-fitted)
 
     -- written into a list that is long enough, by a walk
-    pub ends-again : {count tests : ℕ} → Counted bytes n ray count tests → count ≤ length list → Sized bytes n → (s : State) (most : ℕ) (w : WalkerWords Beam) (again : ℕ) (after : List ℕ) → 25 * 65535 ≤ most
+    pub ends-again : {count tests : ℕ} → Counted bytes n ray count tests → count ≤ length list → Sized bytes n
+        → (s : State) (most : ℕ) (w : WalkerWords Beam) (again : ℕ) (after : List ℕ) → 25 * 65535 ≤ most
         → Stands bytes n ray s most w again list after → Ends (listed again (w .tests)) after
     unfolding listFor
     ends-again C h sized Done most w again after m k =

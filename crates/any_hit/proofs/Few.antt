@@ -44,7 +44,8 @@ module _ {s d : Type 0} (m : ℕ) (N : NodeWords s d) (n : ℕ) where
   seek-low (suc k) w z =
       let r = advanceWords m N n w in
       cond-elim Low (findsNone r) _ _
-      (λ h. seek-low k (advanceWords m N n w .walker) (let e : r .walker .positions .bits ≡ 0 = eqb-true _ _ (and-true (isTest (r .answer)) _ h .1) in omega (arith, e))) (λ _. turn-low w z)
+      (λ h. let e : r .walker .positions .bits ≡ 0 = eqb-true _ _ (and-true (isTest (r .answer)) _ h .1) in
+      seek-low k (advanceWords m N n w .walker) (omega (arith, e))) (λ _. turn-low w z)
 
   pub seek-few : (k : ℕ) (w : WalkerWords s) → w .positions .bits ≤ 0 → onesBelow 32 (seekWords m N k n w .walker .positions .bits) ≤ 24
   seek-few k w z = low-ones _ (seek-low k w z)

@@ -3,10 +3,11 @@ use mathlib.Core.Bool.{false}
 use mathlib.Core.List.{List, [], _∷_, _++_}
 use mathlib.Core.Logic.{⊎-elim}
 use mathlib.Core.Path.{_≡_, refl, sym, ap, subst, _∙_}
-use Prim.Native.Nat.{ℕ, _+_, _≤_, _<_}
+use Prim.Native.Nat.{ℕ, _+_, _*_, _≤_, _<_}
 use native.Mathlib.Omega.{arith}
 use denote.Enum.Declared.{tagOf}
 use types.Run.{OneOf}
+use lib.Ieee.{Float}
 use lib.ListN.{length, take, set, replicate, length-append}
 use lib.Seq.{take-all, take-nil}
 use Rattle.lists.specs.Splice.{splice}
@@ -20,7 +21,7 @@ use Rattle.record_shape.specs.Record.{nodeCount}
 use Rattle.walk.specs.Step as S
 use Rattle.walk.specs.Queries.{append}
 use Rattle.walk.specs.Words as W
-use Rattle.walk.specs.WordStep.{WalkerWords, SteppedWords, seekWords}
+use Rattle.walk.specs.WordStep.{WalkerWords, SteppedWords, NodeWords, seekWords}
 use Rattle.walk.specs.WordQueries.{OutcomeWords}
 use Rattle.walk.proofs.WordEnds.{stepsLeftWords}
 use Rattle.walk_record.specs.Beam.{Beam, beamOf, forgedBeam, beams}
@@ -40,8 +41,9 @@ use Rattle.any_hit.proofs.State.{the-type}
 use Rattle.any_hit.proofs.Written.{met-next, met-front, met-over, met-kept}
 use Rattle.any_hit.proofs.Few.{seek-few}
 
-pub walk-begins : (bytes : List ℕ) (n : ℕ) (ray : Ray) (before : List ℕ) → FieldsFit bytes → forgedBeam (beamOf ray) ≡ false → (octant : ℕ) → octant ≡ octantOf (ray .direction)
-    → (v : Walk) → v ≡ begun → Walking bytes n ray (walkerOf ray octant v (replicate capacity 0)) 0 before before
+pub walk-begins : (bytes : List ℕ) (n : ℕ) (ray : Ray) (before : List ℕ) → FieldsFit bytes → forgedBeam (beamOf ray) ≡ false
+    → (octant : ℕ) → octant ≡ octantOf (ray .direction) → (v : Walk) → v ≡ begun
+    → Walking bytes n ray (walkerOf ray octant v (replicate capacity 0)) 0 before before
 unfolding anyHitAt onesBelow field
 walk-begins bytes n ray before fit accepted octant e v f = record {
   noted = [];
@@ -54,13 +56,14 @@ walk-begins bytes n ray before fit accepted octant e v f = record {
 -- ---- the list that is written to
 
 -- as it is, it may be written to,
-pub walk-kept : {bytes : List ℕ} {n : ℕ} {ray : Ray} {w : WalkerWords Beam} {count : ℕ} {before found : List ℕ} → Walking bytes n ray w count before found → Walking bytes n ray w count found found
+pub walk-kept : {bytes : List ℕ} {n : ℕ} {ray : Ray} {w : WalkerWords Beam} {count : ℕ} {before found : List ℕ}
+    → Walking bytes n ray w count before found → Walking bytes n ray w count found found
 walk-kept {before = before} {found = found} K =
     record { noted = K .noted; leads = K .leads; counted = K .counted; few = K .few; met = met-kept before (K .noted) found (K .met) }
 
 -- and then it is as if it had been written at once
-pub walk-over : {bytes : List ℕ} {n : ℕ} {ray : Ray} {u w : WalkerWords Beam} {less count : ℕ} {before between found : List ℕ} → Walking bytes n ray u less before between
-    → Walking bytes n ray w count between found → less ≤ count → Walking bytes n ray w count before found
+pub walk-over : {bytes : List ℕ} {n : ℕ} {ray : Ray} {u w : WalkerWords Beam} {less count : ℕ} {before between found : List ℕ}
+    → Walking bytes n ray u less before between → Walking bytes n ray w count between found → less ≤ count → Walking bytes n ray w count before found
 walk-over {before = before} {found = found} J K h = record {
   noted = K .noted;
   leads = K .leads;
@@ -70,20 +73,26 @@ walk-over {before = before} {found = found} J K h = record {
 }
 
 -- moved to the front of another list, it may be written to there
-pub walk-moved : {bytes : List ℕ} {n : ℕ} {ray : Ray} {w : WalkerWords Beam} {count : ℕ} {before found : List ℕ} → Walking bytes n ray w count before found → count ≤ length found
+pub walk-moved : {bytes : List ℕ} {n : ℕ} {ray : Ray} {w : WalkerWords Beam} {count : ℕ} {before found : List ℕ}
+    → Walking bytes n ray w count before found → count ≤ length found
     → (room : List ℕ) → count ≤ length room → (more : List ℕ) → more ≡ splice room 0 (take count found) → Walking bytes n ray w count more more
 walk-moved {count = count} {before = before} {found = found} K h room g more e =
     let f = met-front before (K .noted) found (K .met) count (K .counted) h in
     let l : take (length room) (K .noted) ≡ K .noted = take-all (length room) (K .noted) (omega (arith, K .counted)) in
-    walk-kept {before = room} (record { noted = K .noted; leads = K .leads; counted = K .counted; few = K .few; met = e ∙ ap (splice room 0) (f ∙ sym l) })
+    let m : more ≡ metIn room (K .noted) = e ∙ ap (splice room 0) (f ∙ sym l) in
+    walk-kept {before = room} (record { noted = K .noted; leads = K .leads; counted = K .counted; few = K .few; met = m })
 
 -- ---- on from a walk
 
-module _ {bytes : List ℕ} {n : ℕ} {ray : Ray} (sized : Sized bytes n) (fit : FieldsFit bytes) {w : WalkerWords Beam} {count : ℕ} {before found : List ℕ} (K : Walking bytes n ray w count before found) where
+module _ {bytes : List ℕ} {n : ℕ} {ray : Ray} (sized : Sized bytes n) (fit : FieldsFit bytes)
+    {w : WalkerWords Beam} {count : ℕ} {before found : List ℕ} (K : Walking bytes n ray w count before found) where
   abbrev m : ℕ
   m = nodeCount bytes
 
-  steadily : Steady m (nodeWordsAt bytes beams) n
+  abbrev N : NodeWords Beam Float
+  N = nodeWordsAt bytes beams
+
+  steadily : Steady m N n
   steadily = steady bytes n sized fit
 
   -- where a search for positions leaves it, at walker u
@@ -92,24 +101,35 @@ module _ {bytes : List ℕ} {n : ℕ} {ray : Ray} (sized : Sized bytes n) (fit :
   After Paused u = Walking bytes n ray u count before found × (stepsLeftWords m u < stepsLeftWords m w) × (onesBelow 32 (u .positions .bits) ≤ 24)
   After (Refused k) u = outcome bytes n ray .ended ≡ S.refused k
 
-  pub walk-seeks : w .positions .bits ≡ 0 → (k : ℕ) (a : Answer) (u : WalkerWords Beam) → record { walker = u; answer = answerOf a } ≡ seekWords m (nodeWordsAt bytes beams) k n w → After (stateOf a) u
+  -- by the answer
+  abbrev Seeks : S.Answer → WalkerWords Beam → Type 0
+  Seeks b u = Sought m N n append (outcome bytes n ray) w (K .noted) b u × (onesBelow 32 (u .positions .bits) ≤ 24)
+
+  pub walk-seeks : w .positions .bits ≡ 0 → (k : ℕ) (a : Answer) (u : WalkerWords Beam)
+      → record { walker = u; answer = answerOf a } ≡ seekWords m N k n w → After (stateOf a) u
   unfolding stateOf answerOf
   walk-seeks none k a u e =
-      go a (subst (λ (r : SteppedWords Beam). Sought m (nodeWordsAt bytes beams) n append (outcome bytes n ray) w (K .noted) (r .answer) (r .walker)) (sym e)
-      (seek-sought steadily k w (K .leads) (omega (arith, none))))
-      (subst (λ (r : SteppedWords Beam). onesBelow 32 (r .walker .positions .bits) ≤ 24) (sym e) (seek-few m (nodeWordsAt bytes beams) n k w (omega (arith, none))))
+      let z : w .positions .bits ≤ 0 = omega (arith, none) in
+      go a (subst (λ (r : SteppedWords Beam). Seeks (r .answer) (r .walker)) (sym e) (seek-sought steadily k w (K .leads) z, seek-few m N n k w z))
     where
-      go : (b : Answer) → Sought m (nodeWordsAt bytes beams) n append (outcome bytes n ray) w (K .noted) (answerOf b) u → onesBelow 32 (u .positions .bits) ≤ 24 → After (stateOf b) u
-      go (A.Tested v) g l = (record { noted = K .noted; leads = g .leads; counted = K .counted; few = omega (arith, g .less, K .few); met = K .met }, g .less, l)
-      go (A.Position p) g l = absurd g
-      go A.Done g l = (
-        record { ended = ap (λ (o : OutcomeWords Beam (List ℕ)). o .ended) (sym g); all = K .counted ∙ ap (λ (o : OutcomeWords Beam (List ℕ)). length (o .noted)) g; tested = ap (λ (o : OutcomeWords Beam (List ℕ)). o .walker .tests) g },
+      go : (b : Answer) → Seeks (answerOf b) u → After (stateOf b) u
+      go (A.Tested v) (g, l) =
+          let f : count + stepsLeftWords m u ≤ 25 * m = omega (arith, g .less, K .few) in
+          (record { noted = K .noted; leads = g .leads; counted = K .counted; few = f; met = K .met }, g .less, l)
+      go (A.Position p) (g, l) = absurd g
+      go A.Done (g, l) = (
+        record {
+          ended = ap (λ (o : OutcomeWords Beam (List ℕ)). o .ended) (sym g);
+          all = K .counted ∙ ap (λ (o : OutcomeWords Beam (List ℕ)). length (o .noted)) g;
+          tested = ap (λ (o : OutcomeWords Beam (List ℕ)). o .walker .tests) g;
+        },
         K .met ∙ ap (λ (o : OutcomeWords Beam (List ℕ)). metIn before (o .noted)) g,
       )
-      go (A.Refused j) g l = ap (λ (o : OutcomeWords Beam (List ℕ)). o .ended) (sym g)
+      go (A.Refused j) (g, l) = ap (λ (o : OutcomeWords Beam (List ℕ)). o .ended) (sym g)
 
   -- it ends there, or it is paused
-  pub walk-stands : (s : State) (u : WalkerWords Beam) → After s u → OneOf (0 ∷ 2 ∷ []) (tagOf the-type s) → (most : ℕ) → Stands bytes n ray s most u count before found
+  pub walk-stands : (s : State) (u : WalkerWords Beam) → After s u → OneOf (0 ∷ 2 ∷ []) (tagOf the-type s) → (most : ℕ)
+      → Stands bytes n ray s most u count before found
   walk-stands Done u h t most = h
   walk-stands Paused u h t most = absurd (⊎-elim (λ e. omega arith) (λ e. omega arith) t)
   walk-stands (Refused k) u h t most = h

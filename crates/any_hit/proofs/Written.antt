@@ -25,7 +25,8 @@ module _ (before noted found : List ℕ) (e : found ≡ metIn before noted) wher
           let l = met-length in
           let f : found ≡ splice before 0 noted = e ∙ ap (splice before 0) (take-all (length before) noted (omega arith)) in
           let a : length (noted ++ (p ∷ [])) ≤ length before = omega (arith, length-append noted (p ∷ [])) in
-          written-next before 0 count 1 noted (p ∷ []) found (set found count p) (sym c) refl (omega arith) f (rw (zero-add count) (set-splice found count p h))
+          written-next before 0 count 1 noted (p ∷ []) found (set found count p) (sym c) refl (omega arith) f
+          (rw (zero-add count) (set-splice found count p h))
           ∙ ap (splice before 0) (sym (take-all (length before) (noted ++ (p ∷ [])) a))
       go (no h) =
           let l = met-length in
@@ -47,7 +48,8 @@ unfolding splice
 splice-over s a b h =
     let k : length b ≡ length a + (length b - length a) = omega arith in
     let d : drop (length b) (a ++ drop (length a) s) ≡ drop (length b) s =
-    ap (λ (x : ℕ). drop x (a ++ drop (length a) s)) k ∙ drop-append-add a (drop (length a) s) (length b - length a) ∙ drop-drop (length b - length a) (length a) s
+    ap (λ (x : ℕ). drop x (a ++ drop (length a) s)) k ∙ drop-append-add a (drop (length a) s) (length b - length a)
+    ∙ drop-drop (length b - length a) (length a) s
     ∙ ap (λ (x : ℕ). drop x s) (sym k) in
     let z : 0 + length a ≡ length a = zero-add (length a) in
     let y : 0 + length b ≡ length b = zero-add (length b) in
@@ -57,7 +59,8 @@ pub met-over : (before x y : List ℕ) → length x ≤ length y → metIn (metI
 met-over before x y h =
     let l = met-length before x (metIn before x) refl in
     ap (λ (k : ℕ). splice (metIn before x) 0 (take k y)) l
-    ∙ splice-over before (take (length before) x) (take (length before) y) (omega (arith, h, length-take (length before) x, length-take (length before) y))
+    ∙ splice-over before (take (length before) x) (take (length before) y)
+    (omega (arith, h, length-take (length before) x, length-take (length before) y))
 
 -- what is written there already may be written again
 pub met-kept : (before noted found : List ℕ) → found ≡ metIn before noted → found ≡ metIn found noted

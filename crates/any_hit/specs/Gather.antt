@@ -18,6 +18,7 @@ use Rattle.advance.specs.declared.Answer.{Answer}
 use Rattle.advance.specs.declared.Answer.the-variants as A
 use Rattle.advance.specs.Turn.{walkerOf}
 use Rattle.query.proofs.Leads.{Leads}
+use Rattle.any_hit.specs.AnyHit.{fitted, listFor}
 use Rattle.any_hit.specs.declared.State.{State}
 use Rattle.any_hit.specs.declared.State.the-variants.{Done, Paused, Refused}
 use Rattle.any_hit.specs.declared.Gathered.{Gathered}
@@ -25,6 +26,10 @@ use Rattle.any_hit.specs.declared.Gathered.{Gathered}
 -- positions in front of what was there, as many as there is room for
 abbrev pub metIn : List ℕ → List ℕ → List ℕ
 metIn before noted = splice before 0 (take (length before) noted)
+
+-- a list after so many positions were to come into it
+abbrev pub listWith : (count tests : ℕ) → (noted before : List ℕ) → List ℕ
+listWith count tests noted before = listFor (fitted count tests (length before)) noted before
 
 -- where a walk stands after a search for positions with this answer
 unfoldable pub stateOf : Answer → State

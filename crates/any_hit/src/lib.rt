@@ -8,8 +8,8 @@ ghost use Rattle.ray.specs.Ray.{rayOf, octantOf};
 ghost use Rattle.advance.specs.Turn.{walkerOf};
 ghost use Rattle.walk_record.specs.Beam.{beamOf, forgedBeam};
 ghost use Rattle.query.specs.Walk.{Sized};
-ghost use Rattle.any_hit.specs.AnyHit.{answerOf, fitted, walkOf, listFor, listOf, anyHitOf, listAfter};
-ghost use Rattle.any_hit.specs.Gather.{Walking, Counted, Gathers, stateOf};
+ghost use Rattle.any_hit.specs.AnyHit.{answerOf, fitted, walkOf, listOf, anyHitOf, listAfter};
+ghost use Rattle.any_hit.specs.Gather.{Walking, Counted, Gathers, stateOf, listWith};
 use advance::Answer;
 use advance::Walk;
 use ray::Ray;
@@ -21,14 +21,16 @@ const ALL: u32 = 0xffff_ffff;
 // Over any number of positions that a walk reports.
 const MANY: u32 = 0xffff_0000;
 
-// How any-hit ends: so many positions listed after so many node tests; or the list is short, refused 11 with the length needed; or refused for another cause.
+// How any-hit ends: so many positions listed after so many node tests; or the list is short, refused 11 with the length needed; or refused for
+// another cause.
 pub enum AnyHit {
     Listed(u32, u32),
     Short(u32),
     Refused(u32),
 }
 
-// Where a walk that gathers positions stands: it is done, or paused where those of another node may find no room, or refused for the cause of this number.
+// Where a walk that gathers positions stands: it is done, or paused where those of another node may find no room, or refused for the cause of this
+// number.
 enum State {
     Done,
     Paused,
@@ -124,7 +126,7 @@ fn copy(found: &[u32], count: usize, list: &mut [u32])
 fn deliver(found: &[u32], count: u32, tests: u32, list: &mut [u32]) -> AnyHit
     requires { ⌜ count ≤ length (now found) ⌝ }
     ensures { λ r. ⌜ answerOf r ≡ fitted count tests (length (now (list .entry))) ⌝ }
-    ensures { λ _. ⌜ now (list .exit) ≡ listFor (fitted count tests (length (now (list .entry)))) (take count (now (found .entry))) (now (list .entry)) ⌝ }
+    ensures { λ _. ⌜ now (list .exit) ≡ listWith count tests (take count (now (found .entry))) (now (list .entry)) ⌝ }
 {
     if count as usize > list.len() {
         return AnyHit::Short(count);
@@ -148,7 +150,7 @@ fn walk_again(
     ensures { λ r. ⌜ answerOf r ≡ walkOf (now («record» .entry)) n (beamOf ray) (length (now (list .entry))) ⌝ }
     ensures { λ _. ⌜ now (list .exit) ≡ listOf (now («record» .entry)) n (beamOf ray) (now (list .entry)) ⌝ }
 {
-    if count as usize > list.len() {
+    if list.len() < count as usize {
         return AnyHit::Short(count);
     }
     let start = advance::begin();
@@ -200,7 +202,7 @@ fn walk_on(
     }
 }
 
-// A whole walk over a record with nodes. As long as no more than 64 positions are sure to be found, they lie in few words.
+// A whole walk over a record with nodes: most rays pass few positions, for which 64 words are set aside; it goes on with more where they may not do.
 fn walk_whole(record: &[u8], n: usize, ray: Ray, list: &mut [u32]) -> AnyHit
     requires { ⌜ Sized (now «record») n × (forgedBeam (beamOf ray) ≡ false) ⌝ }
     ensures { λ r. ⌜ answerOf r ≡ walkOf (now («record» .entry)) n (beamOf ray) (length (now (list .entry))) ⌝ }

@@ -19,10 +19,12 @@ use Rattle.any_hit.proofs.any_hit.Tie as tie
 abbrev ray : tie.After-entry-cause → Ray
 ray c = let a = c .before .before .before .before .args in rayOf (a .origin) (a .direction) (a .tmin) (a .tmax)
 
-cause : (c : tie.After-entry-cause) → c .entry-cause .result ≡ entryCause true (length (c .before .before .before .before .args .«record» .now)) (c .before .before .before .before .args .n) (ray c)
+cause : (c : tie.After-entry-cause) → let a = c .before .before .before .before .args in
+    c .entry-cause .result ≡ entryCause true (length (a .«record» .now)) (a .n) (ray c)
 cause c = c .entry-cause .ensures ∙ ap (entryCause true _ _) (c .before .new .ensures)
 
-no-cause : (c : tie.Else1) → entryCause true (length (c .before .before .before .before .before .args .«record» .now)) (c .before .before .before .before .before .args .n) (ray (c .before)) ≡ 0
+no-cause : (c : tie.Else1) → let a = c .before .before .before .before .before .args in
+    entryCause true (length (a .«record» .now)) (a .n) (ray (c .before)) ≡ 0
 no-cause c = sym (cause (c .before)) ∙ c .if1 .left
 
 -- ---- the needs
@@ -45,15 +47,18 @@ returns-2 c =
     let e = c .before in
     let a = e .before .before .before .before .before .args in
     let h = enters (a .origin) (a .direction) (a .tmin) (a .tmax) (a .«record» .now) (a .n) (no-cause e) in
-    answers-empty (a .«record» .now) (a .n) (ray (e .before)) (a .list .now) (no-cause e) (c .if2 .taken) (h .few) (bytes-fit _ (λ i. e .before .before .before .before .shared-slice-known .given i .fits)) (unforged (a .origin) (a .direction) (a .tmin) (a .tmax) (a .«record» .now) (a .n) (no-cause e))
+    let f = unforged (a .origin) (a .direction) (a .tmin) (a .tmax) (a .«record» .now) (a .n) (no-cause e) in
+    let fit = bytes-fit _ (λ i. e .before .before .before .before .shared-slice-known .given i .fits) in
+    answers-empty (a .«record» .now) (a .n) (ray (e .before)) (a .list .now) (no-cause e) (c .if2 .taken) (h .few) fit f
 
 walk-whole-requires : tie.Need-walk-whole-requires
 walk-whole-requires c κs =
     let d = c .before in
     let e = d .before .before in
-    let a = e .before .before .before .before .args in (
+    let a = e .before .before .before .before .args in
+    let f = unforged (a .origin) (a .direction) (a .tmin) (a .tmax) (a .«record» .now) (a .n) (no-cause (d .before)) in (
       sized (a .origin) (a .direction) (a .tmin) (a .tmax) (a .«record» .now) (a .n) (no-cause (d .before)) (d .if2 .left),
-      ap (λ (r : Ray). forgedBeam (beamOf r)) (e .before .new .ensures) ∙ unforged (a .origin) (a .direction) (a .tmin) (a .tmax) (a .«record» .now) (a .n) (no-cause (d .before)),
+      ap (λ (r : Ray). forgedBeam (beamOf r)) (e .before .new .ensures) ∙ f,
     )
 
 same-length : tie.Need-same-length

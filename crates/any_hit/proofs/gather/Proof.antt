@@ -28,7 +28,8 @@ Inv-loop2 «record» n ray octant noted most stack found₀ e walk₀ count₀ f
     × Walking «record» n ray (walkerOf ray octant walk stack) count found₀ found
 
 abbrev μ-loop2 : tie.MeasureT-loop2
-μ-loop2 «record» n ray octant noted most stack found₀ e walk₀ count₀ found walk count = stepsLeftWords (nodeCount «record») (walkerOf ray octant walk stack)
+μ-loop2 «record» n ray octant noted most stack found₀ e walk₀ count₀ found walk count =
+    stepsLeftWords (nodeCount «record») (walkerOf ray octant walk stack)
 
 abbrev Inv-loop : tie.InvT-loop
 Inv-loop «record» n ray octant noted most stack₀ found₀ e walk₀ count₀ stack found walk count =
@@ -36,7 +37,8 @@ Inv-loop «record» n ray octant noted most stack₀ found₀ e walk₀ count₀
     × Walking «record» n ray (walkerOf ray octant walk stack) count found₀ found
 
 abbrev μ-loop : tie.MeasureT-loop
-μ-loop «record» n ray octant noted most stack₀ found₀ e walk₀ count₀ stack found walk count = stepsLeftWords (nodeCount «record») (walkerOf ray octant walk stack)
+μ-loop «record» n ray octant noted most stack₀ found₀ e walk₀ count₀ stack found walk count =
+    stepsLeftWords (nodeCount «record») (walkerOf ray octant walk stack)
 
 -- ---- the outer loop, from node to node
 
@@ -78,7 +80,8 @@ paused : (c : tie.After-enum-told Inv-loop2 μ-loop2 Inv-loop μ-loop) → let q
     After (sized (l q)) (fit (l q)) (walking (l q)) Paused (u q)
 paused c =
     let q = c .before .before .before .before .before .before in
-    subst (λ (x : State). After (sized (l q)) (fit (l q)) (walking (l q)) x (u q)) (sym (c .before .before .state-of .ensures) ∙ c .enum-told .given .1) (after q)
+    let e = sym (c .before .before .state-of .ensures) ∙ c .enum-told .given .1 in
+    subst (λ (x : State). After (sized (l q)) (fit (l q)) (walking (l q)) x (u q)) e (after q)
 
 -- ---- the inner loop, from position to position
 
@@ -87,22 +90,27 @@ module _ (c : tie.At-loop2 Inv-loop2 μ-loop2 Inv-loop μ-loop) where
   q = c .before .before .before .before .before .before .before
 
   abbrev v : WalkerWords Beam
-  v = walkerOf (s (l q) .args .ray) (s (l q) .args .octant) (c .loop2 .walk) (c .before .before .before .before .before .before .before .seek .last .1 .1 .1 .1 .1 .0)
+  v = walkerOf (s (l q) .args .ray) (s (l q) .args .octant) (c .loop2 .walk) (u q .stack)
 
   within : Walking (s (l q) .args .«record» .now) (s (l q) .args .n) (s (l q) .args .ray) v (c .loop2 .count) (l q .loop .found) (c .loop2 .found)
   within = c .loop2 .inv .3
 
   -- as it is for the outer loop
-  over : Walking (s (l q) .args .«record» .now) (s (l q) .args .n) (s (l q) .args .ray) v (c .loop2 .count) (s (l q) .args .found .now) (c .loop2 .found)
+  over : let a = s (l q) .args in
+      Walking (a .«record» .now) (a .n) (a .ray) v (c .loop2 .count) (a .found .now) (c .loop2 .found)
   over = walk-over (walking (l q)) within (c .loop2 .inv .0)
 
 noted : (c : tie.After-t32 Inv-loop2 μ-loop2 Inv-loop μ-loop) → let p = c .before .before .before .before .before .before in
     let k = p .before .before .before .before .before in
-    Noted (sized (l (q k))) (fit (l (q k))) (within k) (p .before .before .before .if1 .taken) (p .before .first-position .result) (p .before .first-position .ensures) (groupOf (c .before .rest-of .result)) (c .before .before .before .before .note .last .0)
+    Noted (sized (l (q k))) (fit (l (q k))) (within k) (p .before .before .before .if1 .taken)
+    (p .before .first-position .result) (p .before .first-position .ensures)
+    (groupOf (c .before .rest-of .result)) (c .before .before .before .before .note .last .0)
 noted c =
     let p = c .before .before .before .before .before .before in
     let k = p .before .before .before .before .before in
-    walk-notes (sized (l (q k))) (fit (l (q k))) (within k) (p .before .before .before .if1 .taken) (p .before .first-position .result) (p .before .first-position .ensures) (p .if2 .left) _ (c .before .rest-of .ensures) _ (c .before .before .before .before .note .ensures)
+    walk-notes (sized (l (q k))) (fit (l (q k))) (within k) (p .before .before .before .if1 .taken)
+    (p .before .first-position .result) (p .before .first-position .ensures)
+    (p .if2 .left) _ (c .before .rest-of .ensures) _ (c .before .before .before .before .note .ensures)
 
 -- ---- the needs
 
@@ -132,8 +140,9 @@ same-length-2 c = let k = walking (l (c .before .before .before .before .before)
 returns : tie.Need-returns Inv-loop2 μ-loop2 Inv-loop μ-loop
 returns c =
     let q = c .before .before .before .before .before in
-    let e = c .before .state-of .ensures in
-    (l q .loop .inv .2, walk-stands (sized (l q)) (fit (l q)) (walking (l q)) (c .before .state-of .result) (u q) (subst (λ (x : State). After (sized (l q)) (fit (l q)) (walking (l q)) x (u q)) (sym e) (after q)) (c .match .keys2) _)
+    let r = c .before .state-of in
+    let e = subst (λ (x : State). After (sized (l q)) (fit (l q)) (walking (l q)) x (u q)) (sym (r .ensures)) (after q) in
+    (l q .loop .inv .2, walk-stands (sized (l q)) (fit (l q)) (walking (l q)) (r .result) (u q) e (c .match .keys2) _)
 
 loop2-holds : tie.Need-loop2-holds Inv-loop2 μ-loop2 Inv-loop μ-loop
 loop2-holds c =
@@ -158,7 +167,9 @@ same-length-4 c = let k = over (c .before .before .before .before .before) in me
 returns-2 : tie.Need-returns-2 Inv-loop2 μ-loop2 Inv-loop μ-loop
 returns-2 c =
     let k = c .before .before .before .before .before in
-    (omega (arith, k .loop2 .inv .1), walk-past (sized (l (q k))) (fit (l (q k))) (within k) (c .before .before .before .if1 .taken) (c .before .first-position .result) (c .before .first-position .ensures) (c .if2 .taken))
+    let p = c .before .first-position in
+    let e = walk-past (sized (l (q k))) (fit (l (q k))) (within k) (c .before .before .before .if1 .taken) (p .result) (p .ensures) (c .if2 .taken) in
+    (omega (arith, k .loop2 .inv .1), e)
 
 cast-note : tie.Need-cast-note Inv-loop2 μ-loop2 Inv-loop μ-loop
 cast-note c = search needs

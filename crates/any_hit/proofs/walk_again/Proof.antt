@@ -27,10 +27,12 @@ gather-requires c κs =
     let b = c .before .before in
     let i = b .before .before .before in
     let s = i .before in
-    let fit = bytes-fit _ (λ j. i .shared-slice-known .given j .fits) in (
-      (s .pre .0 .0, walk-begins (s .args .«record» .now) (s .args .n) (s .args .ray) (s .args .list .now) fit (s .pre .0 .1) (s .args .octant) (s .pre .0 .2) (b .begin .result) (b .begin .ensures)),
-      (ap (λ (v : Walk). v .positions .bits) (b .begin .ensures), omega arith),
-    )
+    let a = s .args in
+    let p = s .pre .0 in
+    let r = b .begin in
+    let fit = bytes-fit _ (λ j. i .shared-slice-known .given j .fits) in
+    let w = walk-begins (a .«record» .now) (a .n) (a .ray) (a .list .now) fit (p .1) (a .octant) (p .2) (r .result) (r .ensures) in
+    ((p .0, w), (ap (λ (v : Walk). v .positions .bits) (r .ensures), omega arith))
 
 same-length : tie.Need-same-length
 same-length c = search needs
@@ -41,9 +43,11 @@ returns-2 c =
     let k = c .before .before .before in
     let i = k .before .before .before .before in
     let s = i .before .before .before in
+    let a = s .args in
     let g = k .gather .result in
-    ends-again (s .args .«record» .now) (s .args .n) (s .args .ray) (s .args .list .now) (s .pre .1) (i .if1 .left) (s .pre .0 .0)
-    (g .state) 0xffff_0000 (walkerOf (s .args .ray) (s .args .octant) (g .walk) (k .gather .last .1 .1 .1 .1 .1 .1 .1 .0)) (g .count) (k .gather .last .1 .1 .1 .1 .1 .1 .1 .1 .0) (omega arith) (k .gather .ensures .1)
+    let l = k .gather .last .1 .1 .1 .1 .1 .1 .1 in
+    ends-again (a .«record» .now) (a .n) (a .ray) (a .list .now) (s .pre .1) (i .if1 .left) (s .pre .0 .0)
+    (g .state) 0xffff_0000 (walkerOf (a .ray) (a .octant) (g .walk) (l .0)) (g .count) (l .1 .0) (omega arith) (k .gather .ensures .1)
 
 pub walk-again-spec : {M : Type 1} → statement M
 walk-again-spec = tie.close (tie.spec returns begin-requires slice-aggregate-gather gather-requires same-length returns-2)

@@ -1,9 +1,9 @@
 use mathlib.Core.List.{List}
 use mathlib.Core.Path.{subst, _∙_}
-use Prim.Native.Nat.{ℕ}
+use Prim.Native.Nat.{ℕ, _≤_}
 use native.Mathlib.Omega.{arith}
 use borrow.Author.Needs.{needs}
-use lib.ListN.{replicate}
+use lib.ListN.{length, replicate}
 use Rattle.walk.specs.WordStep.{WalkerWords}
 use Rattle.walk_record.specs.Beam.{Beam}
 use Rattle.advance.specs.Turn.{walkerOf}
@@ -33,11 +33,17 @@ module _ (c : tie.After-gather) where
   abbrev moved : List ℕ
   moved = c .before .before .before .before .before .copy .last .1 .1 .0
 
-done : (c : tie.At-match-keys2) → let k = c .before .before .before .before in
-    Stands (s k .args .«record» .now) (s k .args .n) (s k .args .ray) Done 0xffff_0000 (w k) (k .gather .result .count) (moved k) (kept k)
+  -- where it stands
+  abbrev At : State → Type 0
+  At x = Stands (s .args .«record» .now) (s .args .n) (s .args .ray) x 0xffff_0000 w (c .gather .result .count) moved kept
+
+done : (c : tie.At-match-keys2) → At (c .before .before .before .before) Done
 done c =
     let k = c .before .before .before .before in
-    counted-only (s k .args .«record» .now) (s k .args .n) (s k .args .ray) (k .gather .result .state) 0xffff_0000 (w k) (k .gather .result .count) (moved k) (kept k) (c .match .keys2) (s k .pre .0 .0) (omega arith) (k .gather .ensures .1)
+    let a = s k .args in
+    let g = k .gather .result in
+    counted-only (a .«record» .now) (a .n) (a .ray) (g .state) 0xffff_0000 (w k) (g .count) (moved k) (kept k) (c .match .keys2)
+    (s k .pre .0 .0) (omega arith) (k .gather .ensures .1)
 
 -- ---- the needs
 
@@ -93,8 +99,9 @@ returns-2 : tie.Need-returns-2
 unfolding answerOf
 returns-2 c =
     let k = c .before .before .before .before .before .before in
-    let e = subst (λ (x : State). Stands (s k .args .«record» .now) (s k .args .n) (s k .args .ray) x 0xffff_0000 (w k) (k .gather .result .count) (moved k) (kept k)) (c .before .state .given .1) (k .gather .ensures .1) in
-    ends-refused (s k .args .«record» .now) (s k .args .n) (s k .args .ray) (s k .args .list .now) (c .before .state .given .0 .0) e
+    let a = s k .args in
+    let g = c .before .state .given in
+    ends-refused (a .«record» .now) (a .n) (a .ray) (a .list .now) (g .0 .0) (subst (At k) (g .1) (k .gather .ensures .1))
 
 same-length-4 : tie.Need-same-length-4
 same-length-4 c = search needs
@@ -108,7 +115,10 @@ returns-3 c =
     let e = r .before .before .before in
     let d = e .before .before in
     let k = d .before .before .before .before in
-    let q = ends-kept (s k .args .«record» .now) (s k .args .n) (s k .args .ray) (s k .args .list .now) (done d .0) (moved k) (kept k) (done d .1) (omega (arith, e .if1 .left, k .gather .kept .1 .1 .1 .1 .1 .1 .1 .1 .0, k .before .before .before .before .before .copy .kept .1 .1 .0)) in
+    let a = s k .args in
+    let h : k .gather .result .count ≤ length (kept k) =
+    omega (arith, e .if1 .left, k .gather .kept .1 .1 .1 .1 .1 .1 .1 .1 .0, k .before .before .before .before .before .copy .kept .1 .1 .0) in
+    let q = ends-kept (a .«record» .now) (a .n) (a .ray) (a .list .now) (done d .0) (moved k) (kept k) (done d .1) h in
     (r .deliver .ensures .0 ∙ q .0, r .deliver .ensures .1 ∙ q .1)
 
 pub walk-on-spec : {M : Type 1} → statement M

@@ -1,9 +1,9 @@
 use mathlib.Core.List.{List}
 use mathlib.Core.Path.{_≡_, ap, subst, _∙_}
-use Prim.Native.Nat.{ℕ}
+use Prim.Native.Nat.{ℕ, _≤_}
 use native.Mathlib.Omega.{arith}
 use borrow.Author.Needs.{needs}
-use lib.ListN.{replicate}
+use lib.ListN.{length, replicate}
 use Rattle.walk.specs.WordStep.{WalkerWords}
 use Rattle.walk_record.specs.Beam.{Beam}
 use Rattle.walk_record.proofs.Laws.{bytes-fit}
@@ -30,8 +30,12 @@ module _ (c : tie.After-gather) where
   abbrev kept : List ℕ
   kept = c .gather .last .1 .1 .1 .1 .1 .1 .1 .1 .0
 
-  stands : (x : State) → c .gather .result .state ≡ x → Stands (s .args .«record» .now) (s .args .n) (s .args .ray) x 40 w (c .gather .result .count) (replicate 64 0) kept
-  stands x e = subst (λ (y : State). Stands (s .args .«record» .now) (s .args .n) (s .args .ray) y 40 w (c .gather .result .count) (replicate 64 0) kept) e (c .gather .ensures .1)
+  -- where it stands
+  abbrev At : State → Type 0
+  At x = Stands (s .args .«record» .now) (s .args .n) (s .args .ray) x 40 w (c .gather .result .count) (replicate 64 0) kept
+
+  stands : {x : State} → c .gather .result .state ≡ x → At x
+  stands e = subst At e (c .gather .ensures .1)
 
 -- ---- the needs
 
@@ -52,10 +56,12 @@ gather-requires c κs =
     let b = c .before .before in
     let i = b .before .before .before in
     let s = i .before in
-    let fit = bytes-fit _ (λ j. i .shared-slice-known .given j .fits) in (
-      (s .pre .0, walk-begins (s .args .«record» .now) (s .args .n) (s .args .ray) (replicate 64 0) fit (s .pre .1) (b .before .octant .result) (b .before .octant .ensures) (b .begin .result) (b .begin .ensures)),
-      (ap (λ (v : Walk). v .positions .bits) (b .begin .ensures), omega arith),
-    )
+    let a = s .args in
+    let o = b .before .octant in
+    let r = b .begin in
+    let fit = bytes-fit _ (λ j. i .shared-slice-known .given j .fits) in
+    let w = walk-begins (a .«record» .now) (a .n) (a .ray) (replicate 64 0) fit (s .pre .1) (o .result) (o .ensures) (r .result) (r .ensures) in
+    ((s .pre .0, w), (ap (λ (v : Walk). v .positions .bits) (r .ensures), omega arith))
 
 enum-told : tie.Need-enum-told
 enum-told c = search needs
@@ -82,10 +88,11 @@ walk-on-requires : tie.Need-walk-on-requires
 walk-on-requires c κs =
     let t = c .before .before .before in
     let k = t .before .before .before .before in
-    let p = stands k _ (t .enum-told2 .given .1) in
+    let p = stands k (t .enum-told2 .given .1) in
     let h = k .gather .ensures .0 in
     let e = k .gather .kept .1 .1 .1 .1 .1 .1 .1 .1 .0 in
-    ((s k .pre .0, s k .pre .1, k .before .before .before .before .octant .ensures), (walk-kept (p .2), (p .1, omega (arith, h, e), omega (arith, h))))
+    let o = k .before .before .before .before .octant in
+    ((s k .pre .0, s k .pre .1, o .ensures), (walk-kept (p .2), (p .1, omega (arith, h, e), omega (arith, h))))
 
 same-length : tie.Need-same-length
 same-length c = search needs
@@ -95,8 +102,10 @@ returns c =
     let d = c .before .before in
     let t = d .before .before .before in
     let k = t .before .before .before .before in
-    let p = stands k _ (t .enum-told .given .1) in
-    let q = ends-kept (s k .args .«record» .now) (s k .args .n) (s k .args .ray) (s k .args .list .now) (p .0) (replicate 64 0) (kept k) (p .1) (omega (arith, k .gather .ensures .0, k .gather .kept .1 .1 .1 .1 .1 .1 .1 .1 .0)) in
+    let p = stands k (t .enum-told .given .1) in
+    let a = s k .args in
+    let h : k .gather .result .count ≤ length (kept k) = omega (arith, k .gather .ensures .0, k .gather .kept .1 .1 .1 .1 .1 .1 .1 .1 .0) in
+    let q = ends-kept (a .«record» .now) (a .n) (a .ray) (a .list .now) (p .0) (replicate 64 0) (kept k) (p .1) h in
     (d .deliver .ensures .0 ∙ q .0, d .deliver .ensures .1 ∙ q .1)
 
 returns-2 : tie.Need-returns-2
@@ -104,7 +113,7 @@ unfolding answerOf
 returns-2 c =
     let k = c .before .before .before .before .before in
     let g = c .before .state .given in
-    ends-refused (s k .args .«record» .now) (s k .args .n) (s k .args .ray) (s k .args .list .now) (g .0 .0) (stands k _ (g .1))
+    ends-refused (s k .args .«record» .now) (s k .args .n) (s k .args .ray) (s k .args .list .now) (g .0 .0) (stands k (g .1))
 
 same-length-2 : tie.Need-same-length-2
 same-length-2 c = search needs
