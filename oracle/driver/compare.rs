@@ -4,10 +4,12 @@ use crate::checks::{damage, forward, validated};
 use crate::conversions::some_tree;
 use crate::convert::convert;
 use crate::generate::{BOXES, Shape, ray, tree};
-use crate::queries::{by_rules, panes, published, same, target_box, told};
+use crate::calls::{agreed_steps, told};
+use crate::queries::{scene, target_box};
 use crate::record::{Verdict, check};
 use crate::rng::Rng;
 use crate::tree::Tree;
+use crate::walker::Held;
 
 /// A tree of some hundred leaves.
 fn large_tree(rng: &mut Rng, k: usize) -> Tree {
@@ -55,12 +57,12 @@ pub fn run(seed: u64, trees: usize) -> bool {
         if t.indices.iter().any(|&x| x as usize >= n) {
             continue;
         }
-        let panes = panes(rng, &t);
+        let s = scene(rng, &t, &c);
         for _ in 0..20 {
             let about = target_box(rng, &t);
             let (r, told) = (ray(rng, &about), told(rng));
-            let a = published(&c.record, &c.list, &panes, &r, &told);
-            assert!(same(&a, &by_rules(&c.record, &c.list, &panes, &r, &told)));
+            let a = s.agreed(&r);
+            agreed_steps(&c.record, n, &Held::fresh(&r), &told);
             rays += 1;
             hits += !a.closest.found.is_empty() as u32;
             tests += a.any.tests as u64;

@@ -1,5 +1,7 @@
 //! The oracle: the published Rust, run on trees and rays, with its answers written for the gate's `replay`.
 mod accept;
+mod calls;
+mod causes;
 mod checks;
 mod children;
 mod compare;
@@ -8,18 +10,25 @@ mod convert;
 mod corners;
 mod differences;
 mod generate;
+mod large;
 mod leaves;
+mod long;
+mod made;
 mod nodes;
+mod odd;
 mod queries;
 mod query;
 mod record;
 mod rng;
+mod run;
 mod samples;
+mod scene;
 mod show;
 mod small;
 mod store;
 mod tree;
 mod walk;
+mod walker;
 
 use std::io::Read;
 use std::path::Path;
@@ -40,7 +49,10 @@ fn store(folder: &str) -> bool {
     store::write(&at("conversion"), &corners::groups(SEED + 1));
     store::write(&at("check"), &checks::groups(SEED + 2));
     store::write(&at("checkrecord"), &checks::line_groups());
-    store::write(&at("queries"), &queries::groups(SEED + 3));
+    let queries = [queries::groups(SEED + 3), causes::groups(SEED + 8), long::groups(SEED + 9)];
+    store::write(&at("queries"), &queries.into_iter().flatten().collect::<Vec<_>>());
+    store::write(&at("steps"), &calls::groups(SEED + 10));
+    store::write(&at("large"), &large::groups(SEED + 11));
     store::write(&at("showrecord"), &show::groups(SEED + 4));
     store::write(&at("nodes"), &nodes::groups(SEED + 6));
     store::write(&at("children"), &children::groups(SEED + 7));

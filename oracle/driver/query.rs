@@ -1,8 +1,11 @@
 //! The published traversals, with node tests counted and zero distances given as +0.
 use crate::tree::{aabb, unsigned_zero};
-use crate::walk::{Answer, Step};
+use crate::walk::Answer;
+use crate::walker::{Group, Held, Step};
+use glam::uvec2;
 use obvhs::aabb::Aabb;
-use obvhs::cwbvh::{CwBvh, simd::NODE_TESTS};
+use obvhs::cwbvh::{CwBvh, RayTraversal, simd::NODE_TESTS};
+use obvhs::faststack::FastStack;
 use obvhs::ray::{Ray, RayHit};
 
 fn tests() -> u32 {
@@ -63,12 +66,25 @@ pub fn closest_dynamic(bvh: &CwBvh, panes: &[Aabb], ray: Ray) -> Answer {
     Answer { refusal: 0, tests, found }
 }
 
+/// The published traversal in the state that a walker's words say.
+fn traversal(bvh: &CwBvh, from: &Held) -> RayTraversal {
+    let mut state = bvh.new_ray_traversal(from.ray);
+    let group = |g: &Group| uvec2(g.base, g.bits);
+    state.primitive_group = group(&from.positions);
+    if !bvh.nodes.is_empty() {
+        state.current_group = group(&from.current);
+    }
+    let waiting = (0..from.depth as usize).map(|i| from.stack.get(i).copied().unwrap_or_default());
+    waiting.for_each(|g| state.stack.push(group(&g)));
+    state
+}
+
 /// The tests and reports of the dynamic traversal in their order, the k-th report answered with the k-th told distance.
-pub fn steps(bvh: &CwBvh, ray: Ray, told: &[f32]) -> Vec<Step> {
+pub fn steps(bvh: &CwBvh, from: &Held, told: &[f32]) -> Vec<Step> {
     let mut out: Vec<Step> = vec![];
     let (_, all) = counted(|| {
         let mut hit = RayHit::none();
-        let mut state = bvh.new_ray_traversal(ray);
+        let mut state = traversal(bvh, from);
         let (mut seen, mut reports) = (0, 0);
         let mut report = |_: &Ray, id: usize| {
             out.extend((seen..tests()).map(|_| Step::Tested));

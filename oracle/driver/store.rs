@@ -24,8 +24,16 @@ pub const CHECK: u32 = 24;
 pub const CHECK_LAXER: u32 = 25;
 pub const CHECK_SIZES: u32 = 26;
 pub const QUERIES: u32 = 32;
+pub const TWO_CAUSES: u32 = 33;
+pub const QUERY_SIZES: u32 = 34;
+pub const LONG_LISTS: u32 = 35;
+pub const WALKS: u32 = 36;
+pub const CALLS: u32 = 37;
+pub const FORGED: u32 = 38;
+pub const STEP_SIZES: u32 = 39;
 pub const SHOWRECORD: u32 = 40;
 pub const CHECKRECORD: u32 = 41;
+pub const LARGE_TREES: u32 = 42;
 
 pub struct Group {
     pub kind: u32,

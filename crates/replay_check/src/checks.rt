@@ -1,17 +1,18 @@
 // The stored cases of record checks: each verdict, and what the working words hold then.
 ghost use mathlib.Core.Path.{_≡_};
-ghost use Prim.Native.Nat.{_≤_};
+ghost use Prim.Native.Nat.{_+_, _≤_};
 ghost use lib.ListN.{length};
 use stored::all_are;
 use stored::filled_up;
 use stored::word;
+use stored::zero_record;
 use validate::Validity;
 
 // A working word for each of 65,535 nodes and 65,536 positions.
 const MOST_WORDS: usize = 131071;
 
-// The bytes of one node more than a record may have.
-const MOST_BYTES: usize = 5242880;
+// The bytes of one node more than a record may have, and of a part of another.
+const MOST_BYTES: usize = 5242959;
 
 // What every working word holds before a check.
 const BEFORE: u32 = 0xdead_beef;
@@ -101,20 +102,13 @@ fn laxer(case: &[u8]) -> bool {
     }
 }
 
-// The bytes of a record of zeros.
-fn zeros() -> [u8; MOST_BYTES]
-    ensures { λ r. ⌜ 5242880 ≡ length r ⌝ }
-{
-    [0u8; MOST_BYTES]
-}
-
 // The first words of a case, for a record of zeros.
 fn lengths(case: &[u8]) -> bool {
     let bytes = word(case, 0) as usize;
     if bytes > MOST_BYTES {
         return false;
     }
-    let record = zeros();
+    let record = zero_record();
     answers(case, &record[..bytes])
 }
 

@@ -1,4 +1,4 @@
-// Any-hit on a stored ray. Its answer stands after the ray's eight floats.
+// Any-hit on a stored question: a ray's eight floats, the number of positions, the words lent, and the answer.
 use crate::head::same_head;
 use any_hit::AnyHit;
 use stored::all_are;
@@ -6,16 +6,16 @@ use stored::real;
 use stored::vector;
 use stored::word;
 
-// Room for the positions of a ray, and what the words lent for them hold before.
-const MOST_POSITIONS: usize = 64;
+// Room for the words lent with guard words past them, and what all of these hold before.
+const SPACE: usize = 1600;
 
 const BEFORE: u32 = 0xdead_beef;
 
 // Whether these are the words that the stored answer found.
-fn same_found(ray: &[u8], found: &[u32]) -> bool {
+fn same_found(asked: &[u8], found: &[u32]) -> bool {
     let mut i = 0;
     while i < found.len() {
-        if word(ray, 11 + i) != found[i] {
+        if word(asked, 13 + i) != found[i] {
             return false;
         }
         i += 1;
@@ -23,50 +23,57 @@ fn same_found(ray: &[u8], found: &[u32]) -> bool {
     true
 }
 
-// Whether the first `count` words of a list are those found, and the others as they were lent.
-fn same_list(ray: &[u8], list: &[u32], count: usize) -> bool {
-    if count > list.len() {
+// Whether the first `count` words are those found, and the others as they were.
+fn same_list(asked: &[u8], space: &[u32], count: usize) -> bool {
+    if count > space.len() {
         return false;
     }
-    if same_found(ray, &list[..count]) {
-        return all_are(&list[count..], BEFORE);
+    if same_found(asked, &space[..count]) {
+        return all_are(&space[count..], BEFORE);
     }
     false
 }
 
-// Whether any-hit answers as stored, and leaves in a list what it should: nothing of a refusal.
-fn answers(ray: &[u8], record: &[u8], n: usize, list: &mut [u32]) -> bool {
-    let answer = any_hit::any_hit(
-        record,
-        n,
-        vector(ray, 0),
-        vector(ray, 3),
-        real(ray, 6),
-        real(ray, 7),
-        list,
-    );
+// Whether this is the stored answer, and leaves in the words, those past the lent ones too, what it should: all as it was beside a refusal.
+fn same_answer(asked: &[u8], answer: AnyHit, space: &[u32]) -> bool {
     match answer {
         AnyHit::Listed(count, tests) => {
-            if same_head(ray, 8, 0, tests, count) {
-                return same_list(ray, list, count as usize);
+            if same_head(asked, 10, 0, tests, count) {
+                return same_list(asked, space, count as usize);
             }
             false
         }
         AnyHit::Short(needed) => {
-            if same_head(ray, 8, 11, 0, 1) {
-                return word(ray, 11) == needed && all_are(list, BEFORE);
+            if same_head(asked, 10, 11, 0, 1) {
+                return word(asked, 13) == needed && all_are(space, BEFORE);
             }
             false
         }
-        AnyHit::Refused(number) => same_head(ray, 8, number, 0, 0) && all_are(list, BEFORE),
+        AnyHit::Refused(number) => same_head(asked, 10, number, 0, 0) && all_are(space, BEFORE),
     }
 }
 
-// Whether any-hit answers a ray as stored, with room for n positions.
-pub fn same_any_hit(ray: &[u8], record: &[u8], n: usize) -> bool {
-    if n > MOST_POSITIONS {
+// Whether any-hit answers as stored, where it is lent the first of these words.
+fn answers(asked: &[u8], record: &[u8], space: &mut [u32]) -> bool {
+    let n = word(asked, 8) as usize;
+    let lent = word(asked, 9) as usize;
+    if lent > space.len() {
         return false;
     }
-    let mut space = [BEFORE; MOST_POSITIONS];
-    answers(ray, record, n, &mut space[..n])
+    let answer = any_hit::any_hit(
+        record,
+        n,
+        vector(asked, 0),
+        vector(asked, 3),
+        real(asked, 6),
+        real(asked, 7),
+        &mut space[..lent],
+    );
+    same_answer(asked, answer, space)
+}
+
+// Whether any-hit answers as stored.
+pub fn same_any_hit(asked: &[u8], record: &[u8]) -> bool {
+    let mut space = [BEFORE; SPACE];
+    answers(asked, record, &mut space)
 }

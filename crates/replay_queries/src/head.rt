@@ -3,14 +3,14 @@ ghost use Prim.Native.Nat.{_≤_};
 use stored::word;
 
 // Whether the answer from word `at` on has this number, so many tests, and so many words.
-pub fn same_head(ray: &[u8], at: usize, number: u32, tests: u32, count: u32) -> bool
+pub fn same_head(asked: &[u8], at: usize, number: u32, tests: u32, count: u32) -> bool
     requires { ⌜ at ≤ 65536 ⌝ }
 {
-    if word(ray, at) != number {
+    if word(asked, at) != number {
         return false;
     }
-    if word(ray, at + 1) != tests {
+    if word(asked, at + 1) != tests {
         return false;
     }
-    word(ray, at + 2) == count
+    word(asked, at + 2) == count
 }

@@ -1,10 +1,9 @@
-// Runs any-hit, closest, miss and walkers on stored records and rays, and compares each answer and each step with the stored one.
+// Runs any-hit, closest and miss on stored records and rays, and compares each answer with the stored one.
 // Its argument names a file of answers; how these are made and laid out is said in oracle/README.md.
 mod any;
 mod head;
 mod nearest;
 mod queries;
-mod steps;
 
 // The most cases and groups of a file.
 const MOST_TURNS: u32 = 1000000;

@@ -1,5 +1,4 @@
-// Closest and miss on a stored ray, among the panes of its record.
-ghost use Prim.Native.Nat.{_≤_};
+// Closest and miss on a stored question, among the panes of its record.
 use crate::head::same_head;
 use closest::ClosestHit;
 use closest::Occlusion;
@@ -7,27 +6,16 @@ use stored::real;
 use stored::vector;
 use stored::word;
 
-// The floats of a case from word `from` on, as many as `into` has.
-pub fn copy_reals(case: &[u8], from: usize, into: &mut [f32])
-    requires { ⌜ from ≤ 65536 ⌝ }
-{
-    let mut i = 0;
-    while i < into.len() {
-        into[i] = real(case, from + i);
-        i += 1;
-    }
-}
-
-// Whether closest answers a ray with these words.
-fn closest_answers(ray: &[u8], words: &[u8], record: &[u8], list: &[u32], panes: &[f32]) -> bool {
+// Whether closest answers with these words.
+fn closest_answers(asked: &[u8], words: &[u8], record: &[u8], list: &[u32], panes: &[f32]) -> bool {
     let found = closest::closest(
         record,
         list,
         panes,
-        vector(ray, 0),
-        vector(ray, 3),
-        real(ray, 6),
-        real(ray, 7),
+        vector(asked, 0),
+        vector(asked, 3),
+        real(asked, 6),
+        real(asked, 7),
     );
     let answer = found.answer;
     let tests = found.tests;
@@ -43,12 +31,12 @@ fn closest_answers(ray: &[u8], words: &[u8], record: &[u8], list: &[u32], panes:
     }
 }
 
-// Whether closest answers a ray as stored from word `at` on.
-pub fn same_closest(ray: &[u8], at: usize, record: &[u8], list: &[u32], panes: &[f32]) -> bool {
-    if at > ray.len() / 4 {
+// Whether closest answers as stored from word `at` on.
+pub fn same_closest(asked: &[u8], at: usize, record: &[u8], list: &[u32], panes: &[f32]) -> bool {
+    if at > asked.len() / 4 {
         return false;
     }
-    closest_answers(ray, &ray[at * 4..], record, list, panes)
+    closest_answers(asked, &asked[at * 4..], record, list, panes)
 }
 
 // Whether an answer that was not refused found this one word, after so many tests.
@@ -56,16 +44,16 @@ fn same_miss_word(words: &[u8], tests: u32, missed: u32) -> bool {
     same_head(words, 0, 0, tests, 1) && word(words, 3) == missed
 }
 
-// Whether miss answers a ray with these words.
-fn miss_answers(ray: &[u8], words: &[u8], record: &[u8], list: &[u32], panes: &[f32]) -> bool {
+// Whether miss answers with these words.
+fn miss_answers(asked: &[u8], words: &[u8], record: &[u8], list: &[u32], panes: &[f32]) -> bool {
     let found = closest::miss(
         record,
         list,
         panes,
-        vector(ray, 0),
-        vector(ray, 3),
-        real(ray, 6),
-        real(ray, 7),
+        vector(asked, 0),
+        vector(asked, 3),
+        real(asked, 6),
+        real(asked, 7),
     );
     let answer = found.answer;
     let tests = found.tests;
@@ -76,10 +64,10 @@ fn miss_answers(ray: &[u8], words: &[u8], record: &[u8], list: &[u32], panes: &[
     }
 }
 
-// Whether miss answers a ray as stored from word `at` on.
-pub fn same_miss(ray: &[u8], at: usize, record: &[u8], list: &[u32], panes: &[f32]) -> bool {
-    if at > ray.len() / 4 {
+// Whether miss answers as stored from word `at` on.
+pub fn same_miss(asked: &[u8], at: usize, record: &[u8], list: &[u32], panes: &[f32]) -> bool {
+    if at > asked.len() / 4 {
         return false;
     }
-    miss_answers(ray, &ray[at * 4..], record, list, panes)
+    miss_answers(asked, &asked[at * 4..], record, list, panes)
 }

@@ -1,55 +1,57 @@
-// The stored cases of queries: a record, and rays with their answers.
+// The stored cases of queries: a record with index words and panes, and questions with their answers.
+ghost use mathlib.Core.Path.{_≡_};
 ghost use Prim.Native.Nat.{_+_, _≤_};
+ghost use lib.ListN.{length};
 use crate::any;
 use crate::nearest;
-use crate::steps;
+use stored::copy_bytes;
+use stored::copy_reals;
 use stored::copy_words;
 use stored::word;
+use stored::zero_record;
 
-// The most bytes of a record, and room for its positions and the floats of its panes.
-const MOST_BYTES: usize = 65536;
+// Room for the bytes of a record, for its index words, and for the floats of its panes: of the first two more than queries accept.
+const MOST_BYTES: usize = 5242959;
 
-const MOST_POSITIONS: usize = 64;
+const MOST_POSITIONS: usize = 65537;
 
 const MOST_CORNERS: usize = 512;
 
+// The most words of a case.
+const MOST_WORDS: usize = 65536;
+
 // Where a part that starts with its count at word `at` ends.
-fn past(ray: &[u8], at: usize) -> usize
+fn past(asked: &[u8], at: usize) -> usize
     requires { ⌜ at ≤ 1099511627776 ⌝ }
     ensures { λ r. ⌜ r ≤ at + 4294967296 ⌝ }
 {
-    at + 1 + word(ray, at) as usize
+    at + 1 + word(asked, at) as usize
 }
 
-// The words of a ray, if the answers of any-hit, closest and miss and a walker's steps are as stored; else 0.
-fn ray_words(ray: &[u8], record: &[u8], list: &[u32], panes: &[f32]) -> usize
+// The words of a question, if any-hit, closest and miss answer it as stored; else 0.
+fn question_words(asked: &[u8], record: &[u8], list: &[u32], panes: &[f32]) -> usize
     ensures { λ r. ⌜ r ≤ 1099511627776 ⌝ }
 {
-    let closest = past(ray, 10);
-    let miss = past(ray, closest + 2);
-    let distances = past(ray, miss + 2);
-    let walk = past(ray, distances);
-    let end = past(ray, walk);
-    if !any::same_any_hit(ray, record, list.len()) {
+    let closest = past(asked, 12);
+    let miss = past(asked, closest + 2);
+    let end = past(asked, miss + 2);
+    if !any::same_any_hit(asked, record) {
         return 0;
     }
-    if !nearest::same_closest(ray, closest, record, list, panes) {
+    if !nearest::same_closest(asked, closest, record, list, panes) {
         return 0;
     }
-    if !nearest::same_miss(ray, miss, record, list, panes) {
-        return 0;
-    }
-    if steps::same_steps(ray, distances, walk, record, list.len()) {
+    if nearest::same_miss(asked, miss, record, list, panes) {
         return end;
     }
     0
 }
 
-// Whether all of so many rays are answered as stored from word `from` on, where the case ends with them.
-fn same_rays(
+// Whether all of so many questions are answered as stored from word `from` on, where the case ends with them.
+fn same_answers(
     case: &[u8],
     from: usize,
-    rays: u32,
+    questions: u32,
     record: &[u8],
     list: &[u32],
     panes: &[f32],
@@ -57,11 +59,11 @@ fn same_rays(
     let words = case.len() / 4;
     let mut at = from;
     let mut i: u32 = 0;
-    while i < rays {
+    while i < questions {
         if at >= words {
             return false;
         }
-        let long = ray_words(&case[at * 4..], record, list, panes);
+        let long = question_words(&case[at * 4..], record, list, panes);
         if long == 0 {
             return false;
         }
@@ -71,39 +73,67 @@ fn same_rays(
     at == words
 }
 
-// Bytes of the record, n, words of panes, rays; record, list, panes, and the words of each ray.
-fn queried(case: &[u8]) -> bool {
-    let bytes = word(case, 0) as usize;
-    let n = word(case, 1) as usize;
-    let corners = word(case, 2) as usize;
-    let end = 16 + bytes;
-    if end > case.len() {
+// Zeros for index words.
+fn zero_words() -> [u32; MOST_POSITIONS]
+    ensures { λ r. ⌜ 65537 ≡ length r ⌝ }
+{
+    [0u32; MOST_POSITIONS]
+}
+
+// Whether the questions of a case are answered as stored, where its stored bytes, index words and floats of panes go to the front of these zeros.
+fn answered(case: &[u8], record: &mut [u8], list: &mut [u32], panes: &mut [f32]) -> bool {
+    let bytes = word(case, 4) as usize;
+    let positions = word(case, 5) as usize;
+    let corners = word(case, 6) as usize;
+    let from = 7 + (bytes + 3) / 4;
+    let end = from + positions + corners;
+    if end > MOST_WORDS {
         return false;
     }
+    if bytes > record.len() {
+        return false;
+    }
+    if positions > list.len() {
+        return false;
+    }
+    if corners > panes.len() {
+        return false;
+    }
+    copy_bytes(case, 28, &mut record[..bytes]);
+    copy_words(case, from, &mut list[..positions]);
+    copy_reals(case, from + positions, &mut panes[..corners]);
+    same_answers(case, end, word(case, 3), record, list, panes)
+}
+
+// Bytes of the record, index words, floats of panes, questions; how many of the first three are stored; these, and the questions.
+fn queried(case: &[u8]) -> bool {
+    let bytes = word(case, 0) as usize;
+    let positions = word(case, 1) as usize;
+    let corners = word(case, 2) as usize;
     if bytes > MOST_BYTES {
         return false;
     }
-    if n > MOST_POSITIONS {
+    if positions > MOST_POSITIONS {
         return false;
     }
     if corners > MOST_CORNERS {
         return false;
     }
-    let from = 4 + (bytes + 3) / 4;
-    let mut list_space = [0u32; MOST_POSITIONS];
-    let mut pane_space = [0.0f32; MOST_CORNERS];
-    let list: &mut [u32] = &mut list_space[..n];
-    let panes: &mut [f32] = &mut pane_space[..corners];
-    copy_words(case, from, list);
-    nearest::copy_reals(case, from + n, panes);
-    let rays = word(case, 3);
-    same_rays(case, from + n + corners, rays, &case[16..end], list, panes)
+    let mut record = zero_record();
+    let mut list = zero_words();
+    let mut panes = [0.0f32; MOST_CORNERS];
+    answered(
+        case,
+        &mut record[..bytes],
+        &mut list[..positions],
+        &mut panes[..corners],
+    )
 }
 
 // Whether the library agrees with a case.
 pub fn agrees(kind: u32, case: &[u8]) -> bool {
     match kind {
-        32 => queried(case),
+        32 | 33 | 34 | 35 => queried(case),
         _ => false,
     }
 }

@@ -1,8 +1,20 @@
 // The words of a stored case, and its floats.
+ghost use mathlib.Core.Path.{_≡_};
 ghost use Prim.Native.Nat.{_+_, _≤_};
+ghost use lib.ListN.{length};
 
 // The most words of a case that are copied at once.
 const MOST_COPIED: usize = 65536;
+
+// The bytes of 65,536 nodes, one more than a record may have, and of a part of another.
+const RECORD_BYTES: usize = 5242959;
+
+// A record of zeros, to the front of which a case's own bytes are copied.
+pub fn zero_record() -> [u8; RECORD_BYTES]
+    ensures { λ r. ⌜ 5242959 ≡ length r ⌝ }
+{
+    [0u8; RECORD_BYTES]
+}
 
 // Word i of a case; 0 past its end.
 pub fn word(case: &[u8], i: usize) -> u32 {
@@ -26,9 +38,36 @@ pub fn copy_words(case: &[u8], from: usize, into: &mut [u32])
     }
 }
 
+// The bytes of a case from byte `from` on, as many as `into` has; none where the case has fewer.
+pub fn copy_bytes(case: &[u8], from: usize, into: &mut [u8]) {
+    if from > case.len() {
+        return;
+    }
+    let rest = &case[from..];
+    if into.len() > rest.len() {
+        return;
+    }
+    let mut i = 0;
+    while i < into.len() {
+        into[i] = rest[i];
+        i += 1;
+    }
+}
+
 // Word i as a float.
 pub fn real(case: &[u8], i: usize) -> f32 {
     float::of_bits(word(case, i))
+}
+
+// The floats of a case from word `from` on, as many as `into` has.
+pub fn copy_reals(case: &[u8], from: usize, into: &mut [f32])
+    requires { ⌜ from ≤ 65536 ⌝ }
+{
+    let mut i = 0;
+    while i < into.len() {
+        into[i] = real(case, from + i);
+        i += 1;
+    }
 }
 
 // Words i to i + 2 as a vector.
@@ -46,13 +85,17 @@ pub fn vector(case: &[u8], i: usize) -> ray::Vec3 {
     ray::Vec3 { x, y, z }
 }
 
-// Whether word i is a float's pattern; every NaN is stored as one.
-pub fn same(case: &[u8], i: usize, x: f32) -> bool {
-    let stored = word(case, i);
+// A float's pattern as it is stored: every NaN is one.
+pub fn pattern(x: f32) -> u32 {
     if x <= x {
-        return f32::to_bits(x) == stored;
+        return f32::to_bits(x);
     }
-    stored == 0x7fc0_0000
+    0x7fc0_0000
+}
+
+// Whether word i is a float's pattern.
+pub fn same(case: &[u8], i: usize, x: f32) -> bool {
+    word(case, i) == pattern(x)
 }
 
 // Whether three words are a vector's patterns.

@@ -3,13 +3,17 @@ mod cases;
 mod names;
 
 pub use cases::all_are;
+pub use cases::copy_bytes;
+pub use cases::copy_reals;
 pub use cases::copy_words;
 pub use cases::filled_up;
+pub use cases::pattern;
 pub use cases::real;
 pub use cases::same;
 pub use cases::same_vector;
 pub use cases::vector;
 pub use cases::word;
+pub use cases::zero_record;
 ghost use Prim.Native.Nat.{_≤_};
 ghost use lib.ListN.{length};
 use libc::STDOUT_FILENO;

@@ -25,8 +25,16 @@ pub fn print_name(kind: u32) {
         ),
         26 => io::write_all(STDOUT_FILENO, b"records checked by lengths"),
         32 => io::write_all(STDOUT_FILENO, b"records queried"),
+        33 => io::write_all(STDOUT_FILENO, b"queries with two causes"),
+        34 => io::write_all(STDOUT_FILENO, b"queries by lengths"),
+        35 => io::write_all(STDOUT_FILENO, b"long lists"),
+        36 => io::write_all(STDOUT_FILENO, b"walks"),
+        37 => io::write_all(STDOUT_FILENO, b"lists of calls"),
+        38 => io::write_all(STDOUT_FILENO, b"forged walkers"),
+        39 => io::write_all(STDOUT_FILENO, b"steps by lengths"),
         40 => io::write_all(STDOUT_FILENO, b"records shown"),
         41 => io::write_all(STDOUT_FILENO, b"lines of checkrecord"),
+        42 => io::write_all(STDOUT_FILENO, b"large trees"),
         _ => io::write_all(STDOUT_FILENO, b"unknown"),
     }
     ;

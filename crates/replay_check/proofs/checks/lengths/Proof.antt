@@ -15,14 +15,14 @@ cast-bytes c = search needs
 returns : tie.Need-returns
 returns c = search needs
 
-zeros-requires : tie.Need-zeros-requires
-zeros-requires c κs = search needs
+zero-record-requires : tie.Need-zero-record-requires
+zero-record-requires c κs = search needs
 
 array-share-prefix-record : tie.Need-array-share-prefix-record
 array-share-prefix-record c = search needs
 
 slice-aggregate-answers : tie.Need-slice-aggregate-answers
-slice-aggregate-answers c = sym (length-take-le _ _ (omega (arith, c .before .zeros .ensures)))
+slice-aggregate-answers c = sym (length-take-le _ _ (omega (arith, c .before .zero-record .ensures)))
 
 answers-requires : tie.Need-answers-requires
 answers-requires c κs = search needs
@@ -37,7 +37,7 @@ lengths-spec =
     word-requires
     cast-bytes
     returns
-    zeros-requires
+    zero-record-requires
     array-share-prefix-record
     slice-aggregate-answers
     answers-requires

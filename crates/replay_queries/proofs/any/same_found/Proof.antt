@@ -6,10 +6,10 @@ use Rattle.replay_queries.proofs.any.same_found.Statement.{statement}
 use Rattle.replay_queries.proofs.any.same_found.Tie as tie
 
 abbrev Inv-loop : tie.InvT-loop
-Inv-loop ray found i₀ i = Unit {0}
+Inv-loop asked found i₀ i = Unit {0}
 
 abbrev μ-loop : tie.MeasureT-loop
-μ-loop ray found i₀ i = length found - i
+μ-loop asked found i₀ i = length found - i
 
 loop-holds : tie.Need-loop-holds Inv-loop μ-loop
 loop-holds c = search needs
