@@ -84,7 +84,7 @@ unfolding wordMask hitMask wordHit slotHit hitBits
 mask-is v r o w marks pass h m g p =
     or-of-congr 8 (wordHit (bitAnd (eachByte childBits w) marks) (eachByte (bitIndex o) w)) (slotHit v r o)
     (λ k l. rw (field-and 8 k (eachByte childBits w) marks, child-byte w k l, index-byte o w k h l, g .byte k l, p k l, ← m .bytes k l)
-        (through (passesSlot v r k) (childBits (field 8 k w)) (bitIndex o (field 8 k w)) (child-bits-lt (field 8 k w) (field-lt 8 k w))))
+    (through (passesSlot v r k) (childBits (field 8 k w)) (bitIndex o (field 8 k w)) (child-bits-lt (field 8 k w) (field-lt 8 k w))))
 
 -- where nothing is marked there is nothing in the mask
 unmarked : (p : Bool) (n : ℕ) → onlyIf p 7 ≡ 0 → onlyIf p n ≡ 0

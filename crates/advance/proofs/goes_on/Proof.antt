@@ -1,5 +1,4 @@
 use Rattle.advance.proofs.Seeks.{found-some, found-none, found-end}
-
 use borrow.Author.Needs.{needs}
 use Rattle.advance.proofs.goes_on.Statement.{statement}
 use Rattle.advance.proofs.goes_on.Tie as tie

@@ -42,7 +42,7 @@ loop-again c =
       omega arith,
       simp length-set (l .loop .inv .1),
       marks-next (slotPasses (a .s .now) (a .o) (a .e) (a .g) (a .near) (a .tmax)) (l .loop .marks) (l .loop .k) (c .mark .result) (omega arith)
-      (c .mark .ensures ∙ ap (λ (b : Bool). onlyIf b 7) (c .before .slot-passes .ensures)) (l .loop .inv .2),
+          (c .mark .ensures ∙ ap (λ (b : Bool). onlyIf b 7) (c .before .slot-passes .ensures)) (l .loop .inv .2),
     )
 
 slice-aggregate-load-u64 : tie.Need-slice-aggregate-load-u64 Inv-loop μ-loop
