@@ -16,8 +16,8 @@ use Rattle.walk.specs.Slots
 use Rattle.walk.specs.WordStep.{freshWords}
 use Rattle.walk.proofs.Demands
 use Rattle.walk.proofs.WordDemands.{query-words-halts, words-report-once, words-wait-few, words-answered, query-words-answered, any-hit-words-done, any-hit-words-listing, any-hit-words-exact, any-hit-words-nodup, any-hit-words-most, any-hit-words-counts, any-hit-words-tests}
-use Rattle.walk_record.specs.Record.{Rays, RayLaws, FieldsFit, slotsAt, maskAt}
-use Rattle.walk_record.specs.Walk.{runAt, queryAt, anyHitAt, listingAt, Reached, first, child, Passed}
+use Rattle.walk_record.specs.Record.{Rays, RayLaws, FieldsFit, slotTest, slotsAt, maskAt}
+use Rattle.walk_record.specs.Walk.{runAt, queryAt, anyHitAt, listingAt, ReachedBy, first, child, PassedBy}
 use Rattle.walk_record.proofs.Laws.{slot-laws, mask-laws}
 
 module _ {s d : Type 0} (bytes : List ℕ) (R : Rays s d) (laws : RayLaws R) (fit : FieldsFit bytes) where
@@ -70,24 +70,24 @@ module _ {s d : Type 0} (bytes : List ℕ) (R : Rays s d) (laws : RayLaws R) (fi
 
       -- ---- in the words of the demand
 
-      reached-to : (v : ℕ) → ReachedBySlots (slotsAt bytes R n) r v → Reached bytes (R .ray r) v
+      reached-to : (v : ℕ) → ReachedBySlots (slotsAt bytes R n) r v → ReachedBy bytes (slotTest bytes R r) v
       unfolding shapeAt
       reached-to v (Slots.ReachedBySlots.first e h) = first e h
       reached-to v (Slots.ReachedBySlots.child {v = u} j q l a b e) = child j (reached-to u q) l a b e
 
-      reached-from : (v : ℕ) → Reached bytes (R .ray r) v → ReachedBySlots (slotsAt bytes R n) r v
+      reached-from : (v : ℕ) → ReachedBy bytes (slotTest bytes R r) v → ReachedBySlots (slotsAt bytes R n) r v
       unfolding shapeAt
       reached-from v (first e h) = Slots.ReachedBySlots.first e h
       reached-from v (child {v = u} j q l a b e) = Slots.ReachedBySlots.child j (reached-from u q) l a b e
 
-      passed-to : (p : ℕ) → PassedBySlots (slotsAt bytes R n) r p → Passed bytes n (R .ray r) p
+      passed-to : (p : ℕ) → PassedBySlots (slotsAt bytes R n) r p → PassedBy bytes n (slotTest bytes R r) p
       passed-to p q = record { node = q .node; reached = reached-to (q .node) (q .reached); slot = q .slot; holds = q .holds; passes = q .passes }
 
-      passed-from : (p : ℕ) → Passed bytes n (R .ray r) p → PassedBySlots (slotsAt bytes R n) r p
+      passed-from : (p : ℕ) → PassedBy bytes n (slotTest bytes R r) p → PassedBySlots (slotsAt bytes R n) r p
       passed-from p q = record { node = q .node; reached = reached-from (q .node) (q .reached); slot = q .slot; holds = q .holds; passes = q .passes; admitted = refl }
 
-      -- a position is in the list exactly if the ray passes every slot box down to it,
-      pub any-hit-exact : (p : ℕ) → In p (anyHitAt bytes R n r .noted) ↔ Passed bytes n (R .ray r) p
+      -- a position is in the list exactly if the ray passes every slot down to it,
+      pub any-hit-exact : (p : ℕ) → In p (anyHitAt bytes R n r .noted) ↔ PassedBy bytes n (slotTest bytes R r) p
       unfolding anyHitAt queryAt shapeAt
       any-hit-exact p =
           let i = any-hit-words-exact (slotsAt bytes R n) (maskAt bytes R) (RuleAt bytes n) (slot-laws bytes R laws n) (mask-laws bytes R laws n fit) sound r accepted few-positions few-nodes p in
@@ -103,14 +103,16 @@ module _ {s d : Type 0} (bytes : List ℕ) (R : Rays s d) (laws : RayLaws R) (fi
       any-hit-most = any-hit-words-most (slotsAt bytes R n) (maskAt bytes R) (RuleAt bytes n) (slot-laws bytes R laws n) (mask-laws bytes R laws n fit) sound r accepted few-positions few-nodes
 
       pub any-hit-counts : (p : ℕ)
-          → (Passed bytes n (R .ray r) p → count p (anyHitAt bytes R n r .noted) ≡ 1) × (¬ (Passed bytes n (R .ray r) p) → count p (anyHitAt bytes R n r .noted) ≡ 0)
+          → (PassedBy bytes n (slotTest bytes R r) p → count p (anyHitAt bytes R n r .noted) ≡ 1)
+          × (¬ (PassedBy bytes n (slotTest bytes R r) p) → count p (anyHitAt bytes R n r .noted) ≡ 0)
       unfolding anyHitAt queryAt shapeAt
       any-hit-counts p =
           let i = any-hit-words-counts (slotsAt bytes R n) (maskAt bytes R) (RuleAt bytes n) (slot-laws bytes R laws n) (mask-laws bytes R laws n fit) sound r accepted few-positions few-nodes p in
           (λ q. i .0 (passed-from p q), λ q. i .1 (λ y. q (passed-to p y)))
 
       -- its tests are the nodes reached: as many as a list has that holds each of them once and no other node
-      pub any-hit-tests : (l : List ℕ) × List·Nodup l × ((v : ℕ) → In v l ↔ Reached bytes (R .ray r) v) × (anyHitAt bytes R n r .walker .tests ≡ length l)
+      pub any-hit-tests : (l : List ℕ) × List·Nodup l × ((v : ℕ) → In v l ↔ ReachedBy bytes (slotTest bytes R r) v)
+          × (anyHitAt bytes R n r .walker .tests ≡ length l)
       unfolding anyHitAt queryAt shapeAt
       any-hit-tests =
           let t = any-hit-words-tests (slotsAt bytes R n) (maskAt bytes R) (RuleAt bytes n) (slot-laws bytes R laws n) (mask-laws bytes R laws n fit) sound r accepted few-positions few-nodes in

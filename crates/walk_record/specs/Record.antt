@@ -3,17 +3,18 @@ use mathlib.Core.Bool.{Bool, true, false}
 use mathlib.Core.List.{List}
 use mathlib.Core.Path.{_≡_}
 use Prim.Native.Nat.{ℕ, _^_, _<_}
-use Rattle.ray.specs.declared.Ray.{Ray}
+use Rattle.node.specs.declared.Node.{Node}
 use Rattle.node.specs.Node.{nodeAt}
 use Rattle.rule.specs.Rule.{nodeRule}
-use Rattle.slot.specs.Mask.{passesSlot, hitMask}
+use Rattle.slot.specs.Mask.{hitMaskOf}
 use Rattle.record_shape.specs.Record.{nodeCount, shapeAt}
 use Rattle.walk.specs.Slots.{Slots}
 use Rattle.walk.specs.WordStep.{NodeWords}
 
 -- How a walker's ray is read: s is what it holds of one, d is what is told.
 pub record Rays (s d : Type 0) : Type 0 where
-  pub ray : s → Ray
+  -- `passes r v b j`: the ray passes slot j of node v, which is b
+  pub passes : s → ℕ → Node → ℕ → Bool
   pub octant : s → ℕ
   pub told : d → s → s
   pub forged : s → Bool
@@ -30,6 +31,10 @@ pub record FieldsFit (bytes : List ℕ) : Type 0 where
   pub childBase : (v : ℕ) → v < nodeCount bytes → nodeAt bytes v .«child_base_idx» < 2 ^ 32
 
 module _ {s d : Type 0} (bytes : List ℕ) (R : Rays s d) where
+  -- which slots of which nodes the ray passes
+  abbrev pub slotTest : s → ℕ → ℕ → Bool
+  slotTest r v j = R .passes r v (nodeAt bytes v) j
+
   -- the slots of a record of n positions; there is no test of single positions
   abbrev pub slotsAt : ℕ → Slots s d
   slotsAt n = record {
@@ -38,7 +43,7 @@ module _ {s d : Type 0} (bytes : List ℕ) (R : Rays s d) where
     positionBase = λ v. nodeAt bytes v .«primitive_base_idx»;
     rule = λ k v. nodeRule (nodeAt bytes v) (nodeCount bytes) k v;
     octant = R .octant;
-    passes = λ r v j. passesSlot (nodeAt bytes v) (R .ray r) j;
+    passes = slotTest;
     admits = λ r x. true;
     told = R .told;
     forged = R .forged;
@@ -46,7 +51,7 @@ module _ {s d : Type 0} (bytes : List ℕ) (R : Rays s d) where
 
   -- the hit mask of node v
   abbrev pub maskAt : s → ℕ → ℕ
-  maskAt r v = hitMask (nodeAt bytes v) (R .ray r) (R .octant r)
+  maskAt r v = hitMaskOf (slotTest r v) (nodeAt bytes v) (R .octant r)
 
   -- what a step in words reads
   abbrev pub nodeWordsAt : NodeWords s d
