@@ -19,13 +19,14 @@ module _ (bytes : List ℕ) (a b : ℕ → ℕ → Bool) (fewer : (v j : ℕ) �
   fewer-reached v (first e h) = first e h
   fewer-reached v (child {v = u} j q l i p e) = child j (fewer-reached u q) l i (fewer u j p) e
 
-  pub fewer-passed : (n p : ℕ) → PassedBy bytes n a p → PassedBy bytes n b p
-  fewer-passed n p q = record {
+  pub fewer-passed : (admits : ℕ → Bool) (n p : ℕ) → PassedBy bytes n a admits p → PassedBy bytes n b admits p
+  fewer-passed admits n p q = record {
     node = q .node;
     reached = fewer-reached (q .node) (q .reached);
     slot = q .slot;
     holds = q .holds;
     passes = fewer (q .node) (q .slot) (q .passes);
+    admitted = q .admitted;
   }
 
 module _ (bytes : List ℕ) (r s : Ray) (lower : LowerReach r s) where
@@ -36,7 +37,7 @@ module _ (bytes : List ℕ) (r s : Ray) (lower : LowerReach r s) where
   lower-reach-reaches-fewer = fewer-reached bytes (boxTest bytes r) (boxTest bytes s) passed-slot
 
   pub lower-reach-meets-fewer : (n p : ℕ) → Passed bytes n r p → Passed bytes n s p
-  lower-reach-meets-fewer = fewer-passed bytes (boxTest bytes r) (boxTest bytes s) passed-slot
+  lower-reach-meets-fewer = fewer-passed bytes (boxTest bytes r) (boxTest bytes s) passed-slot (λ p. true)
 
 -- ---- telling
 

@@ -41,7 +41,7 @@ module _ {s d : Type 0} (bytes : List ℕ) (R : Rays s d) where
   abbrev pub listingAt : ℕ → s → List ℕ
   listingAt n r = listing (nodeCount bytes) (testsOf (slotsAt bytes R n)) r 0
 
--- ---- in the words of the demand, for any test of slots
+-- ---- in the words of the demand, for any test of slots and of positions
 
 -- The first node is reached. Another is reached if its parent is and its slot there passes.
 pub data ReachedBy (bytes : List ℕ) (test : ℕ → ℕ → Bool) : ℕ → Type 0 where
@@ -49,15 +49,16 @@ pub data ReachedBy (bytes : List ℕ) (test : ℕ → ℕ → Bool) : ℕ → Ty
   child : {v c : ℕ} (j : ℕ) → ReachedBy bytes test v → j < 8 → innerBit (nodeAt bytes v .imask) j ≡ 1 → test v j ≡ true
       → c ≡ childIndex (nodeAt bytes v .«child_base_idx») (nodeAt bytes v .imask) j → ReachedBy bytes test c
 
--- A position is passed if its node is reached and its slot there passes.
-pub record PassedBy (bytes : List ℕ) (n : ℕ) (test : ℕ → ℕ → Bool) (p : ℕ) : Type 0 where
+-- A position is passed if its node is reached, its slot there passes, and so does the position itself.
+pub record PassedBy (bytes : List ℕ) (n : ℕ) (test : ℕ → ℕ → Bool) (admits : ℕ → Bool) (p : ℕ) : Type 0 where
   pub node : ℕ
   pub reached : ReachedBy bytes test node
   pub slot : ℕ
   pub holds : Holds (shapeAt bytes n) node slot p
   pub passes : test node slot ≡ true
+  pub admitted : admits p ≡ true
 
--- ---- by boxes
+-- ---- by boxes alone
 
 -- the ray passes slot j of node v
 abbrev pub boxTest : List ℕ → Ray → ℕ → ℕ → Bool
@@ -67,4 +68,4 @@ abbrev pub Reached : List ℕ → Ray → ℕ → Type 0
 Reached bytes ray = ReachedBy bytes (boxTest bytes ray)
 
 abbrev pub Passed : List ℕ → ℕ → Ray → ℕ → Type 0
-Passed bytes n ray = PassedBy bytes n (boxTest bytes ray)
+Passed bytes n ray = PassedBy bytes n (boxTest bytes ray) (λ p. true)
