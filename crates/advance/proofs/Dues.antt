@@ -4,13 +4,15 @@ use mathlib.Core.Bool.{Bool, true, false, cond}
 use mathlib.Core.List.{List}
 use Prim.Native.Nat.{ℕ, zero, suc, _-_, _/_, _%_, _^_, _≤_, _<_}
 use native.Mathlib.Omega.{arith}
-use borrow.Author.Tests.{le-leb, lt-leb, lt-ltb, le-ltb, leb-true, leb-false}
+use borrow.Author.Tests.{le-leb, lt-leb, lt-ltb, le-ltb}
 use Rattle.faststack.specs.Stack.{topOf}
 use Rattle.walk.specs.Step as S
 use Rattle.walk.specs.Words as W
 use Rattle.walk.specs.Words.{unpacked, waitingDepth, hasChild}
-use Rattle.walk.specs.WordStep.{WalkerWords, NodeWords, SteppedWords, stayWords, visitWords, popWords, advanceWords}
+use Rattle.walk.specs.WordStep.{WalkerWords, NodeWords, stayWords, visitWords, popWords, turnWords, advanceWords}
 use Rattle.walk.proofs.Stacks.{waiting-child, waiting-most}
+use Rattle.walk.proofs.Words.{empty-front}
+use Rattle.walk.proofs.WordKept.{unskipped-turn}
 use Rattle.advance.specs.Turn.{DueGroup, popped, dueGroup}
 
 -- ---- by the tests that the code makes
@@ -59,8 +61,10 @@ module _ {s d : Type 0} (m : ℕ) (N : NodeWords s d) (n : ℕ) (w : WalkerWords
   pops (suc k) h = let z : suc k - 1 ≡ k = omega arith in rw (h (omega arith), lt-ltb 0 (suc k) (omega arith), z)
 
   pub turn-due : cond (hasChild (due .group)) (visitWords m N n w (due .group) (due .depth)) (stayWords w S.done) ≡ advanceWords m N n w
-  unfolding dueGroup advanceWords
-  turn-due = rw (le-ltb 0 (w .positions .bits) none) (go (hasChild (w .current)) refl)
+  unfolding dueGroup turnWords
+  turn-due =
+      rw (unskipped-turn m N n w (empty-front (N .skips (w .ray)) (w .positions) none), le-ltb 0 (w .positions .bits) none)
+      (go (hasChild (w .current)) refl)
     where
       go : (b : Bool) → hasChild (w .current) ≡ b
           → let g = cond b (record { group = w .current; depth = w .depth }) (popped (w .stack) (waitingDepth (w .stack) (w .depth))) in

@@ -1,5 +1,5 @@
 -- On from turn to turn until positions are in hand.
-use mathlib.Core.Path.{_≡_, refl, sym, subst, _∙_}
+use mathlib.Core.Path.{_≡_, refl, sym, ap, subst, _∙_}
 use mathlib.Core.Bool.{Bool, true, false, _&&_, cond}
 use mathlib.Core.List.{[], _∷_}
 use mathlib.Core.Logic.{⊎-elim}
@@ -48,18 +48,25 @@ and-true true false e = (refl, e)
 and-true false b e = (e, absurd (let z : _≡_ {A = ℕ} 0 1 = cc in omega arith))
 
 module _ {s d : Type 0} (m : ℕ) (N : NodeWords s d) (n : ℕ) (w : WalkerWords s) (r : SteppedWords s) (left : ℕ) (turn : r ≡ advanceWords m N n w) where
+  -- with k more turns allowed after it
+  abbrev after : ℕ → SteppedWords s → SteppedWords s
+  after k x = cond (findsNone x) (seekWords m N k n (x .walker)) x
+
+  only-turn : r ≡ seekWords m N 0 n w
+  unfolding seekWords
+  only-turn = turn
+
+  first-turn : (k : ℕ) → after k r ≡ seekWords m N (suc k) n w
+  unfolding seekWords
+  first-turn k = ap (after k) turn
+
   -- the turn is the last
   pub seek-ends : (findsNone r && ltb 0 left) ≡ false → r ≡ seekWords m N left n w
-  unfolding seekWords
   seek-ends h = go left h
     where
-      pick : (b : Bool) (u : SteppedWords s) → b ≡ false → r ≡ cond b u r
-      pick true u e = absurd (let z : _≡_ {A = ℕ} 0 1 = cc in omega arith)
-      pick false u e = refl
-
       go : (k : ℕ) → (findsNone r && ltb 0 k) ≡ false → r ≡ seekWords m N k n w
-      go zero e = turn
-      go (suc k) e = rw (← turn) (pick (findsNone r) _ (last (findsNone r) e))
+      go zero e = only-turn
+      go (suc k) e = sym (ap (λ (b : Bool). cond b (seekWords m N k n (r .walker)) r) (last (findsNone r) e)) ∙ first-turn k
         where
           last : (b : Bool) → (b && ltb 0 (suc k)) ≡ false → b ≡ false
           last true f = sym (lt-ltb 0 (suc k) (omega arith)) ∙ f
@@ -67,12 +74,13 @@ module _ {s d : Type 0} (m : ℕ) (N : NodeWords s d) (n : ℕ) (w : WalkerWords
 
   -- another follows
   pub seek-goes : (findsNone r && ltb 0 left) ≡ true → seekWords m N (left - 1) n (r .walker) ≡ seekWords m N left n w
-  unfolding seekWords
   seek-goes h = go left (and-true (findsNone r) (ltb 0 left) h .0) (ltb-true 0 left (and-true (findsNone r) (ltb 0 left) h .1))
     where
       go : (k : ℕ) → findsNone r ≡ true → 0 < k → seekWords m N (k - 1) n (r .walker) ≡ seekWords m N k n w
       go zero f l = absurd (omega arith)
-      go (suc k) f l = let z : suc k - 1 ≡ k = omega arith in rw (z, ← turn, f)
+      go (suc k) f l =
+          let z : suc k - 1 ≡ k = omega arith in
+          ap (λ (x : ℕ). seekWords m N x n (r .walker)) z ∙ sym (ap (λ (b : Bool). cond b (seekWords m N k n (r .walker)) r) f) ∙ first-turn k
 
   -- and then no position is in hand
   pub seek-none : (findsNone r && ltb 0 left) ≡ true → r .walker .positions .bits ≡ 0

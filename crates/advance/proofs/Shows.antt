@@ -6,9 +6,9 @@ use native.Mathlib.Omega.{arith}
 use lib.Dec.{leb, ltb}
 use borrow.Author.Tests.{le-leb, lt-leb, le-ltb, leb-false, ltb-true, ltb-false}
 use Rattle.faststack.specs.Stack.{capacity, hasRoom, topOf}
-use Rattle.walk.specs.Step.{Answer, tested, position, done, refused, badPosition}
+use Rattle.walk.specs.Step.{Answer, tested, position, done, refused}
 use Rattle.walk.specs.Words.{Group, unpacked, restOf, firstPosition, firstChild, hasChild, waitingDepth}
-use Rattle.walk.specs.WordStep.{WalkerWords, SteppedWords, NodeWords, badChild, reportWords, visitWords, popWords, advanceWords, stepWords}
+use Rattle.walk.specs.WordStep.{WalkerWords, SteppedWords, NodeWords, leaving, pastSkips, badChild, reportWords, visitWords, popWords, turnWords, advanceWords, stepWords}
 use Rattle.walk.proofs.Cases.{cond-elim, or-false}
 use Rattle.walk.proofs.Stacks.{waiting-most}
 
@@ -23,14 +23,14 @@ rest-deep true e z l = go (hasRoom e) refl z
 
 module _ {s d : Type 0} (m : ℕ) (N : NodeWords s d) (n : ℕ) (w : WalkerWords s) where
   -- a test comes where no position is in hand and tests are left, and leaves the ray; a position is one of the n; and a refusal is cause 10
-  abbrev pub Shows : Answer → WalkerWords s → Type 0
-  Shows (tested v) u = (w .positions .bits ≤ 0) × (w .tests < m) × (u .depth ≤ capacity) × (u .ray ≡ w .ray) × (u .tests ≡ suc (w .tests))
-  Shows (position p) u = (0 < w .positions .bits) × (p < n)
-  Shows done u = w .positions .bits ≤ 0
-  Shows (refused k) u = k ≡ 10
+  abbrev pub ShowsAs : Answer → WalkerWords s → Type 0
+  ShowsAs (tested v) u = (w .positions .bits ≤ 0) × (w .tests < m) × (u .depth ≤ capacity) × (u .ray ≡ w .ray) × (u .tests ≡ suc (w .tests))
+  ShowsAs (position p) u = (0 < w .positions .bits) × (p < n)
+  ShowsAs done u = w .positions .bits ≤ 0
+  ShowsAs (refused k) u = k ≡ 10
 
   abbrev ShowsOf : SteppedWords s → Type 0
-  ShowsOf r = Shows (r .answer) (r .walker)
+  ShowsOf r = ShowsAs (r .answer) (r .walker)
 
   visit-shows : (g : Group) (e : ℕ) → w .positions .bits ≤ 0 → e ≤ capacity → ShowsOf (visitWords m N n w g e)
   unfolding visitWords
@@ -42,18 +42,33 @@ module _ {s d : Type 0} (m : ℕ) (N : NodeWords s d) (n : ℕ) (w : WalkerWords
       let q = or-false r (leb m c) (p .0) in
       (z, leb-false m (w .tests) (p .1), rest-deep (hasChild (restOf g)) e (q .0) l, refl, refl))
 
-  -- what a turn's answer tells
-  pub turn-shows : w .depth ≤ capacity → ShowsOf (advanceWords m N n w)
-  unfolding advanceWords reportWords popWords
-  turn-shows l =
+  shows-as : w .depth ≤ capacity → ShowsOf (turnWords m N n w)
+  unfolding turnWords reportWords popWords
+  shows-as l =
       cond-elim ShowsOf (ltb 0 (w .positions .bits)) _ _
-      (λ h. cond-elim ShowsOf (badPosition n (firstPosition (w .positions))) _ _ (λ _. refl)
-      (λ b. (ltb-true 0 (w .positions .bits) h, leb-false n (firstPosition (w .positions)) b)))
+      (λ h. cond-elim ShowsOf (N .absent (w .ray) (firstPosition (w .positions))) _ _ (λ _. refl)
+      (λ _. cond-elim ShowsOf (leb n (firstPosition (w .positions))) _ _ (λ _. refl)
+      (λ b. (ltb-true 0 (w .positions .bits) h, leb-false n (firstPosition (w .positions)) b))))
       (λ h. let z = ltb-false 0 (w .positions .bits) h in
       cond-elim ShowsOf (hasChild (w .current)) _ _ (λ _. visit-shows (w .current) (w .depth) z l)
       (λ _. let k = waiting-most (w .stack) (w .depth) in
       cond-elim ShowsOf (ltb 0 (waitingDepth (w .stack) (w .depth))) _ _
       (λ _. visit-shows (unpacked (topOf (w .stack) (waitingDepth (w .stack) (w .depth)))) _ z (omega arith)) (λ _. z)))
+
+module _ {s d : Type 0} (m : ℕ) (N : NodeWords s d) (n : ℕ) (w : WalkerWords s) where
+  -- what a turn's answer tells, of the hand without the positions that are passed over
+  abbrev pub Shows : Answer → WalkerWords s → Type 0
+  Shows a u = ShowsAs m N n (pastSkips N w) a u
+
+  pub turn-shows : w .depth ≤ capacity → Shows (advanceWords m N n w .answer) (advanceWords m N n w .walker)
+  unfolding advanceWords
+  turn-shows l = go (turnWords m N n (pastSkips N w) .answer) (turnWords m N n (pastSkips N w) .walker) (shows-as m N n (pastSkips N w) l)
+    where
+      go : (a : Answer) (u : WalkerWords s) → Shows a u → Shows a (leaving w a u)
+      go (tested v) u h = h
+      go (position p) u h = h
+      go done u h = h
+      go (refused e) u h = h
 
   -- a turn is the step, where sizes fit, there is a node, and the walker is not forged
   pub turn-is-step : m ≤ 65535 → n ≤ 65536 → 0 < m → N .forged (w .ray) ≡ false → w .depth ≤ capacity → w .tests ≤ m

@@ -142,7 +142,7 @@ module _ (bytes : List ℕ) (n : ℕ) (ray : Ray) (octant : ℕ) (walk : Walk) (
 
     pub turn-tested : not (t .meets) ≡ false → (v : Walk) (k : ℕ) (stack₁ : List ℕ) → v ≡ followed (walk .tests) t k → k ≡ waits depth (rest .bits) → stack₁ ≡ stacked stack depth rest
         → record { walker = walkerOf ray octant v stack₁; answer = S.tested c } ≡ goal
-    unfolding followed
+    unfolding followed hitMask
     turn-tested h v k stack₁ ve ke se =
         let p = met-rule (nodeAt bytes c) (nodeCount bytes) n c ray octant t test h in
         let mask = p .1 .mask ∙ ap (λ (x : ℕ). hitMask (nodeAt bytes x) ray octant) named in

@@ -1,5 +1,5 @@
 -- The positions in hand after a search are one node's: at most 24. For any fields and masks of nodes and any rays.
-use mathlib.Core.Path.{_≡_, sym, _∙_}
+use mathlib.Core.Path.{_≡_, sym, subst, _∙_}
 use Prim.Native.Nat.{ℕ, zero, suc, _≤_, _<_}
 use native.Mathlib.Omega.{arith}
 use lib.Dec.{ltb}
@@ -7,8 +7,10 @@ use borrow.Author.Tests.{ltb-true, eqb-true}
 use Rattle.words.specs.Ones.{onesBelow}
 use Rattle.words.proofs.Ranks.{ones-word}
 use Rattle.walk.specs.Words.{Group, unpacked, hasChild, waitingDepth}
-use Rattle.walk.specs.WordStep.{WalkerWords, SteppedWords, NodeWords, isTest, findsNone, badChild, visitWords, popWords, advanceWords, seekWords}
+use Rattle.walk.specs.WordStep.{WalkerWords, SteppedWords, NodeWords, isTest, findsNone, badChild, visitWords, popWords, turnWords, advanceWords, seekWords}
 use Rattle.walk.proofs.Cases.{cond-elim, and-true}
+use Rattle.walk.proofs.Words.{empty-front}
+use Rattle.walk.proofs.WordKept.{unskipped-turn}
 use Rattle.faststack.specs.Stack.{topOf}
 
 -- no more digits are set than there are
@@ -30,13 +32,17 @@ module _ {s d : Type 0} (m : ℕ) (N : NodeWords s d) (n : ℕ) where
   unfolding visitWords
   visit-low w g e z = cond-elim Low (badChild m N n w g e) _ _ (λ _. omega arith) (λ _. omega arith)
 
-  turn-low : (w : WalkerWords s) → w .positions .bits ≤ 0 → Low (advanceWords m N n w)
-  unfolding advanceWords popWords
-  turn-low w z =
+  -- where nothing is passed over
+  plain-low : (w : WalkerWords s) → w .positions .bits ≤ 0 → Low (turnWords m N n w)
+  unfolding turnWords popWords
+  plain-low w z =
       cond-elim Low (ltb 0 (w .positions .bits)) _ _ (λ h. absurd (let k = ltb-true 0 (w .positions .bits) h in omega arith))
       (λ _. cond-elim Low (hasChild (w .current)) _ _ (λ _. visit-low w (w .current) (w .depth) z)
       (λ _. cond-elim Low (ltb 0 (waitingDepth (w .stack) (w .depth))) _ _
       (λ _. visit-low w (unpacked (topOf (w .stack) (waitingDepth (w .stack) (w .depth)))) _ z) (λ _. omega arith)))
+
+  turn-low : (w : WalkerWords s) → w .positions .bits ≤ 0 → Low (advanceWords m N n w)
+  turn-low w z = subst Low (sym (unskipped-turn m N n w (empty-front (N .skips (w .ray)) (w .positions) z))) (plain-low w z)
 
   seek-low : (k : ℕ) (w : WalkerWords s) → w .positions .bits ≤ 0 → Low (seekWords m N k n w)
   unfolding seekWords

@@ -139,7 +139,7 @@ module _ {bytes : List ℕ} {n : ℕ} {ray : Ray} (sized : Sized bytes n) (fit :
   module _ (held : 0 < w .positions .bits) (p : ℕ) (named : p ≡ W.firstPosition (w .positions)) where
     -- one past the n
     pub walk-past : n ≤ p → outcome bytes n ray .ended ≡ S.refused 10
-    walk-past h = ap (λ (o : OutcomeWords Beam (List ℕ)). o .ended) (sym (leads-past steadily (K .leads) held p named h))
+    walk-past h = ap (λ (o : OutcomeWords Beam (List ℕ)). o .ended) (sym (leads-past steadily (K .leads) refl refl held p named h))
 
     -- the walker without its first position
     abbrev pub rest : W.Group → WalkerWords Beam
@@ -150,7 +150,7 @@ module _ {bytes : List ℕ} {n : ℕ} {ray : Ray} (sized : Sized bytes n) (fit :
 
     pub walk-notes : p < n → (g : W.Group) → g ≡ W.restOf (w .positions) → (found₁ : List ℕ) → found₁ ≡ set found count p → Noted g found₁
     walk-notes h g q found₁ e =
-        let o = leads-on steadily (K .leads) held p named h refl in
+        let o = leads-on steadily (K .leads) refl refl held p named h refl in
         subst (λ (x : W.Group). Noted x found₁) (sym q) (
           record {
             noted = K .noted ++ (p ∷ []);

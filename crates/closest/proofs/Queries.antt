@@ -123,13 +123,13 @@ module _ {indices : List ℕ} {panes : List Float} {bytes : List ℕ} {react : �
 
   stops : {y : Found Float} {ds : List Float} → react p beam x ≡ record { noted = y; tells = ds; stop = true }
       → record { walker = toldAllWords N ds (afterReportWords w .walker); noted = y; ended = S.position p } ≡ goal
-  stops q = leads-stops (steady bytes n (P .sized) (P .fit)) (P .leads) (P .held) p (P .named) (P .there) q
+  stops q = leads-stops (steady bytes n (P .sized) (P .fit)) (P .leads) refl refl (P .held) p (P .named) (P .there) q
 
   goes : {y : Found Float} {ds : List Float} → react p beam x ≡ record { noted = y; tells = ds; stop = false }
       → Goes (nodeCount bytes) N n react goal w (toldAllWords N ds (walkerOf ray octant reported stack)) y
   goes {y = y} {ds = ds} q =
       subst (λ (g : W.Group). Goes (nodeCount bytes) N n react goal w (toldAllWords N ds (record { ray = beam; tests = v .tests; positions = g; current = groupOf (v .current); depth = v .depth; stack = stack })) y)
-      (sym (P .rest)) (leads-on (steady bytes n (P .sized) (P .fit)) (P .leads) (P .held) p (P .named) (P .there) q)
+      (sym (P .rest)) (leads-on (steady bytes n (P .sized) (P .fit)) (P .leads) refl refl (P .held) p (P .named) (P .there) q)
 
 module _ {indices : List ℕ} {panes : List Float} {bytes : List ℕ} {goal : OutcomeWords Beam (Found Float)}
     {ray : Ray} {octant : ℕ} {v : Walk} {stack : List ℕ} {x : Found Float} {p : ℕ} {met : Met} {left : Group} where
@@ -215,4 +215,4 @@ pub position-past : (bytes indices : List ℕ) → Sized bytes (length indices) 
     → (react : ℕ → Beam → Found Float → Reaction Float (Found Float)) (goal : OutcomeWords Beam (Found Float)) (ray : Ray) (octant : ℕ) (v : Walk) (stack : List ℕ) (x : Found Float)
     → Leads (nodeCount bytes) (nodeWordsAt bytes beams) (length indices) react goal (walkerOf ray octant v stack) x → 0 < v .positions .bits
     → (p : ℕ) → p ≡ firstPosition (groupOf (v .positions)) → length indices ≤ p → record { walker = walkerOf ray octant v stack; noted = x; ended = S.refused 10 } ≡ goal
-position-past bytes indices sized fit react goal ray octant v stack x leads held p named h = leads-past (steady bytes (length indices) sized fit) leads held p named h
+position-past bytes indices sized fit react goal ray octant v stack x leads held p named h = leads-past (steady bytes (length indices) sized fit) leads refl refl held p named h

@@ -18,7 +18,7 @@ use Rattle.walk.specs.WordStep.{RunWords}
 use Rattle.walk_record.specs.Beam.{Beam, beamOf, beams}
 use Rattle.walk_record.specs.Record.{FieldsFit}
 use Rattle.walk_record.specs.Walk.{queryAt, anyHitAt, listingAt, Passed}
-use Rattle.walk_record.proofs.Beam.{beam-laws, begun-accepted}
+use Rattle.walk_record.proofs.Beam.{beam-laws, beams-present, begun-accepted}
 use Rattle.walk_record.proofs.Laws.{bytes-fit}
 use Rattle.walk_record.proofs.Reach.{told-passes-fewer}
 use Rattle.walk_record.proofs.Demands as W
@@ -69,7 +69,8 @@ module _ (bytes : List ℕ) (n d : ℕ) (good : Good bytes n d) (origin directio
   pub no-step-refused : (l : List (Op Float)) → All (Brings n) l → All Answered (runBytes bytes l (started ray .walker) .answers)
   no-step-refused l b =
       subst (λ (r : RunWords Beam). All Answered (r .answers)) (sym (run-started bytes (good .layout) ray accepted l))
-      (W.calls-answered bytes beams beam-laws fit n (good .sound) (beamOf ray) (begun-accepted origin direction tmin tmax accepted) (good .positions) (good .nodes) l b)
+      (W.calls-answered bytes beams beam-laws fit n (good .sound) (beamOf ray) (begun-accepted origin direction tmin tmax accepted)
+      (good .positions) (good .nodes) (beams-present n) l b)
 
   -- ---- any-hit
   -- What any-hit finds is the first node's listing: its passed positions, highest first, then its reached children's listings by falling slot XOR
@@ -77,20 +78,21 @@ module _ (bytes : List ℕ) (n d : ℕ) (good : Good bytes n d) (origin directio
   pub any-hit-is-listing : anyHitAt bytes beams n (beamOf ray) .noted ≡ listingAt bytes beams n (beamOf ray)
   any-hit-is-listing =
       let a = begun-accepted origin direction tmin tmax accepted in
-      W.any-hit-listing bytes beams beam-laws fit n (good .sound) (beamOf ray) a (good .positions) (good .nodes)
+      W.any-hit-listing bytes beams beam-laws fit n (good .sound) (beamOf ray) a (good .positions) (good .nodes) (beams-present n)
 
   with-room : (before : List ℕ) → length (anyHitAt bytes beams n (beamOf ray) .noted) ≤ length before
       → Lists bytes n ray before (length (anyHitAt bytes beams n (beamOf ray) .noted)) (anyHitAt bytes beams n (beamOf ray) .walker .tests)
   with-room before room =
       let a = begun-accepted origin direction tmin tmax accepted in
-      let done = W.any-hit-done bytes beams beam-laws fit n (good .sound) (beamOf ray) a (good .positions) (good .nodes) in
+      let done = W.any-hit-done bytes beams beam-laws fit n (good .sound) (beamOf ray) a (good .positions) (good .nodes) (beams-present n) in
       let same = list-found bytes n ray before (good .layout) (good .positions) (good .nodes) accepted done room in
-      let t = W.any-hit-tests bytes beams beam-laws fit n (good .sound) (beamOf ray) a (good .positions) (good .nodes) in
+      let counts = W.any-hit-counts bytes beams beam-laws fit n (good .sound) (beamOf ray) a (good .positions) (good .nodes) (beams-present n) in
+      let t = W.any-hit-tests bytes beams beam-laws fit n (good .sound) (beamOf ray) a (good .positions) (good .nodes) (beams-present n) in
       record {
         answer = answers-listed bytes n ray before (good .layout) (good .positions) (good .nodes) accepted done room;
         listing = same ∙ any-hit-is-listing;
-        passed-once = λ p q. ap (count p) same ∙ W.any-hit-counts bytes beams beam-laws fit n (good .sound) (beamOf ray) a (good .positions) (good .nodes) p .0 q;
-        no-other = λ p q. ap (count p) same ∙ W.any-hit-counts bytes beams beam-laws fit n (good .sound) (beamOf ray) a (good .positions) (good .nodes) p .1 q;
+        passed-once = λ p q. ap (count p) same ∙ counts p .0 q;
+        no-other = λ p q. ap (count p) same ∙ counts p .1 q;
         reached = t .0;
         reached-once = t .1;
         reached-all = t .2;
@@ -103,18 +105,22 @@ module _ (bytes : List ℕ) (n d : ℕ) (good : Good bytes n d) (origin directio
   any-hit-lists before long =
       let a = begun-accepted origin direction tmin tmax accepted in
       with-room before
-      (long (anyHitAt bytes beams n (beamOf ray) .noted) (W.any-hit-nodup bytes beams beam-laws fit n (good .sound) (beamOf ray) a (good .positions) (good .nodes))
-      (λ p i. W.any-hit-exact bytes beams beam-laws fit n (good .sound) (beamOf ray) a (good .positions) (good .nodes) p .0 i))
+      (long (anyHitAt bytes beams n (beamOf ray) .noted)
+      (W.any-hit-nodup bytes beams beam-laws fit n (good .sound) (beamOf ray) a (good .positions) (good .nodes) (beams-present n))
+      (λ p i. W.any-hit-exact bytes beams beam-laws fit n (good .sound) (beamOf ray) a (good .positions) (good .nodes) (beams-present n) p .0 i))
 
   -- A list with room for every position is long enough.
   pub any-hit-lists-all : (before : List ℕ) → n ≤ length before
       → Lists bytes n ray before (length (anyHitAt bytes beams n (beamOf ray) .noted)) (anyHitAt bytes beams n (beamOf ray) .walker .tests)
   any-hit-lists-all before h =
       with-room before
-      (omega (arith, h, W.any-hit-most bytes beams beam-laws fit n (good .sound) (beamOf ray) (begun-accepted origin direction tmin tmax accepted) (good .positions) (good .nodes)))
+      (let most = W.any-hit-most bytes beams beam-laws fit n (good .sound) (beamOf ray) (begun-accepted origin direction tmin tmax accepted)
+      (good .positions) (good .nodes) (beams-present n) in
+      omega (arith, h))
 
   -- ---- any query
   -- Its walk is not refused: it ends with done, or where the query stops it at a position.
   pub query-not-refused : {a : Type 0} (react : ℕ → Beam → a → Reaction Float a) (x : a) → Ended (queryAt bytes beams react x n (beamOf ray) .ended)
   query-not-refused react x =
-      W.query-answered bytes beams beam-laws fit n (good .sound) (beamOf ray) (begun-accepted origin direction tmin tmax accepted) (good .positions) (good .nodes) react x
+      W.query-answered bytes beams beam-laws fit n (good .sound) (beamOf ray) (begun-accepted origin direction tmin tmax accepted)
+      (good .positions) (good .nodes) (beams-present n) react x

@@ -1,5 +1,5 @@
--- Which bits of a hit mask are set, on a node whose slots meet the rule: each passed slot puts in a run of ones, as many as its code has,
--- a child one at 24 + (slot XOR octant), a leaf its positions' below 24.
+-- Which bits of a hit mask are set, on a node whose slots meet the rule and for any test of slots: each passed slot puts in a run of ones, as many
+-- as its code has, a child one at 24 + (slot XOR octant), a leaf its positions' below 24.
 use mathlib.Core.Path.{_≡_, refl, sym, ap, _∙_, subst}
 use mathlib.Core.Bool.{Bool, true, false}
 use mathlib.Core.Logic.{⊎-elim}
@@ -13,14 +13,13 @@ use Rattle.words.specs.Fields.{field}
 use Rattle.words.specs.Ones.{onesBelow}
 use Rattle.words.proofs.Ors.{or-of-lt, bit-from, bit-to, zero-bit, shl-bit, shl-low, run-bit, bit-past}
 use Rattle.words.proofs.Upto.{lt-or-ge}
-use Rattle.ray.specs.declared.Ray.{Ray}
 use Rattle.node.specs.declared.Node.{Node}
 use Rattle.node.specs.Node.{innerBit, codeCount}
 use Rattle.decode.specs.Meta.{childBits, pick, innerCode, bitIndex}
 use Rattle.decode.proofs.Decode.{index-lt, inner-place, slot-back}
 use Rattle.rule.specs.Rule.{LeafTop, one, two, three, SlotRule, empty, child, leaf, SlotOf}
 use Rattle.rule.proofs.Slots.{some-ones}
-use Rattle.slot.specs.Mask.{onlyIf, hitBits, passesSlot, slotHit, hitMask}
+use Rattle.slot.specs.Mask.{onlyIf, hitBits, slotHit, hitMaskOf}
 
 -- ---- a slot's code
 -- the bits of a slot are a run of ones, as many as its code has
@@ -73,26 +72,26 @@ leaf-place meta octant h =
 
 -- ---- the mask
 -- whatever the node, it is a word of 32 bits
-pub mask-lt : (v : Node) (r : Ray) (octant : ℕ) → hitMask v r octant < 2 ^ 32
-unfolding hitMask slotHit hitBits
-mask-lt v r octant = or-of-lt 32 8 (slotHit v r octant) (λ k l. small (passesSlot v r k) (getD (v .«child_meta») k 0))
+pub mask-lt : (test : ℕ → Bool) (v : Node) (octant : ℕ) → hitMaskOf test v octant < 2 ^ 32
+unfolding hitMaskOf slotHit hitBits
+mask-lt test v octant = or-of-lt 32 8 (slotHit test v octant) (λ k l. small (test k) (getD (v .«child_meta») k 0))
   where
     small : (b : Bool) (meta : ℕ) → onlyIf b ((childBits meta * 2 ^ bitIndex octant meta) % 2 ^ 32) < 2 ^ 32
     small true meta = mod-lt (childBits meta * 2 ^ bitIndex octant meta) (pow-pos 32)
     small false meta = pow-pos 32
 
 -- bit by bit
-module _ (v : Node) (r : Ray) (octant n : ℕ) (small : octant < 8) (rule : (k : ℕ) → k < 8 → SlotOf v n k) where
+module _ (test : ℕ → Bool) (v : Node) (octant n : ℕ) (small : octant < 8) (rule : (k : ℕ) → k < 8 → SlotOf v n k) where
   abbrev meta : ℕ → ℕ
   meta k = getD (v .«child_meta») k 0
 
   abbrev mask : ℕ
-  mask = hitMask v r octant
+  mask = hitMaskOf test v octant
 
-  -- bit j stands in slot k's run, and the ray passes the slot
+  -- bit j stands in slot k's run, and the slot passes
   pub record InRun (j k : ℕ) : Type 0 where
     pub slot : k < 8
-    pub passed : passesSlot v r k ≡ true
+    pub passed : test k ≡ true
     pub from : bitIndex octant (meta k) ≤ j
     pub upto : j < bitIndex octant (meta k) + codeCount (meta k)
 
@@ -121,21 +120,21 @@ module _ (v : Node) (r : Ray) (octant n : ℕ) (small : octant < 8) (rule : (k :
       shl-bit 32 at j (childBits (meta k)) low hj ∙ ap (field 1 (j - at)) (run k l) ∙ run-bit (codeCount (meta k)) (j - at) (omega arith)
 
   none-past : (j : ℕ) → field 1 j mask ≡ 1 → j < 32
-  none-past j e = ⊎-elim (λ q. q) (λ q. absurd (omega (arith, bit-past 32 j mask (mask-lt v r octant) q))) (lt-or-ge j 32)
+  none-past j e = ⊎-elim (λ q. q) (λ q. absurd (omega (arith, bit-past 32 j mask (mask-lt test v octant) q))) (lt-or-ge j 32)
 
   -- a bit of the mask stands in the run of a slot passed, and each bit of such a run is a bit of the mask
   pub bit-of : (j : ℕ) → field 1 j mask ≡ 1 → (k : ℕ) × InRun j k
-  unfolding hitMask slotHit
+  unfolding hitMaskOf slotHit
   bit-of j e =
-      let w = bit-from 8 j (slotHit v r octant) e in
-      let p = taken (w .0) j (passesSlot v r (w .0)) (w .2) in
+      let w = bit-from 8 j (slotHit test v octant) e in
+      let p = taken (w .0) j (test (w .0)) (w .2) in
       let q = in-run (w .0) j (w .1) (none-past j e) (p .1) in
       (w .0, record { slot = w .1; passed = p .0; from = q .0; upto = q .1 })
 
   pub bit-set : (j k : ℕ) → j < 32 → InRun j k → field 1 j mask ≡ 1
-  unfolding hitMask slotHit
+  unfolding hitMaskOf slotHit
   bit-set j k hj i =
-      bit-to 8 j k (slotHit v r octant) (i .slot)
+      bit-to 8 j k (slotHit test v octant) (i .slot)
       (ap (λ (b : Bool). field 1 j (onlyIf b (hitBits octant (meta k)))) (i .passed) ∙ of-run k j (i .slot) hj (i .from) (i .upto))
 
   -- ---- children and positions
@@ -148,7 +147,7 @@ module _ (v : Node) (r : Ray) (octant n : ℕ) (small : octant < 8) (rule : (k :
       go (leaf t f a c) = absurd (omega arith)
 
   -- the bit of a passed child
-  pub child-bit-set : (k : ℕ) → k < 8 → innerBit (v .imask) k ≡ 1 → passesSlot v r k ≡ true → field 1 (24 + bitXor k octant) mask ≡ 1
+  pub child-bit-set : (k : ℕ) → k < 8 → innerBit (v .imask) k ≡ 1 → test k ≡ true → field 1 (24 + bitXor k octant) mask ≡ 1
   child-bit-set k l b p =
       let e = child-meta k l b in
       let c = child-code (meta k) k l e in
@@ -159,7 +158,7 @@ module _ (v : Node) (r : Ray) (octant n : ℕ) (small : octant < 8) (rule : (k :
   pub record ChildHit (k : ℕ) : Type 0 where
     pub slot : k < 8
     pub inner : innerBit (v .imask) k ≡ 1
-    pub passed : passesSlot v r k ≡ true
+    pub passed : test k ≡ true
 
   -- a bit from 24 on is a passed child's
   pub child-bit-of : (j : ℕ) → 24 ≤ j → field 1 j mask ≡ 1 → ChildHit (bitXor (j - 24) octant)
@@ -184,7 +183,7 @@ module _ (v : Node) (r : Ray) (octant n : ℕ) (small : octant < 8) (rule : (k :
   pub record PositionHit (j k : ℕ) : Type 0 where
     pub slot : k < 8
     pub outer : innerBit (v .imask) k ≡ 0
-    pub passed : passesSlot v r k ≡ true
+    pub passed : test k ≡ true
     pub from : meta k % 32 ≤ j
     pub upto : j < meta k % 32 + codeCount (meta k)
     pub below : v .«primitive_base_idx» + j < n
@@ -204,7 +203,8 @@ module _ (v : Node) (r : Ray) (octant n : ℕ) (small : octant < 8) (rule : (k :
           record { slot = i .slot; outer = f; passed = i .passed; from = omega arith; upto = omega arith; below = omega arith }
 
   -- and each position of a passed leaf is one
-  pub position-bit-set : (j k : ℕ) → k < 8 → innerBit (v .imask) k ≡ 0 → passesSlot v r k ≡ true → meta k % 32 ≤ j → j < meta k % 32 + codeCount (meta k) → field 1 j mask ≡ 1
+  pub position-bit-set : (j k : ℕ) → k < 8 → innerBit (v .imask) k ≡ 0 → test k ≡ true → meta k % 32 ≤ j → j < meta k % 32 + codeCount (meta k)
+      → field 1 j mask ≡ 1
   position-bit-set j k l b p lo hi = go (rule k l)
     where
       go : SlotOf v n k → field 1 j mask ≡ 1

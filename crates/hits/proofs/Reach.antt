@@ -16,7 +16,7 @@ use Rattle.node.specs.declared.Slot.{Slot}
 use Rattle.node.specs.declared.Node.{Node}
 use Rattle.node.specs.Node.{noSlot}
 use Rattle.slot.specs.Slot.{nearLimit, farX, farY, farZ, nearOf, farOf, passes}
-use Rattle.slot.specs.Mask.{onlyIf, hitBits, passesSlot, slotHit, hitMask}
+use Rattle.slot.specs.Mask.{onlyIf, hitBits, passesSlot, slotHit, hitMaskOf, hitMask}
 
 -- two rays that differ in their reach alone, which is no higher for the first
 pub record LowerReach (r s : Ray) : Type 0 where
@@ -57,17 +57,22 @@ lower-reach-passes-fewer v t r s l h =
     (min-rises (nearOf v t s) (minOf (minOf (farX v t s) (farY v t s)) (farZ v t s)) (r .tmax) (s .tmax) (l .reach)
     (subst T (sym (ap (passes v t) (sym (as-reaching r s l)) ∙ h)) tt))
 
--- so each bit of its hit mask is one of the other's
+-- a test of slots that passes no more than another sets no more bits of a hit mask
+pub fewer-hits : (a b : ℕ → Bool) (v : Node) (octant j : ℕ) → ((k : ℕ) → a k ≡ true → b k ≡ true) → field 1 j (hitMaskOf a v octant) ≡ 1
+    → field 1 j (hitMaskOf b v octant) ≡ 1
+unfolding hitMaskOf slotHit
+fewer-hits a b v octant j h e =
+    let w = bit-from 8 j (slotHit a v octant) e in
+    let k : ℕ = w .0 in
+    bit-to 8 j k (slotHit b v octant) (w .1) (kept (hitBits octant (getD (v .«child_meta») k 0)) (a k) (b k) (h k) (w .2))
+  where
+    kept : (x : ℕ) (c d : Bool) → (c ≡ true → d ≡ true) → field 1 j (onlyIf c x) ≡ 1 → field 1 j (onlyIf d x) ≡ 1
+    kept x true d h e = ap (λ (b : Bool). field 1 j (onlyIf b x)) (h refl) ∙ e
+    kept x false d h e = absurd (omega (arith, zero-bit j))
+
+-- so each bit of the first ray's hit mask is one of the other's
 pub lower-reach-hits-fewer : (v : Node) (r s : Ray) (octant j : ℕ) → LowerReach r s → field 1 j (hitMask v r octant) ≡ 1
     → field 1 j (hitMask v s octant) ≡ 1
-unfolding hitMask slotHit
-lower-reach-hits-fewer v r s octant j l e =
-    let w = bit-from 8 j (slotHit v r octant) e in
-    let k : ℕ = w .0 in
-    bit-to 8 j k (slotHit v s octant) (w .1)
-    (kept (hitBits octant (getD (v .«child_meta») k 0)) (passesSlot v r k) (passesSlot v s k)
-    (lower-reach-passes-fewer v (getD (v .slots) k noSlot) r s l) (w .2))
-  where
-    kept : (x : ℕ) (a b : Bool) → (a ≡ true → b ≡ true) → field 1 j (onlyIf a x) ≡ 1 → field 1 j (onlyIf b x) ≡ 1
-    kept x true b h e = ap (λ (c : Bool). field 1 j (onlyIf c x)) (h refl) ∙ e
-    kept x false b h e = absurd (omega (arith, zero-bit j))
+unfolding hitMask
+lower-reach-hits-fewer v r s octant j l =
+    fewer-hits (passesSlot v r) (passesSlot v s) v octant j (λ k. lower-reach-passes-fewer v (getD (v .slots) k noSlot) r s l)

@@ -10,10 +10,12 @@ use borrow.Author.Tests.{le-leb, lt-leb, lt-ltb, eqb-true}
 use Rattle.faststack.specs.Stack.{capacity}
 use Rattle.walk.specs.Step as S
 use Rattle.walk.specs.Queries.{Reaction, Going}
-use Rattle.walk.specs.Words.{firstPosition}
-use Rattle.walk.specs.WordStep.{WalkerWords, SteppedWords, NodeWords, InRange, isTest, findsNone, stayWords, afterReportWords, tellWords, reportWords, advanceWords, seekWords, stepWords}
+use Rattle.walk.specs.Words.{Group, firstPosition}
+use Rattle.walk.specs.WordStep.{WalkerWords, SteppedWords, NodeWords, InRange, isTest, findsNone, stayWords, afterReportWords, tellWords, reportWords, turnWords, advanceWords, seekWords, stepWords}
 use Rattle.walk.specs.WordQueries.{OutcomeWords, toldAllWords, followWords, queryWords}
 use Rattle.walk.proofs.Cases.{cond-elim}
+use Rattle.walk.proofs.Words.{AtFront, empty-front, front-stays}
+use Rattle.walk.proofs.WordKept.{unskipped-turn}
 use Rattle.walk.proofs.WordEnds.{stepsLeftWords}
 use Rattle.advance.proofs.Shows.{Shows, turn-shows, turn-is-step}
 
@@ -104,13 +106,19 @@ module _ {s d a : Type 0} {m : ℕ} {N : NodeWords s d} {n : ℕ} {react : ℕ �
 
   -- ---- a position in hand
 
-  module _ (held : 0 < w .positions .bits) (p : ℕ) (named : p ≡ firstPosition (w .positions)) where
+  -- which is neither passed over nor absent
+  module _ (front : AtFront (N .skips (w .ray)) (w .positions)) (present : N .absent (w .ray) (firstPosition (w .positions)) ≡ false)
+      (held : 0 < w .positions .bits) (p : ℕ) (named : p ≡ firstPosition (w .positions)) where
+    is-due : reportWords n w ≡ advanceWords m N n w
+    unfolding turnWords
+    is-due = rw (unskipped-turn m N n w front, lt-ltb 0 (w .positions .bits) held, present)
+
     -- one past the n refuses the query
     pub leads-past : n ≤ p → record { walker = w; noted = x; ended = S.refused 10 } ≡ goal
-    unfolding advanceWords reportWords
+    unfolding reportWords
     leads-past h =
-        let e : stayWords w (S.refused 10) ≡ advanceWords m N n w = rw (lt-ltb 0 (w .positions .bits) held, ← named, le-leb n p h) in
-        follows _ e .rest
+        let e : stayWords w (S.refused 10) ≡ reportWords n w = rw (← named, le-leb n p h) in
+        follows _ (e ∙ is-due) .rest
 
     module _ (there : p < n) where
       -- the walker after its report
@@ -118,8 +126,8 @@ module _ {s d a : Type 0} {m : ℕ} {N : NodeWords s d} {n : ℕ} {react : ℕ �
       reported = afterReportWords w .walker
 
       is-report : record { walker = reported; answer = S.position p } ≡ advanceWords m N n w
-      unfolding advanceWords reportWords
-      is-report = rw (lt-ltb 0 (w .positions .bits) held, ← named, lt-leb n p there)
+      unfolding reportWords
+      is-report = let e : record { walker = reported; answer = S.position p } ≡ reportWords n w = rw (← named, lt-leb n p there) in e ∙ is-due
 
       -- what follows the report, by the reaction, with f steps
       followed : ℕ → Reaction d a → OutcomeWords s a
@@ -185,7 +193,7 @@ module _ {s d a : Type 0} {m : ℕ} {N : NodeWords s d} {n : ℕ} {react : ℕ �
         };
         less = f tt;
       }
-      go (S.position p) u h i f k l q = absurd (omega (arith, h .0))
+      go (S.position p) u h i f k l q = absurd (let e = front-stays (N .skips (w .ray)) 32 (w .positions) (empty-front (N .skips (w .ray)) (w .positions) none) in omega (arith, h .0, ap (λ (g : Group). g .bits) e))
       go S.done u h i f k l q = q
       go (S.refused j) u h i f k l q = q
 

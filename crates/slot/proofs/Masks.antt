@@ -23,7 +23,7 @@ use Rattle.node.specs.Node.{nodeFrom, MetaWord}
 use Rattle.node.proofs.RoundTrip.{slots-at}
 use Rattle.decode.specs.Meta.{childBits, bitIndex, eachByte}
 use Rattle.decode.proofs.Decode.{child-byte, index-byte, index-lt}
-use Rattle.slot.specs.Mask.{onlyIf, hitBits, passesSlot, slotHit, hitMask}
+use Rattle.slot.specs.Mask.{onlyIf, hitBits, passesSlot, slotHit, hitMaskOf, hitMask}
 use Rattle.slot.specs.Slot.{nearLimit, passes}
 use Rattle.slot.specs.Parts.{gridOf, endsOf, slotPasses, wordHit, wordMask, Marks, Placed}
 use Rattle.slot.specs.declared.Grid.{Grid}
@@ -78,13 +78,15 @@ through false c i h = rw (and-zero-r c, zero-mul (2 ^ i))
 child-bits-lt : (meta : ℕ) → meta < 256 → childBits meta < 8
 child-bits-lt meta h = omega arith
 
-pub mask-is : (v : Node) (r : Ray) (o w marks : ℕ) (pass : ℕ → Bool) → o < 8 → MetaWord v w → Marks pass marks → ((k : ℕ) → k < 8 → pass k ≡ passesSlot v r k)
-    → wordMask 8 (bitAnd (eachByte childBits w) marks) (eachByte (bitIndex o) w) ≡ hitMask v r o
-unfolding wordMask hitMask wordHit slotHit hitBits
-mask-is v r o w marks pass h m g p =
-    or-of-congr 8 (wordHit (bitAnd (eachByte childBits w) marks) (eachByte (bitIndex o) w)) (slotHit v r o)
+-- for any test of slots
+pub mask-is : (v : Node) (test : ℕ → Bool) (o w marks : ℕ) (pass : ℕ → Bool) → o < 8 → MetaWord v w → Marks pass marks
+    → ((k : ℕ) → k < 8 → pass k ≡ test k)
+    → wordMask 8 (bitAnd (eachByte childBits w) marks) (eachByte (bitIndex o) w) ≡ hitMaskOf test v o
+unfolding wordMask hitMaskOf wordHit slotHit hitBits
+mask-is v test o w marks pass h m g p =
+    or-of-congr 8 (wordHit (bitAnd (eachByte childBits w) marks) (eachByte (bitIndex o) w)) (slotHit test v o)
     (λ k l. rw (field-and 8 k (eachByte childBits w) marks, child-byte w k l, index-byte o w k h l, g .byte k l, p k l, ← m .bytes k l)
-    (through (passesSlot v r k) (childBits (field 8 k w)) (bitIndex o (field 8 k w)) (child-bits-lt (field 8 k w) (field-lt 8 k w))))
+    (through (test k) (childBits (field 8 k w)) (bitIndex o (field 8 k w)) (child-bits-lt (field 8 k w) (field-lt 8 k w))))
 
 -- where nothing is marked there is nothing in the mask
 unmarked : (p : Bool) (n : ℕ) → onlyIf p 7 ≡ 0 → onlyIf p n ≡ 0
@@ -99,11 +101,12 @@ no-bits : orOf 8 (λ k. 0) ≡ 0
 unfolding orOf
 no-bits = refl
 
-pub mask-none : (v : Node) (r : Ray) (o marks : ℕ) (pass : ℕ → Bool) → marks ≡ 0 → Marks pass marks → ((k : ℕ) → k < 8 → pass k ≡ passesSlot v r k) → hitMask v r o ≡ 0
-unfolding hitMask slotHit
-mask-none v r o marks pass z g p =
-    or-of-congr 8 (slotHit v r o) (λ k. 0)
-    (λ k l. unmarked (passesSlot v r k) _ (ap (λ (b : Bool). onlyIf b 7) (sym (p k l)) ∙ sym (g .byte k l) ∙ ap (field 8 k) z ∙ zero-field k l))
+pub mask-none : (v : Node) (test : ℕ → Bool) (o marks : ℕ) (pass : ℕ → Bool) → marks ≡ 0 → Marks pass marks
+    → ((k : ℕ) → k < 8 → pass k ≡ test k) → hitMaskOf test v o ≡ 0
+unfolding hitMaskOf slotHit
+mask-none v test o marks pass z g p =
+    or-of-congr 8 (slotHit test v o) (λ k. 0)
+    (λ k l. unmarked (test k) _ (ap (λ (b : Bool). onlyIf b 7) (sym (p k l)) ∙ sym (g .byte k l) ∙ ap (field 8 k) z ∙ zero-field k l))
     ∙ no-bits
 
 -- ---- the whole test, as code makes it up
@@ -113,8 +116,11 @@ module _ (s : List ℕ) (o : ℕ) (r : Ray) (octant : ℕ) (e : Ends) (g : Grid)
   slot-passed k l = rw (p, q, n) (slot-is s o k (nodeFrom s o) r) ∙ ap (λ (t : Slot). passes (nodeFrom s o) t r) (sym (slots-at s o k l))
 
   pub nothing-marked : marks ≡ 0 → hitMask (nodeFrom s o) r octant ≡ 0
-  nothing-marked z = mask-none (nodeFrom s o) r octant marks (slotPasses s o e g near (r .tmax)) z m slot-passed
+  unfolding hitMask
+  nothing-marked z = mask-none (nodeFrom s o) (passesSlot (nodeFrom s o) r) octant marks (slotPasses s o e g near (r .tmax)) z m slot-passed
 
   pub mask-whole : (w child index : ℕ) → octant < 8 → MetaWord (nodeFrom s o) w → child ≡ eachByte childBits w → index ≡ eachByte (bitIndex octant) w
       → wordMask 8 (bitAnd child marks) index ≡ hitMask (nodeFrom s o) r octant
-  mask-whole w child index l d f h = rw (f, h) (mask-is (nodeFrom s o) r octant w marks (slotPasses s o e g near (r .tmax)) l d m slot-passed)
+  unfolding hitMask
+  mask-whole w child index l d f h =
+      rw (f, h) (mask-is (nodeFrom s o) (passesSlot (nodeFrom s o) r) octant w marks (slotPasses s o e g near (r .tmax)) l d m slot-passed)

@@ -18,16 +18,25 @@ onlyIf false n = zero
 unfoldable pub hitBits : ℕ → ℕ → ℕ
 hitBits octant meta = (childBits meta * 2 ^ bitIndex octant meta) % 2 ^ 32
 
+-- ---- for any test of slots
+
+-- what slot i puts into the mask
+unfoldable pub slotHit : (ℕ → Bool) → Node → ℕ → ℕ → ℕ
+unfolding hitBits
+slotHit test v octant i = onlyIf (test i) (hitBits octant (getD (v .«child_meta») i 0))
+
+-- the mask of the slots that pass
+unfoldable pub hitMaskOf : (ℕ → Bool) → Node → ℕ → ℕ
+unfolding orOf slotHit
+hitMaskOf test v octant = orOf 8 (slotHit test v octant)
+
+-- ---- by boxes
+
 -- whether the ray passes slot i of a node
 abbrev pub passesSlot : Node → Ray → ℕ → Bool
 passesSlot v r i = passes v (getD (v .slots) i noSlot) r
 
--- what slot i puts into the mask
-unfoldable pub slotHit : Node → Ray → ℕ → ℕ → ℕ
-unfolding hitBits
-slotHit v r octant i = onlyIf (passesSlot v r i) (hitBits octant (getD (v .«child_meta») i 0))
-
 -- the mask
 unfoldable pub hitMask : Node → Ray → ℕ → ℕ
-unfolding orOf slotHit
-hitMask v r octant = orOf 8 (slotHit v r octant)
+unfolding hitMaskOf
+hitMask v r octant = hitMaskOf (passesSlot v r) v octant

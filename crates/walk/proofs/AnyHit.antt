@@ -17,7 +17,7 @@ use Rattle.walk.specs.Tests.{Tests}
 use Rattle.walk.specs.Step.{Walker, Answer, tested, position, done, nothing, refused, fresh, Stepped, afterTest, stepOf}
 use Rattle.walk.specs.Listing.{In, flat, Reached, Passed, listing, reachedFrom}
 use Rattle.walk.specs.Queries.{Outcome, follow, query, stepsFor, append, anyHitOf, Going}
-use Rattle.walk.specs.Lawful.{Lawful, Narrow}
+use Rattle.walk.specs.Lawful.{Lawful, Present, Narrow}
 use Rattle.walk.proofs.Dues.{flats, push-flats, report-hand, test-hand, none-hand, test-flat, none-flat}
 use Rattle.walk.proofs.Cases.{due, Visits, step-cases}
 use Rattle.walk.proofs.Gather.{gather-none}
@@ -38,7 +38,8 @@ unfolding query
 empty-ran T n ray h f = rw (empty-step T n ray h f, gather-none, gather-none) (record { noted = refl; ended = refl; tests = refl })
 
 module _ {s d : Type 0} (S : Shape) (Rule : ℕ → Type 0) (T : Tests s d) (L : Lawful S Rule T) (sound : Sound S Rule)
-    (few-positions : S .positions ≤ 65536) (few-nodes : S .nodes ≤ 65535) (narrow : Narrow (S .nodes) T) (ray : s) (accepted : T .forged ray ≡ false) where
+    (few-positions : S .positions ≤ 65536) (few-nodes : S .nodes ≤ 65535) (present : Present S T) (narrow : Narrow (S .nodes) T) (ray : s)
+    (accepted : T .forged ray ≡ false) where
   -- ---- what a walker has still to report, and to test
 
   abbrev ahead : (ℕ → List ℕ) → Walker s → List ℕ
@@ -89,7 +90,7 @@ module _ {s d : Type 0} (S : Shape) (Rule : ℕ → Type 0) (T : Tests s d) (L :
   step-takes h w v e =
       step-cases (S .nodes) T (S .positions) w (After w)
       (record {
-        refuses = λ x c. absurd (no-refusal S Rule T L sound few-positions few-nodes w v c);
+        refuses = λ x c. absurd (no-refusal S Rule T L sound few-positions few-nodes present w v c);
         ends = λ f q. record { valid = v; same-ray = e; takes = nothing-takes w q };
         empties = λ f z o. absurd (omega arith);
         reports = λ p ps q. record {

@@ -63,12 +63,13 @@ module _ {s d : Type 0} (m : ℕ) (T : Tests s d) (n : ℕ) (w : Walker s) where
   pub data Refusal : Type 0 where
     too-many : sizesFit m n ≡ false → Refusal
     forgery : forgedWalker m T w ≡ true → Refusal
-    no-position : (p : ℕ) (ps : List ℕ) → due ≡ report p ps → badPosition n p ≡ true → Refusal
+    no-position : (p : ℕ) (ps : List ℕ) → due ≡ report p ps → badPosition T n (w .ray) p ≡ true → Refusal
     no-node : (c : ℕ) (r : List ℕ) (st : List (List ℕ)) → due ≡ test c r st → badNode m T n (w .tests) c r st ≡ true → Refusal
 
   -- what holds at a report, and at a test
   pub record Reports (p : ℕ) (ps : List ℕ) : Type 0 where
     pub is-due : due ≡ report p ps
+    pub present : T .absent (w .ray) p ≡ false
     pub below : p < n
 
   pub record Visits (c : ℕ) (r : List ℕ) (st : List (List ℕ)) : Type 0 where
@@ -114,8 +115,9 @@ module _ {s d : Type 0} (m : ℕ) (T : Tests s d) (n : ℕ) (w : Walker s) where
 
       go : forgedWalker m T w ≡ false → (x : Due) → due ≡ x → P (advance m T n w x)
       go f (report p ps) e =
-          cond-elim P (badPosition n p) _ _ (λ b. C .refuses 10 (no-position p ps e b))
-          (λ b. C .reports p ps (record { is-due = e; below = leb-false n p b }))
+          cond-elim P (badPosition T n (w .ray) p) _ _ (λ b. C .refuses 10 (no-position p ps e b))
+          (λ b. let c = or-false (T .absent (w .ray) p) (leb n p) b in
+          C .reports p ps (record { is-due = e; present = c .0; below = leb-false n p (c .1) }))
       go f (test c r st) e =
           cond-elim P (badNode m T n (w .tests) c r st) _ _ (λ b. C .refuses 10 (no-node c r st e b)) (λ b. C .visits c r st (visits-if c r st f e b))
       go f nothing e = C .ends f e

@@ -15,6 +15,7 @@ use Rattle.walk.specs.Calls.{All, Op, runOps, reported, Answered, Brings
 use Rattle.walk.specs.Listing.{In, flat, listing}
 use Rattle.walk.specs.Queries.{Reaction, query, calls, stepsFor, anyHitOf, Pane, closest, miss, closestOf, missOf, Halted, Ended}
 use Rattle.walk.specs.Queries
+use Rattle.walk.specs.Lawful.{Present}
 use Rattle.walk.specs.Slots.{Slots, positionsOf, childrenOf, testsOf, ReachedBySlots, PassedBySlots, SlotLaws}
 use Rattle.walk.proofs.Lists.{all-map}
 use Rattle.walk.proofs.Once
@@ -51,10 +52,10 @@ module _ {s d : Type 0} (W : Slots s d) (Rule : ℕ → Type 0) (laws : SlotLaws
       (λ p. passed-iff W Rule laws (sound .rule) ray accepted p (reached-node (W .shape) Rule (testsOf W) (slots-lawful W Rule laws) sound ray accepted) .0)
       (reported (runOps (W .shape .nodes) (testsOf W) l (fresh ray) .answers)) (Told.calls-pass (W .shape .nodes) (testsOf W) (slots-fewer W lowers) ray l)
 
-  module _ (few-positions : W .shape .positions ≤ 65536) (few-nodes : W .shape .nodes ≤ 65535) where
+  module _ (few-positions : W .shape .positions ≤ 65536) (few-nodes : W .shape .nodes ≤ 65535) (present : Present (W .shape) (testsOf W)) where
     -- where each step brings the record's own count of positions, none is refused
     pub calls-answered : (l : List (Op d)) (ray : s) → W .forged ray ≡ false → All (Brings (W .shape .positions)) l → All Answered (runOps (W .shape .nodes) (testsOf W) l (fresh ray) .answers)
-    calls-answered = Valid.calls-answered (W .shape) Rule (testsOf W) (slots-lawful W Rule laws) sound few-positions few-nodes
+    calls-answered = Valid.calls-answered (W .shape) Rule (testsOf W) (slots-lawful W Rule laws) sound few-positions few-nodes present
 
     -- ---- any-hit
 
@@ -63,11 +64,15 @@ module _ {s d : Type 0} (W : Slots s d) (Rule : ℕ → Type 0) (laws : SlotLaws
       list = anyHitOf (W .shape .nodes) (testsOf W) (W .shape .positions) ray .noted
 
       pub any-hit-done : anyHitOf (W .shape .nodes) (testsOf W) (W .shape .positions) ray .ended ≡ done
-      any-hit-done = AnyHit.any-hit-done (W .shape) Rule (testsOf W) (slots-lawful W Rule laws) sound few-positions few-nodes (slots-narrow W _) ray accepted
+      any-hit-done =
+          AnyHit.any-hit-done (W .shape) Rule (testsOf W) (slots-lawful W Rule laws) sound few-positions few-nodes present
+          (slots-narrow W _) ray accepted
 
       -- the list is the first node's listing,
       pub any-hit-listing : anyHitOf (W .shape .nodes) (testsOf W) (W .shape .positions) ray .noted ≡ listing (W .shape .nodes) (testsOf W) ray 0
-      any-hit-listing = AnyHit.any-hit-listing (W .shape) Rule (testsOf W) (slots-lawful W Rule laws) sound few-positions few-nodes (slots-narrow W _) ray accepted
+      any-hit-listing =
+          AnyHit.any-hit-listing (W .shape) Rule (testsOf W) (slots-lawful W Rule laws) sound few-positions few-nodes present
+          (slots-narrow W _) ray accepted
 
       -- and a node's listing is its passed positions, highest first, then its reached children's listings by falling slot XOR octant
       pub listing-order : (v : ℕ) → v < W .shape .nodes
@@ -77,21 +82,29 @@ module _ {s d : Type 0} (W : Slots s d) (Rule : ℕ → Type 0) (laws : SlotLaws
       -- a position is in the list exactly if the ray passes every slot box down to it,
       pub any-hit-exact : (p : ℕ) → In p (anyHitOf (W .shape .nodes) (testsOf W) (W .shape .positions) ray .noted) ↔ PassedBySlots W ray p
       any-hit-exact p =
-          let i = AnyHit.any-hit-exact (W .shape) Rule (testsOf W) (slots-lawful W Rule laws) sound few-positions few-nodes (slots-narrow W _) ray accepted p in
+          let i =
+          AnyHit.any-hit-exact (W .shape) Rule (testsOf W) (slots-lawful W Rule laws) sound few-positions few-nodes present
+          (slots-narrow W _) ray accepted p in
           let j = passed-iff W Rule laws (sound .rule) ray accepted p (reached-node (W .shape) Rule (testsOf W) (slots-lawful W Rule laws) sound ray accepted) in
           (λ x. j .0 (i .0 x), λ y. i .1 (j .1 y))
 
       -- once
       pub any-hit-nodup : List·Nodup (anyHitOf (W .shape .nodes) (testsOf W) (W .shape .positions) ray .noted)
-      any-hit-nodup = AnyHit.any-hit-nodup (W .shape) Rule (testsOf W) (slots-lawful W Rule laws) sound few-positions few-nodes (slots-narrow W _) ray accepted
+      any-hit-nodup =
+          AnyHit.any-hit-nodup (W .shape) Rule (testsOf W) (slots-lawful W Rule laws) sound few-positions few-nodes present
+          (slots-narrow W _) ray accepted
 
       pub any-hit-most : length (anyHitOf (W .shape .nodes) (testsOf W) (W .shape .positions) ray .noted) ≤ W .shape .positions
-      any-hit-most = AnyHit.any-hit-most (W .shape) Rule (testsOf W) (slots-lawful W Rule laws) sound few-positions few-nodes (slots-narrow W _) ray accepted
+      any-hit-most =
+          AnyHit.any-hit-most (W .shape) Rule (testsOf W) (slots-lawful W Rule laws) sound few-positions few-nodes present
+          (slots-narrow W _) ray accepted
 
       -- counted: a passed position stands there once, any other not
       pub any-hit-counts : (p : ℕ) → (PassedBySlots W ray p → count p list ≡ 1) × (¬ (PassedBySlots W ray p) → count p list ≡ 0)
       any-hit-counts p =
-          let e = AnyHit.any-hit-once (W .shape) Rule (testsOf W) (slots-lawful W Rule laws) sound few-positions few-nodes (slots-narrow W _) ray accepted p in
+          let e =
+          AnyHit.any-hit-once (W .shape) Rule (testsOf W) (slots-lawful W Rule laws) sound few-positions few-nodes present
+          (slots-narrow W _) ray accepted p in
           (λ q. omega (arith, any-hit-exact p .1 q), λ q. go q (some? (count p list)))
         where
           go : ¬ (PassedBySlots W ray p) → Some (count p list) → count p list ≡ 0
@@ -102,7 +115,9 @@ module _ {s d : Type 0} (W : Slots s d) (Rule : ℕ → Type 0) (laws : SlotLaws
       pub any-hit-tests : (l : List ℕ) × List·Nodup l × ((v : ℕ) → In v l ↔ ReachedBySlots W ray v)
           × (anyHitOf (W .shape .nodes) (testsOf W) (W .shape .positions) ray .walker .tests ≡ length l)
       any-hit-tests =
-          let t = AnyHit.any-hit-tests (W .shape) Rule (testsOf W) (slots-lawful W Rule laws) sound few-positions few-nodes (slots-narrow W _) ray accepted in
+          let t =
+          AnyHit.any-hit-tests (W .shape) Rule (testsOf W) (slots-lawful W Rule laws) sound few-positions few-nodes present
+          (slots-narrow W _) ray accepted in
           (t .0, t .1, λ v. let i = t .2 v in let j = reached-iff W Rule laws (sound .rule) ray accepted v in (λ x. j .0 (i .0 x), λ y. i .1 (j .1 y)), t .3)
 
       -- ---- every query
@@ -111,7 +126,8 @@ module _ {s d : Type 0} (W : Slots s d) (Rule : ℕ → Type 0) (laws : SlotLaws
       pub query-answered : {a : Type 0} (react : ℕ → s → a → Reaction d a) (x : a)
           → Ended (query (W .shape .nodes) (testsOf W) react (stepsFor (W .shape .nodes)) (W .shape .positions) (fresh ray) x .ended)
       query-answered react x =
-          Ends.query-answered (W .shape) Rule (testsOf W) (slots-lawful W Rule laws) sound few-positions few-nodes react (slots-narrow W _) ray accepted x
+          Ends.query-answered (W .shape) Rule (testsOf W) (slots-lawful W Rule laws) sound few-positions few-nodes present react
+          (slots-narrow W _) ray accepted x
 
       pub closest-answered : (pane : ℕ → s → Pane d) (nearer : d → s → Bool) → Ended (closestOf pane nearer (W .shape .nodes) (testsOf W) (W .shape .positions) ray .ended)
       closest-answered pane nearer = query-answered (closest pane nearer) Queries.none

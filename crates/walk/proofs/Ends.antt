@@ -12,7 +12,7 @@ use Rattle.walk.specs.Tests.{Tests}
 use Rattle.walk.specs.Step.{Walker, Answer, tested, position, done, refused, fresh, Stepped, stepOf, tellOf}
 use Rattle.walk.specs.Calls.{Op, runOps, reportOf, reported, Answered}
 use Rattle.walk.specs.Queries.{Reaction, Outcome, toldAll, follow, query, tellings, callsAfter, calls, stepsFor, append, Going, Halted, Ended}
-use Rattle.walk.specs.Lawful.{Lawful, Narrow}
+use Rattle.walk.specs.Lawful.{Lawful, Present, Narrow}
 use Rattle.walk.proofs.Dues.{report-hand}
 use Rattle.walk.proofs.Cases.{cond-elim, step-cases}
 use Rattle.walk.proofs.Valid.{Valid, step-valid, step-answered, tell-valid, fresh-valid, empty-step}
@@ -140,7 +140,7 @@ any-hit-run {s} m T (suc f) n w x = go (stepOf m T n w .answer) (stepOf m T n w 
 -- ---- a sound record
 
 module _ {s d a : Type 0} (S : Shape) (Rule : ℕ → Type 0) (T : Tests s d) (L : Lawful S Rule T) (sound : Sound S Rule)
-    (few-positions : S .positions ≤ 65536) (few-nodes : S .nodes ≤ 65535) (react : ℕ → s → a → Reaction d a) where
+    (few-positions : S .positions ≤ 65536) (few-nodes : S .nodes ≤ 65535) (present : Present S T) (react : ℕ → s → a → Reaction d a) where
   told-valid : (l : List d) (w : Walker s) → Valid S Rule T L sound w → Valid S Rule T L sound (toldAll T l w)
   told-valid [] w v = v
   told-valid (x ∷ l) w v = told-valid l (tellOf T x w) (tell-valid S Rule T L sound x w v)
@@ -156,7 +156,7 @@ module _ {s d a : Type 0} (S : Shape) (Rule : ℕ → Type 0) (T : Tests s d) (L
       (λ g l y. ends f (toldAll T l (stepOf (S .nodes) T (S .positions) w .walker)) y
       (told-valid l (stepOf (S .nodes) T (S .positions) w .walker) (step-valid S Rule T L sound (S .positions) w v)))
       (λ p l y h. h) (λ h. h)
-      (λ e z h. absurd (subst Answered z (step-answered S Rule T L sound few-positions few-nodes w v)))
+      (λ e z h. absurd (subst Answered z (step-answered S Rule T L sound few-positions few-nodes present w v)))
 
   -- a query from a walker just begun is done, or stops at a position
   pub query-answered : Narrow (S .nodes) T → (ray : s) → T .forged ray ≡ false → (x : a)

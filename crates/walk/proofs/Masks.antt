@@ -1,5 +1,5 @@
 -- A node's mask stands for the positions and children that the slot test finds.
-use mathlib.Core.Bool.{true, false}
+use mathlib.Core.Bool.{Bool, true, false, not, _&&_}
 use mathlib.Core.Path.{_≡_, refl, sym, ap, _∙_}
 use Prim.Native.Nat.{ℕ, _+_, _*_, _/_, _%_, _^_, _<_}
 use native.Mathlib.Omega.{arith}
@@ -10,10 +10,11 @@ use Rattle.words.specs.Ones.{onesBelow}
 use Rattle.words.specs.Fields.{field}
 use Rattle.words.proofs.Ranks.{bit-is}
 use Rattle.node.specs.Node.{childIndex}
-use Rattle.walk.specs.Slots.{Slots, childAt, passedChild, passedPosition, positionsOf, childrenOf}
+use Rattle.walk.specs.Slots.{Slots, childAt, passedChild, inPassedSlot, passedPosition, positionsOf, childrenOf}
 use Rattle.walk.specs.Words.{isSet, positionsIn, childrenIn}
 use Rattle.walk.specs.WordStep.{passedPositions, passedChildren, Decodes}
 use Rattle.walk.specs.Masks.{wordsOf, MaskLaws}
+use Rattle.walk.proofs.Cases.{and-false}
 use Rattle.walk.proofs.Falling.{falling-same, falling-cut}
 use Rattle.walk.proofs.Words.{past-clear, cut-set, cut-rank}
 
@@ -24,13 +25,28 @@ high-set k a b e = ap (λ (x : ℕ). eqb x 1) (digit a ∙ ap (λ (x : ℕ). x /
     digit : (n : ℕ) → field 1 (24 + k) n ≡ n / 0x100_0000 / 2 ^ k % 2
     digit n = bit-is (24 + k) n ∙ ap (λ (x : ℕ). x % 2) (sym (shr-shr n 24 k))
 
+-- what a position's own test does not pass is passed over
+not-not : (a b : Bool) → (not (not a) && b) ≡ (b && a)
+not-not true true = refl
+not-not true false = refl
+not-not false true = refl
+not-not false false = refl
+
 module _ {s d : Type 0} (W : Slots s d) (mask : s → ℕ → ℕ) (H : MaskLaws W mask) where
   positions-are : (ray : s) (n v : ℕ) → W .forged ray ≡ false → v < W .shape .nodes → W .rule n v ≡ true
-      → positionsIn (passedPositions (wordsOf W mask) ray v) ≡ positionsOf W ray v
+      → positionsIn (λ p. not (W .admits ray p)) (passedPositions (wordsOf W mask) ray v) ≡ positionsOf W ray v
   positions-are ray n v f h r =
-      falling-cut (λ b. W .positionBase v + b) (λ b. isSet b (mask ray v % 0x100_0000)) 24 32 (omega arith) (λ i x y. past-clear 24 i (mask ray v % 0x100_0000) (omega arith) x)
-      ∙ falling-same (λ b. W .positionBase v + b) (λ b. W .positionBase v + b) (λ b. isSet b (mask ray v % 0x100_0000)) (λ b. passedPosition W ray v (W .positionBase v + b)) 24
-      (λ b l. cut-set 24 b (mask ray v) l ∙ H .position-bit ray n v b f h r l) (λ i l e. refl)
+      falling-cut (λ b. W .positionBase v + b) held 24 32 (omega arith)
+      (λ i x y. ap (λ (c : Bool). admitted i && c) (past-clear 24 i (mask ray v % 0x100_0000) (omega arith) x) ∙ and-false (admitted i))
+      ∙ falling-same (λ b. W .positionBase v + b) (λ b. W .positionBase v + b) held (λ b. passedPosition W ray v (W .positionBase v + b)) 24
+      (λ b l. ap (λ (c : Bool). admitted b && c) (cut-set 24 b (mask ray v) l ∙ H .position-bit ray n v b f h r l)
+      ∙ not-not (W .admits ray (W .positionBase v + b)) (inPassedSlot W ray v (W .positionBase v + b))) (λ i l e. refl)
+    where
+      admitted : ℕ → Bool
+      admitted b = not (not (W .admits ray (W .positionBase v + b)))
+
+      held : ℕ → Bool
+      held b = admitted b && isSet b (mask ray v % 0x100_0000)
 
   children-are : (ray : s) (n v : ℕ) → W .forged ray ≡ false → v < W .shape .nodes → W .rule n v ≡ true
       → childrenIn (W .octant ray) (passedChildren (wordsOf W mask) ray v) ≡ childrenOf W ray v
@@ -54,6 +70,7 @@ module _ {s d : Type 0} (W : Slots s d) (mask : s → ℕ → ℕ) (H : MaskLaws
       record {
         octant-lt = H .octant-lt;
         octant-told = H .octant-told;
+        skips-told = λ x ray. ap (λ (a : ℕ → Bool). λ p. not (a p)) (H .admits-told x ray);
         mask-lt = H .mask-lt;
         imask-lt = H .imask-lt;
         child-base-lt = H .child-base-lt;

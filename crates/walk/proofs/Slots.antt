@@ -18,7 +18,7 @@ use Rattle.decode.proofs.Decode.{slot-back}
 use Rattle.walk.specs.Listing.{In, Reached, Passed}
 use Rattle.walk.specs.Listing
 use Rattle.walk.specs.Lawful.{Lawful, Narrow}
-use Rattle.walk.specs.Slots.{Slots, childAt, passedChild, passedPosition, positionsOf, childrenOf, testsOf, ReachedBySlots, first, child, PassedBySlots, SlotLaws}
+use Rattle.walk.specs.Slots.{Slots, childAt, passedChild, inPassedSlot, passedPosition, positionsOf, childrenOf, testsOf, ReachedBySlots, first, child, PassedBySlots, SlotLaws}
 use Rattle.walk.proofs.Falling.{falling-length, in-falling, falling-in, falling-once, some-tells}
 
 -- a list that repeats nothing and has only numbers that are counted
@@ -38,13 +38,17 @@ module _ {s d : Type 0} (W : Slots s d) where
   pub child-tells : (ray : s) (v j : ℕ) → Tells ((innerBit (W .imask v) j ≡ 1) × (W .passes ray v j ≡ true)) (passedChild W ray v j)
   child-tells ray v j = and-tells (eqb-tells (innerBit (W .imask v) j) 1) (true-tells (W .passes ray v j))
 
-  pub position-tells : (ray : s) (v x : ℕ)
-      → Tells (((j : ℕ) × (j < 8) × ((inRange x (W .shape .start v j) (W .shape .count v j) ≡ 1) × (W .passes ray v j ≡ true))) × (W .admits ray x ≡ true)) (passedPosition W ray v x)
-  position-tells ray v x =
-      and-tells
-      (some-tells (λ j. (inRange x (W .shape .start v j) (W .shape .count v j) ≡ 1) × (W .passes ray v j ≡ true)) _
-      (λ j. and-tells (eqb-tells (inRange x (W .shape .start v j) (W .shape .count v j)) 1) (true-tells (W .passes ray v j))) 8)
-      (true-tells (W .admits ray x))
+  -- a slot of node v whose leaf range holds x, and that the ray passes
+  abbrev pub PassedSlot : s → ℕ → ℕ → Type 0
+  PassedSlot ray v x = (j : ℕ) × (j < 8) × ((inRange x (W .shape .start v j) (W .shape .count v j) ≡ 1) × (W .passes ray v j ≡ true))
+
+  pub slot-tells : (ray : s) (v x : ℕ) → Tells (PassedSlot ray v x) (inPassedSlot W ray v x)
+  slot-tells ray v x =
+      some-tells (λ j. (inRange x (W .shape .start v j) (W .shape .count v j) ≡ 1) × (W .passes ray v j ≡ true)) _
+      (λ j. and-tells (eqb-tells (inRange x (W .shape .start v j) (W .shape .count v j)) 1) (true-tells (W .passes ray v j))) 8
+
+  pub position-tells : (ray : s) (v x : ℕ) → Tells (PassedSlot ray v x × (W .admits ray x ≡ true)) (passedPosition W ray v x)
+  position-tells ray v x = and-tells (slot-tells ray v x) (true-tells (W .admits ray x))
 
 module _ {s d : Type 0} (W : Slots s d) (Rule : ℕ → Type 0) (laws : SlotLaws W Rule) where
   -- ---- children

@@ -13,11 +13,10 @@ use Rattle.lists.proofs.Tells.{clash}
 use Rattle.soundness.specs.Shape.{Shape}
 use Rattle.soundness.specs.Sound.{Sound}
 use Rattle.walk.specs.Tests.{Tests}
-use Rattle.walk.specs.Step.{Walker, done, fresh, Stepped, Due, report, test, nothing, dueOnStack, dueOf, sizesFit, forgedWalker, noRoom}
-use Rattle.walk.specs.Step.{badNode, stay, emptied, afterReport, afterTest, stepOf, tellOf}
+use Rattle.walk.specs.Step.{Walker, done, fresh, Stepped, Due, report, test, nothing, dueOnStack, dueOf, sizesFit, forgedWalker, noRoom, badPosition, badNode, stay, emptied, afterReport, afterTest, stepOf, tellOf}
 use Rattle.walk.specs.Calls.{All, Op, step, tell, runOps, Answered, Brings}
 use Rattle.walk.specs.Listing.{In}
-use Rattle.walk.specs.Lawful.{Lawful}
+use Rattle.walk.specs.Lawful.{Lawful, Present}
 use Rattle.walk.proofs.Lists.{in-head, in-tail, in-none, in-one}
 use Rattle.walk.proofs.Dues.{report-hand, test-hand, test-sum, no-hand}
 use Rattle.walk.proofs.Cases.{Refusal, too-many, forgery, no-position, no-node, Visits, Reports, step-cases, nothing-due-done}
@@ -73,14 +72,15 @@ module _ {s d : Type 0} (S : Shape) (Rule : ℕ → Type 0) (T : Tests s d) (L :
   not-forged w v =
       rw (v .accepted, le-ltb 32 (length (w .stack)) (omega (arith, few-groups w v)), le-ltb (S .nodes) (w .tests) (omega (arith, v .few)))
 
-  pub no-refusal : S .positions ≤ 65536 → S .nodes ≤ 65535 → (w : Walker s) → Valid w → Refusal (S .nodes) T (S .positions) w → ⊥
-  no-refusal hp hn w v (too-many e) = clash (sym e ∙ fits (S .nodes) (S .positions) hp hn)
-  no-refusal hp hn w v (forgery e) = clash (sym (not-forged w v) ∙ e)
-  no-refusal hp hn w v (no-position p ps e b) =
+  pub no-refusal : S .positions ≤ 65536 → S .nodes ≤ 65535 → Present S T → (w : Walker s) → Valid w → Refusal (S .nodes) T (S .positions) w → ⊥
+  no-refusal hp hn here w v (too-many e) = clash (sym e ∙ fits (S .nodes) (S .positions) hp hn)
+  no-refusal hp hn here w v (forgery e) = clash (sym (not-forged w v) ∙ e)
+  no-refusal hp hn here w v (no-position p ps e b) =
       let h = report-hand (w .positions) (w .group) (w .stack) p ps e in
       let k : p < S .positions = v .positions p (subst (λ (l : List ℕ). In p l) (sym h) (in-head p ps)) in
-      clash (sym (lt-leb (S .positions) p k) ∙ b)
-  no-refusal hp hn w v (no-node c r st e b) =
+      let z : badPosition T (S .positions) (w .ray) p ≡ false = rw (here (w .ray) p k, lt-leb (S .positions) p k) in
+      clash (sym z ∙ b)
+  no-refusal hp hn here w v (no-node c r st e b) =
       let k = node-exists w v c r st e in
       let a = at-node S Rule T L sound w c r st (v .levels) e in
       let t : w .tests < S .nodes =
@@ -148,11 +148,12 @@ module _ {s d : Type 0} (S : Shape) (Rule : ℕ → Type 0) (T : Tests s d) (L :
         visits = λ c r st h. test-valid n w c r st v h;
       })
 
-  pub step-answered : S .positions ≤ 65536 → S .nodes ≤ 65535 → (w : Walker s) → Valid w → Answered (stepOf (S .nodes) T (S .positions) w .answer)
-  step-answered hp hn w v =
+  pub step-answered : S .positions ≤ 65536 → S .nodes ≤ 65535 → Present S T → (w : Walker s) → Valid w
+      → Answered (stepOf (S .nodes) T (S .positions) w .answer)
+  step-answered hp hn here w v =
       step-cases (S .nodes) T (S .positions) w (λ (r : Stepped s). Answered (r .answer))
       (record {
-        refuses = λ e c. absurd (no-refusal hp hn w v c);
+        refuses = λ e c. absurd (no-refusal hp hn here w v c);
         ends = λ f e. tt;
         empties = λ f z o. tt;
         reports = λ p ps h. tt;
@@ -182,14 +183,15 @@ module _ {s d : Type 0} (S : Shape) (Rule : ℕ → Type 0) (T : Tests s d) (L :
 
   -- ---- lists of calls
 
-  run-answered : S .positions ≤ 65536 → S .nodes ≤ 65535 → (l : List (Op d)) (w : Walker s) → All (Brings (S .positions)) l → Valid w → All Answered (runOps (S .nodes) T l w .answers)
+  run-answered : S .positions ≤ 65536 → S .nodes ≤ 65535 → Present S T → (l : List (Op d)) (w : Walker s) → All (Brings (S .positions)) l
+      → Valid w → All Answered (runOps (S .nodes) T l w .answers)
   unfolding runOps
-  run-answered hp hn [] w a v = tt
-  run-answered hp hn (step n ∷ l) w a v =
+  run-answered hp hn here [] w a v = tt
+  run-answered hp hn here (step n ∷ l) w a v =
       let e : n ≡ S .positions = a .0 in
-      let g : Answered (stepOf (S .nodes) T n w .answer) = rw e (step-answered hp hn w v) in
-      (g, run-answered hp hn l (stepOf (S .nodes) T n w .walker) (a .1) (step-valid n w v))
-  run-answered hp hn (tell x ∷ l) w a v = run-answered hp hn l (tellOf T x w) (a .1) (tell-valid x w v)
+      let g : Answered (stepOf (S .nodes) T n w .answer) = rw e (step-answered hp hn here w v) in
+      (g, run-answered hp hn here l (stepOf (S .nodes) T n w .walker) (a .1) (step-valid n w v))
+  run-answered hp hn here (tell x ∷ l) w a v = run-answered hp hn here l (tellOf T x w) (a .1) (tell-valid x w v)
 
 -- without nodes a walker just begun is done without a test
 pub empty-step : {s d : Type 0} (T : Tests s d) (n : ℕ) (ray : s) → n ≤ 65536 → T .forged ray ≡ false → stepOf 0 T n (fresh ray) ≡ emptied (fresh ray)
@@ -204,8 +206,7 @@ module _ {s d : Type 0} (S : Shape) (Rule : ℕ → Type 0) (T : Tests s d) (L :
   over-answered e h [] ray f a = tt
   over-answered e h (step n ∷ l) ray f a =
       let z : stepOf (S .nodes) T n (emptied (fresh ray) .walker) ≡ stay (emptied (fresh ray) .walker) done =
-      nothing-due-done (S .nodes) T n (emptied (fresh ray) .walker) refl (fits (S .nodes) n (omega (arith, a .0)) (omega arith))
-      (rw (f, le-ltb (S .nodes) 0 (omega arith))) in
+      nothing-due-done (S .nodes) T n (emptied (fresh ray) .walker) refl (fits (S .nodes) n (omega (arith, a .0)) (omega arith)) (rw (f, le-ltb (S .nodes) 0 (omega arith))) in
       rw z (tt, over-answered e h l ray f (a .1))
   over-answered e h (tell x ∷ l) ray f a = over-answered e h l (T .told x ray) (L .told-accepted x ray f) (a .1)
 
@@ -220,10 +221,11 @@ module _ {s d : Type 0} (S : Shape) (Rule : ℕ → Type 0) (T : Tests s d) (L :
   empty-answered e h (tell x ∷ l) ray f a = empty-answered e h l (T .told x ray) (L .told-accepted x ray f) (a .1)
 
   -- no step of any list that brings the record's own count is refused
-  pub calls-answered : S .positions ≤ 65536 → S .nodes ≤ 65535 → (l : List (Op d)) (ray : s) → T .forged ray ≡ false → All (Brings (S .positions)) l
+  pub calls-answered : S .positions ≤ 65536 → S .nodes ≤ 65535 → Present S T → (l : List (Op d)) (ray : s) → T .forged ray ≡ false
+      → All (Brings (S .positions)) l
       → All Answered (runOps (S .nodes) T l (fresh ray) .answers)
-  calls-answered hp hn l ray f a = go (decLt 0 (S .nodes))
+  calls-answered hp hn here l ray f a = go (decLt 0 (S .nodes))
     where
       go : Dec (0 < S .nodes) → All Answered (runOps (S .nodes) T l (fresh ray) .answers)
-      go (yes h) = run-answered S Rule T L sound hp hn l (fresh ray) a (fresh-valid S Rule T L sound h ray f)
+      go (yes h) = run-answered S Rule T L sound hp hn here l (fresh ray) a (fresh-valid S Rule T L sound h ray f)
       go (no h) = empty-answered (omega arith) hp l ray f a

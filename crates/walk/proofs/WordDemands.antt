@@ -12,6 +12,7 @@ use Rattle.walk.specs.Step.{done}
 use Rattle.walk.specs.Calls.{All, Op, Run, reported, Answered, Brings}
 use Rattle.walk.specs.Listing.{In, listing}
 use Rattle.walk.specs.Queries.{Reaction, Outcome, stepsFor, append, anyHitOf, Halted, Ended}
+use Rattle.walk.specs.Lawful.{Present}
 use Rattle.walk.specs.Slots.{Slots, positionsOf, childrenOf, testsOf, ReachedBySlots, PassedBySlots, SlotLaws}
 use Rattle.walk.specs.WordStep.{freshWords, RunWords, runWords}
 use Rattle.walk.specs.WordQueries.{OutcomeWords, queryWords, decodedOutcome}
@@ -60,18 +61,18 @@ module _ {s d : Type 0} (W : Slots s d) (mask : s → ℕ → ℕ) (Rule : ℕ �
       (sym (calls-decoded (W .shape .nodes) (wordsOf W mask) (positionsOf W) (childrenOf W) (masks-decode W mask H) l ray accepted))
       (calls-pass W Rule laws sound lowers ray accepted l)
 
-  module _ (few-positions : W .shape .positions ≤ 65536) (few-nodes : W .shape .nodes ≤ 65535) where
+  module _ (few-positions : W .shape .positions ≤ 65536) (few-nodes : W .shape .nodes ≤ 65535) (present : Present (W .shape) (testsOf W)) where
     pub words-answered : (l : List (Op d)) → All (Brings (W .shape .positions)) l → All Answered (callsWords W mask l ray .answers)
     words-answered l a =
         subst (λ (r : Run s). All Answered (r .answers)) (sym (calls-decoded (W .shape .nodes) (wordsOf W mask) (positionsOf W) (childrenOf W) (masks-decode W mask H) l ray accepted))
-        (calls-answered W Rule laws sound few-positions few-nodes l ray accepted a)
+        (calls-answered W Rule laws sound few-positions few-nodes present l ray accepted a)
 
     -- ---- queries
 
     pub query-words-answered : {a : Type 0} (react : ℕ → s → a → Reaction d a) (x : a) → Ended (askWords W mask react x ray .ended)
     query-words-answered {a} react x =
         subst (λ (o : Outcome s a). Ended (o .ended)) (sym (fresh-query (W .shape .nodes) (wordsOf W mask) (positionsOf W) (childrenOf W) (masks-decode W mask H) react (stepsFor (W .shape .nodes)) (W .shape .positions) ray x accepted))
-        (query-answered W Rule laws sound few-positions few-nodes ray accepted react x)
+        (query-answered W Rule laws sound few-positions few-nodes present ray accepted react x)
 
     any-hit : _≡_ {A = Outcome s (List ℕ)} (decodedOutcome (wordsOf W mask) (askWords W mask append [] ray)) (anyHitOf (W .shape .nodes) (testsOf W) (W .shape .positions) ray)
     any-hit = fresh-query (W .shape .nodes) (wordsOf W mask) (positionsOf W) (childrenOf W) (masks-decode W mask H) append (stepsFor (W .shape .nodes)) (W .shape .positions) ray [] accepted
@@ -80,27 +81,30 @@ module _ {s d : Type 0} (W : Slots s d) (mask : s → ℕ → ℕ) (Rule : ℕ �
     noted = ap (λ (o : Outcome s (List ℕ)). o .noted) (sym any-hit)
 
     pub any-hit-words-done : askWords W mask append [] ray .ended ≡ done
-    any-hit-words-done = ap (λ (o : Outcome s (List ℕ)). o .ended) any-hit ∙ any-hit-done W Rule laws sound few-positions few-nodes ray accepted
+    any-hit-words-done =
+        ap (λ (o : Outcome s (List ℕ)). o .ended) any-hit ∙ any-hit-done W Rule laws sound few-positions few-nodes present ray accepted
 
     pub any-hit-words-listing : askWords W mask append [] ray .noted ≡ listing (W .shape .nodes) (testsOf W) ray 0
-    any-hit-words-listing = sym noted ∙ any-hit-listing W Rule laws sound few-positions few-nodes ray accepted
+    any-hit-words-listing = sym noted ∙ any-hit-listing W Rule laws sound few-positions few-nodes present ray accepted
 
     pub any-hit-words-exact : (p : ℕ) → In p (askWords W mask append [] ray .noted) ↔ PassedBySlots W ray p
-    any-hit-words-exact p = subst (λ (l : List ℕ). In p l ↔ PassedBySlots W ray p) noted (any-hit-exact W Rule laws sound few-positions few-nodes ray accepted p)
+    any-hit-words-exact p =
+        subst (λ (l : List ℕ). In p l ↔ PassedBySlots W ray p) noted (any-hit-exact W Rule laws sound few-positions few-nodes present ray accepted p)
 
     pub any-hit-words-nodup : List·Nodup (askWords W mask append [] ray .noted)
-    any-hit-words-nodup = subst (λ (l : List ℕ). List·Nodup l) noted (any-hit-nodup W Rule laws sound few-positions few-nodes ray accepted)
+    any-hit-words-nodup = subst (λ (l : List ℕ). List·Nodup l) noted (any-hit-nodup W Rule laws sound few-positions few-nodes present ray accepted)
 
     pub any-hit-words-most : length (askWords W mask append [] ray .noted) ≤ W .shape .positions
-    any-hit-words-most = subst (λ (l : List ℕ). length l ≤ W .shape .positions) noted (any-hit-most W Rule laws sound few-positions few-nodes ray accepted)
+    any-hit-words-most =
+        subst (λ (l : List ℕ). length l ≤ W .shape .positions) noted (any-hit-most W Rule laws sound few-positions few-nodes present ray accepted)
 
     pub any-hit-words-counts : (p : ℕ)
         → (PassedBySlots W ray p → count p (askWords W mask append [] ray .noted) ≡ 1) × (¬ (PassedBySlots W ray p) → count p (askWords W mask append [] ray .noted) ≡ 0)
     any-hit-words-counts p =
         subst (λ (l : List ℕ). (PassedBySlots W ray p → count p l ≡ 1) × (¬ (PassedBySlots W ray p) → count p l ≡ 0)) noted
-        (any-hit-counts W Rule laws sound few-positions few-nodes ray accepted p)
+        (any-hit-counts W Rule laws sound few-positions few-nodes present ray accepted p)
 
     pub any-hit-words-tests : (l : List ℕ) × List·Nodup l × ((v : ℕ) → In v l ↔ ReachedBySlots W ray v) × (askWords W mask append [] ray .walker .tests ≡ length l)
     any-hit-words-tests =
-        let t = any-hit-tests W Rule laws sound few-positions few-nodes ray accepted in
+        let t = any-hit-tests W Rule laws sound few-positions few-nodes present ray accepted in
         (t .0, t .1, t .2, ap (λ (o : Outcome s (List ℕ)). o .walker .tests) any-hit ∙ t .3)

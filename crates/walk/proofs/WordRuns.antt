@@ -1,5 +1,5 @@
 -- Lists of calls in words are those on the lists that the words stand for: a walker's words stay in range.
-use mathlib.Core.Bool.{false, _&&_}
+use mathlib.Core.Bool.{Bool, false, _&&_}
 use mathlib.Core.List.{List, [], _∷_}
 use mathlib.Core.Path.{_≡_, refl, sym, ap, ap₂, _∙_, subst}
 use Prim.Native.Nat.{ℕ, zero, suc, _-_, _^_, _≤_, _<_}
@@ -13,17 +13,14 @@ use Rattle.words.proofs.Upto.{equal}
 use Rattle.faststack.specs.Stack.{capacity, topOf}
 use Rattle.node.specs.Node.{childIndex}
 use Rattle.walk.specs.Tests.{Tests}
-use Rattle.walk.specs.Step.{Stepped, refused, fresh, sizesFit, badPosition, tellOf}
+use Rattle.walk.specs.Step.{Answer, tested, position, done, refused, Stepped, fresh, sizesFit, tellOf}
 use Rattle.walk.specs.Calls.{Op, step, tell, Run, runOps}
-use Rattle.walk.specs.Words.{Group, packed, unpacked, positionsIn, childrenIn, groupsIn, restOf, firstPosition, firstChild, hasChild}
-use Rattle.walk.specs.Words.{waitingDepth}
-use Rattle.walk.specs.WordStep.{WalkerWords, SteppedWords, NodeWords, freshWords, forgedWords, onlyFirstWords, badChild, stayWords}
-use Rattle.walk.specs.WordStep.{emptiedWords, afterReportWords, afterTestWords, visitWords, reportWords, popWords, advanceWords, stepWords}
-use Rattle.walk.specs.WordStep.{tellWords, RunWords, runWords, decoded, InRange, testsWith, Decodes}
+use Rattle.walk.specs.Words.{Group, packed, unpacked, positionsIn, childrenIn, groupsIn, restOf, firstPosition, firstChild, hasChild, waitingDepth}
+use Rattle.walk.specs.WordStep.{WalkerWords, SteppedWords, NodeWords, freshWords, forgedWords, onlyFirstWords, badChild, stayWords, emptiedWords, afterReportWords, afterTestWords, leaving, pastSkips, visitWords, reportWords, popWords, turnWords, advanceWords, stepWords, tellWords, RunWords, runWords, decoded, InRange, testsWith, Decodes}
 use Rattle.walk.proofs.Cases.{cond-elim}
 use Rattle.walk.proofs.Words.{positions-none, children-none, children-first, rest-lt}
 use Rattle.walk.proofs.Stacks.{top-bits, pushed-length, pushed-words}
-use Rattle.walk.proofs.WordStep.{good-child, step-decoded}
+use Rattle.walk.proofs.WordStep.{good-child, past-range, step-decoded}
 
 -- the words of an empty stack
 zeros : (n i : ℕ) → _≡_ {A = ℕ} (getD (replicate n 0) i 0) 0
@@ -76,19 +73,36 @@ module _ {s d : Type 0} (m : ℕ) (N : NodeWords s d) (ps cs : s → ℕ → Lis
   empty-range : (w : WalkerWords s) → InRange w → InRange (emptiedWords w .walker)
   empty-range w i = record { positions = i .positions; base = omega arith; bits = omega arith; room = i .room; words = i .words }
 
-  pub step-range : (n : ℕ) (w : WalkerWords s) → InRange w → InRange (stepWords m N n w .walker)
-  unfolding stepWords advanceWords reportWords popWords
-  step-range n w i =
-      cond-elim StaysIn (sizesFit m n) _ _
-      (λ _. cond-elim StaysIn (forgedWords m N w) _ _ (λ _. i)
-      (λ _. cond-elim StaysIn (leb m 0 && onlyFirstWords m N w) _ _ (λ _. empty-range w i)
-      (λ _. cond-elim StaysIn (ltb 0 (w .positions .bits)) _ _
-      (λ _. cond-elim StaysIn (badPosition n (firstPosition (w .positions))) _ _ (λ _. i) (λ _. report-range w i))
+  turn-range : (n : ℕ) (w : WalkerWords s) → InRange w → StaysIn (turnWords m N n w)
+  unfolding turnWords reportWords popWords
+  turn-range n w i =
+      cond-elim StaysIn (ltb 0 (w .positions .bits)) _ _
+      (λ _. cond-elim StaysIn (N .absent (w .ray) (firstPosition (w .positions))) _ _ (λ _. i)
+      (λ _. cond-elim StaysIn (leb n (firstPosition (w .positions))) _ _ (λ _. i) (λ _. report-range w i)))
       (λ _. cond-elim StaysIn (hasChild (w .current)) _ _ (λ _. visit-range n w (w .current) (w .depth) i (i .bits) (i .base))
       (λ _. cond-elim StaysIn (ltb 0 (waitingDepth (w .stack) (w .depth))) _ _
       (λ _. visit-range n w (unpacked (topOf (w .stack) (waitingDepth (w .stack) (w .depth)))) (waitingDepth (w .stack) (w .depth) - 1) i
       (top-bits (w .stack) (waitingDepth (w .stack) (w .depth)) (i .words)) (omega arith))
-      (λ _. i))))))
+      (λ _. i)))
+
+  advance-range : (n : ℕ) (w : WalkerWords s) → InRange w → StaysIn (advanceWords m N n w)
+  unfolding advanceWords
+  advance-range n w i =
+      go (turnWords m N n (pastSkips N w) .answer) (turnWords m N n (pastSkips N w) .walker) (turn-range n (pastSkips N w) (past-range N w i))
+    where
+      go : (a : Answer) (u : WalkerWords s) → InRange u → InRange (leaving w a u)
+      go (tested v) u h = h
+      go (position p) u h = h
+      go done u h = h
+      go (refused e) u h = i
+
+  pub step-range : (n : ℕ) (w : WalkerWords s) → InRange w → InRange (stepWords m N n w .walker)
+  unfolding stepWords
+  step-range n w i =
+      cond-elim StaysIn (sizesFit m n) _ _
+      (λ _. cond-elim StaysIn (forgedWords m N w) _ _ (λ _. i)
+      (λ _. cond-elim StaysIn (leb m 0 && onlyFirstWords m N (pastSkips N w)) _ _ (λ _. empty-range (pastSkips N w) (past-range N w i))
+      (λ _. advance-range n w i)))
       (λ _. i)
 
   -- ---- telling
@@ -98,13 +112,13 @@ module _ {s d : Type 0} (m : ℕ) (N : NodeWords s d) (ps cs : s → ℕ → Lis
 
   pub tell-decoded : (x : d) (w : WalkerWords s) → decoded N (tellWords N x w) ≡ tellOf T x (decoded N w)
   tell-decoded x w =
-      ap (λ (o : ℕ). record {
+      ap₂ (λ (o : ℕ) (skips : ℕ → Bool). record {
         ray = T .told x (w .ray);
         tests = w .tests;
-        positions = positionsIn (w .positions);
+        positions = positionsIn skips (w .positions);
         group = childrenIn o (w .current);
         stack = groupsIn o (w .stack) (w .depth);
-      }) (D .octant-told x (w .ray))
+      }) (D .octant-told x (w .ray)) (D .skips-told x (w .ray))
 
   -- ---- a walker just begun
 
@@ -115,7 +129,7 @@ module _ {s d : Type 0} (m : ℕ) (N : NodeWords s d) (ps cs : s → ℕ → Lis
   pub fresh-decoded : (r : s) → T .forged r ≡ false → decoded N (freshWords r) ≡ fresh r
   fresh-decoded r f =
       ap₂ (λ (l g : List ℕ). record { ray = r; tests = 0; positions = l; group = g; stack = [] })
-      (positions-none (record { base = 0; bits = 0 }) refl) (first-group (N .octant r) (D .octant-lt r f))
+      (positions-none (N .skips r) (record { base = 0; bits = 0 }) refl) (first-group (N .octant r) (D .octant-lt r f))
 
   -- ---- lists of calls
 

@@ -10,14 +10,12 @@ use lib.ListN.{length}
 use borrow.Author.Tests.{leb-true, leb-false, ltb-true, ltb-false, lt-ltb, le-ltb, le-leb, lt-leb, eq-eqb, ne-eqb}
 use Rattle.faststack.specs.Stack.{capacity, hasRoom, topOf}
 use Rattle.walk.specs.Tests.{Tests}
-use Rattle.walk.specs.Step.{Walker, tested, done, refused, Due, report, test, dueOf, sizesFit, forgedWalker, noRoom, badPosition, badNode}
-use Rattle.walk.specs.Step.{onlyFirst, stay, emptied, afterReport, afterTest, advance, stepOf}
+use Rattle.walk.specs.Step.{Walker, Answer, tested, position, done, refused, Stepped, Due, report, test, dueOf, sizesFit, forgedWalker, noRoom, badNode, onlyFirst, stay, emptied, afterReport, afterTest, advance, stepOf}
 use Rattle.walk.specs.Words.{Group, unpacked, positionsIn, childrenIn, groupsIn, restOf, firstPosition, firstChild, hasChild, waitingDepth}
-use Rattle.walk.specs.WordStep.{WalkerWords, SteppedWords, NodeWords, noGroup, forgedWords, onlyFirstWords, badChild, stayWords, emptiedWords}
-use Rattle.walk.specs.WordStep.{afterReportWords, afterTestWords, reportWords, visitWords, popWords, advanceWords, stepWords, decoded}
-use Rattle.walk.specs.WordStep.{decodedStep, InRange, testsWith, Decodes}
+use Rattle.walk.specs.WordStep.{WalkerWords, SteppedWords, NodeWords, noGroup, forgedWords, onlyFirstWords, badChild, stayWords, emptiedWords, afterReportWords, afterTestWords, leaving, pastSkips, reportWords, visitWords, popWords, turnWords, advanceWords, stepWords, decoded, decodedStep, InRange, testsWith, Decodes}
 use Rattle.walk.proofs.Cases.{cond-elim, or-false, not-false-true}
-use Rattle.walk.proofs.Words.{positions-first, positions-none, children-none, children-first, rest-lt}
+use Rattle.walk.proofs.Words.{positions-first, positions-none, AtFront, front-first, skipped-same, skipped-lt, skipped-front, children-none, children-first, rest-lt}
+use Rattle.walk.proofs.WordKept.{Rests, turn-rests}
 use Rattle.walk.proofs.Stacks.{groups-length, top-bits, dueWords, due-stack, waiting-child, groups-pushed}
 
 -- ---- tests of lists and of words
@@ -53,6 +51,7 @@ first-same zero d false r (x ∷ st) f g l = rw (f refl, ne-eqb d 0 (λ e. omega
 pub record GoodChild {s d : Type 0} (m : ℕ) (N : NodeWords s d) (n : ℕ) (w : WalkerWords s) (g : Group) (e : ℕ) : Type 0 where
   pub roomy : hasChild (restOf g) && not (hasRoom e) ≡ false
   pub node : firstChild (N .octant (w .ray)) g < m
+  pub untested : w .tests < m
   pub rule : N .rule n (firstChild (N .octant (w .ray)) g) ≡ true
 
 pub good-child : {s d : Type 0} (m : ℕ) (N : NodeWords s d) (n : ℕ) (w : WalkerWords s) (g : Group) (e : ℕ) → badChild m N n w g e ≡ false → GoodChild m N n w g e
@@ -62,7 +61,18 @@ good-child m N n w g e z =
     let a = or-false (r || leb m c || leb m (w .tests)) (not (N .rule n c)) z in
     let a2 = or-false (r || leb m c) (leb m (w .tests)) (a .0) in
     let a3 = or-false r (leb m c) (a2 .0) in
-    record { roomy = a3 .0; node = leb-false m c (a3 .1); rule = not-false-true (N .rule n c) (a .1) }
+    record { roomy = a3 .0; node = leb-false m c (a3 .1); untested = leb-false m (w .tests) (a2 .1); rule = not-false-true (N .rule n c) (a .1) }
+
+-- past the positions that are passed over words stay in range
+pub past-range : {s d : Type 0} (N : NodeWords s d) (w : WalkerWords s) → InRange w → InRange (pastSkips N w)
+past-range N w i =
+    record {
+      positions = skipped-lt (N .skips (w .ray)) 32 (w .positions) (i .positions);
+      base = i .base;
+      bits = i .bits;
+      room = i .room;
+      words = i .words;
+    }
 
 module _ {s d : Type 0} (m : ℕ) (N : NodeWords s d) (ps cs : s → ℕ → List ℕ) (D : Decodes m N ps cs) where
   abbrev T : Tests s d
@@ -70,14 +80,28 @@ module _ {s d : Type 0} (m : ℕ) (N : NodeWords s d) (ps cs : s → ℕ → Lis
 
   -- what is due, and whether only the first node is in hand, on the lists
   abbrev dueIn : WalkerWords s → Due
-  dueIn w = dueOf (positionsIn (w .positions)) (childrenIn (N .octant (w .ray)) (w .current)) (groupsIn (N .octant (w .ray)) (w .stack) (w .depth))
+  dueIn w =
+      dueOf (positionsIn (N .skips (w .ray)) (w .positions)) (childrenIn (N .octant (w .ray)) (w .current))
+      (groupsIn (N .octant (w .ray)) (w .stack) (w .depth))
 
   abbrev onlyIn : WalkerWords s → Bool
-  onlyIn w = onlyFirst (positionsIn (w .positions)) (childrenIn (N .octant (w .ray)) (w .current)) (groupsIn (N .octant (w .ray)) (w .stack) (w .depth))
+  onlyIn w =
+      onlyFirst (positionsIn (N .skips (w .ray)) (w .positions)) (childrenIn (N .octant (w .ray)) (w .current))
+      (groupsIn (N .octant (w .ray)) (w .stack) (w .depth))
 
-  only-same : (w : WalkerWords s) → InRange w → N .octant (w .ray) < 8
-      → onlyFirstWords m N w ≡ onlyIn w
-  only-same w i o = go (decLt 0 (w .positions .bits)) (hasChild (w .current)) refl
+  -- the first position in hand is not passed over
+  abbrev Front : WalkerWords s → Type 0
+  Front w = AtFront (N .skips (w .ray)) (w .positions)
+
+  first-held : (w : WalkerWords s) → InRange w → Front w → 0 < w .positions .bits
+      → positionsIn (N .skips (w .ray)) (w .positions) ≡ firstPosition (w .positions) ∷ positionsIn (N .skips (w .ray)) (restOf (w .positions))
+  first-held w i a h = positions-first (N .skips (w .ray)) (w .positions) h (i .positions) (front-first (N .skips (w .ray)) (w .positions) a h)
+
+  none-held : (w : WalkerWords s) → w .positions .bits ≡ 0 → positionsIn (N .skips (w .ray)) (w .positions) ≡ []
+  none-held w e = positions-none (N .skips (w .ray)) (w .positions) e
+
+  only-same : (w : WalkerWords s) → InRange w → N .octant (w .ray) < 8 → Front w → onlyFirstWords m N w ≡ onlyIn w
+  only-same w i o a = go (decLt 0 (w .positions .bits)) (hasChild (w .current)) refl
     where
       rest : (b : Bool) → hasChild (restOf (w .current)) ≡ b → b ≡ true → (x : ℕ) × (t : List ℕ) × (childrenIn (N .octant (w .ray)) (restOf (w .current)) ≡ x ∷ t)
       rest b e z = (_, _, children-first (N .octant (w .ray)) (restOf (w .current)) o (leb-true 0x100_0000 _ (e ∙ z)) (rest-lt (w .current) (i .bits)))
@@ -85,10 +109,19 @@ module _ {s d : Type 0} (m : ℕ) (N : NodeWords s d) (ps cs : s → ℕ → Lis
       go : Dec (0 < w .positions .bits) → (b : Bool) → hasChild (w .current) ≡ b
           → eqb (w .positions .bits) 0 && b && eqb (firstChild (N .octant (w .ray)) (w .current)) 0 && not (hasChild (restOf (w .current))) && eqb (w .depth) 0
           ≡ onlyIn w
-      go (yes h) b e = rw (positions-first (w .positions) h (i .positions), ne-eqb (w .positions .bits) 0 (λ z. omega arith))
-      go (no h) false e = rw (positions-none (w .positions) (omega arith), children-none (N .octant (w .ray)) (w .current) (leb-false 0x100_0000 _ e), eq-eqb (w .positions .bits) 0 (omega arith))
+      go (yes h) b e = rw (first-held w i a h, ne-eqb (w .positions .bits) 0 (λ z. omega arith))
+      go (no h) false e =
+          rw (
+            none-held w (omega arith),
+            children-none (N .octant (w .ray)) (w .current) (leb-false 0x100_0000 _ e),
+            eq-eqb (w .positions .bits) 0 (omega arith),
+          )
       go (no h) true e =
-          rw (positions-none (w .positions) (omega arith), children-first (N .octant (w .ray)) (w .current) o (leb-true 0x100_0000 _ e) (i .bits), eq-eqb (w .positions .bits) 0 (omega arith))
+          rw (
+            none-held w (omega arith),
+            children-first (N .octant (w .ray)) (w .current) o (leb-true 0x100_0000 _ e) (i .bits),
+            eq-eqb (w .positions .bits) 0 (omega arith),
+          )
           (first-same (firstChild (N .octant (w .ray)) (w .current)) (w .depth) (hasChild (restOf (w .current))) _ _
           (λ z. children-none (N .octant (w .ray)) (restOf (w .current)) (leb-false 0x100_0000 _ z)) (rest (hasChild (restOf (w .current))) refl)
           (groups-length (N .octant (w .ray)) (w .depth) (w .stack)))
@@ -152,9 +185,9 @@ module _ {s d : Type 0} (m : ℕ) (N : NodeWords s d) (ps cs : s → ℕ → Lis
       decodedStep N r
       ≡ advance m T n (decoded N w) (dueIn w)
 
-  advance-decoded : (n : ℕ) (w : WalkerWords s) → InRange w → T .forged (w .ray) ≡ false → DoesDue n w (advanceWords m N n w)
-  unfolding advanceWords reportWords
-  advance-decoded n w i f =
+  turn-decoded : (n : ℕ) (w : WalkerWords s) → InRange w → T .forged (w .ray) ≡ false → Front w → DoesDue n w (turnWords m N n w)
+  unfolding turnWords reportWords
+  turn-decoded n w i f front =
       cond-elim (DoesDue n w) (ltb 0 (w .positions .bits)) _ _ (λ a. in-hand (ltb-true 0 _ a))
       (λ a. cond-elim (DoesDue n w) (hasChild (w .current)) _ _ (λ b. in-group (ltb-false 0 _ a) b) (λ b. on-stack (ltb-false 0 _ a) b))
     where
@@ -165,30 +198,65 @@ module _ {s d : Type 0} (m : ℕ) (N : NodeWords s d) (ps cs : s → ℕ → Lis
           → (r : SteppedWords s) → decodedStep N r ≡ advance m T n (decoded N w) x → DoesDue n w r
       go x e r q = q ∙ ap (advance m T n (decoded N w)) (sym e)
 
-      in-hand : 0 < w .positions .bits → DoesDue n w (reportWords n w)
+      -- an absent position is refused, and so is one that is none of the n
+      either : (a b : Bool)
+          → decodedStep N (cond a (stayWords w (refused 10)) (cond b (stayWords w (refused 10)) (afterReportWords w)))
+          ≡ cond (a || b) (stay (decoded N w) (refused 10))
+          (afterReport (decoded N w) (firstPosition (w .positions)) (positionsIn (N .skips (w .ray)) (restOf (w .positions))))
+      either true b = refl
+      either false true = refl
+      either false false = refl
+
+      in-hand : 0 < w .positions .bits
+          → DoesDue n w (cond (N .absent (w .ray) (firstPosition (w .positions))) (stayWords w (refused 10)) (reportWords n w))
       in-hand a =
-          go (report (firstPosition (w .positions)) (positionsIn (restOf (w .positions))))
-          (ap (λ (l : List ℕ). dueOf l (childrenIn (N .octant (w .ray)) (w .current)) (groupsIn (N .octant (w .ray)) (w .stack) (w .depth))) (positions-first (w .positions) a (i .positions)))
-          (reportWords n w)
-          (cond-same (decodedStep N) (badPosition n (firstPosition (w .positions))) (badPosition n (firstPosition (w .positions)))
-          (stayWords w (refused 10)) (afterReportWords w) (stay (decoded N w) (refused 10))
-          (afterReport (decoded N w) (firstPosition (w .positions)) (positionsIn (restOf (w .positions)))) refl (λ _. refl) (λ _. refl))
+          go (report (firstPosition (w .positions)) (positionsIn (N .skips (w .ray)) (restOf (w .positions))))
+          (ap (λ (l : List ℕ). dueOf l (childrenIn (N .octant (w .ray)) (w .current)) (groupsIn (N .octant (w .ray)) (w .stack) (w .depth)))
+          (first-held w i front a))
+          (cond (N .absent (w .ray) (firstPosition (w .positions))) (stayWords w (refused 10)) (reportWords n w))
+          (either (N .absent (w .ray) (firstPosition (w .positions))) (leb n (firstPosition (w .positions))))
 
       in-group : w .positions .bits ≤ 0 → hasChild (w .current) ≡ true → DoesDue n w (visitWords m N n w (w .current) (w .depth))
       in-group a b =
           go (test (firstChild (N .octant (w .ray)) (w .current)) (childrenIn (N .octant (w .ray)) (restOf (w .current))) (groupsIn (N .octant (w .ray)) (w .stack) (w .depth)))
-          (ap₂ (λ (l h : List ℕ). dueOf l h (groupsIn (N .octant (w .ray)) (w .stack) (w .depth))) (positions-none (w .positions) (omega arith))
+          (ap₂ (λ (l h : List ℕ). dueOf l h (groupsIn (N .octant (w .ray)) (w .stack) (w .depth))) (none-held w (omega arith))
           (children-first (N .octant (w .ray)) (w .current) small (leb-true 0x100_0000 _ b) (i .bits)))
           (visitWords m N n w (w .current) (w .depth)) (visit-decoded n w (w .current) (w .depth) f (i .room) b (i .bits) (i .base))
 
       on-stack : w .positions .bits ≤ 0 → hasChild (w .current) ≡ false → DoesDue n w (popWords m N n w (waitingDepth (w .stack) (w .depth)))
       on-stack a b =
           go (dueWords (N .octant (w .ray)) (w .stack) (waitingDepth (w .stack) (w .depth)))
-          (ap₂ (λ (l h : List ℕ). dueOf l h (groupsIn (N .octant (w .ray)) (w .stack) (w .depth))) (positions-none (w .positions) (omega arith))
+          (ap₂ (λ (l h : List ℕ). dueOf l h (groupsIn (N .octant (w .ray)) (w .stack) (w .depth))) (none-held w (omega arith))
           (children-none (N .octant (w .ray)) (w .current) (leb-false 0x100_0000 _ b))
           ∙ due-stack (N .octant (w .ray)) (w .stack) (w .depth) small (i .words))
           (popWords m N n w (waitingDepth (w .stack) (w .depth)))
           (pop-decoded n w (waitingDepth (w .stack) (w .depth)) i f (waiting-child (w .stack) (w .depth)))
+
+  -- ---- past the positions that are passed over
+
+  past-front : (w : WalkerWords s) → InRange w → Front (pastSkips N w)
+  past-front w i = skipped-front (N .skips (w .ray)) 32 (w .positions) (omega arith) (i .positions)
+
+  past-decoded : (w : WalkerWords s) → InRange w → decoded N (pastSkips N w) ≡ decoded N w
+  past-decoded w i =
+      same-walker (w .ray) (w .tests) _ _ _ _ _ _ (skipped-same (N .skips (w .ray)) 32 (w .positions) (i .positions)) refl refl
+
+  advance-decoded : (n : ℕ) (w : WalkerWords s) → InRange w → T .forged (w .ray) ≡ false → DoesDue n w (advanceWords m N n w)
+  unfolding advanceWords
+  advance-decoded n w i f =
+      go (r .answer) (r .walker) (turn-rests m N n (pastSkips N w))
+      ∙ turn-decoded n (pastSkips N w) (past-range N w i) f (past-front w i)
+      ∙ ap (λ (u : Walker s). advance m T n u (dueOf (u .positions) (u .group) (u .stack))) (past-decoded w i)
+    where
+      r : SteppedWords s
+      r = turnWords m N n (pastSkips N w)
+
+      go : (a : Answer) (u : WalkerWords s) → Rests m N n (pastSkips N w) a u
+          → _≡_ {A = Stepped s} (stay (decoded N (leaving w a u)) a) (stay (decoded N u) a)
+      go (tested v) u h = refl
+      go (position p) u h = refl
+      go done u h = refl
+      go (refused e) u h = ap (λ (x : Walker s). stay x (refused e)) (sym (ap (decoded N) h ∙ past-decoded w i))
 
   -- ---- a step
 
@@ -204,25 +272,27 @@ module _ {s d : Type 0} (m : ℕ) (N : NodeWords s d) (ps cs : s → ℕ → Lis
       (same-walker (w .ray) (w .tests) _ _ _ _ _ _ refl (children-none (N .octant (w .ray)) noGroup (omega arith)) refl)
 
   unforged-decoded : (n : ℕ) (w : WalkerWords s) → InRange w → forgedWords m N w ≡ false
-      → decodedStep N (cond (leb m 0 && onlyFirstWords m N w) (emptiedWords w) (advanceWords m N n w))
+      → decodedStep N (cond (leb m 0 && onlyFirstWords m N (pastSkips N w)) (emptiedWords (pastSkips N w)) (advanceWords m N n w))
       ≡ cond (leb m 0 && onlyIn w) (emptied (decoded N w)) (advance m T n (decoded N w) (dueIn w))
   unforged-decoded n w i a =
-      cond-same (decodedStep N) (leb m 0 && onlyFirstWords m N w) (leb m 0 && onlyIn w) (emptiedWords w) (advanceWords m N n w)
+      let u = pastSkips N w in
+      let o = only-same u (past-range N w i) (D .octant-lt (w .ray) (forged-ray w a)) (past-front w i) in
+      cond-same (decodedStep N) (leb m 0 && onlyFirstWords m N u) (leb m 0 && onlyIn w) (emptiedWords u) (advanceWords m N n w)
       (emptied (decoded N w)) (advance m T n (decoded N w) (dueIn w))
-      (ap (λ (x : Bool). leb m 0 && x) (only-same w i (D .octant-lt (w .ray) (forged-ray w a)))) (λ _. empty-decoded w)
-      (λ _. advance-decoded n w i (forged-ray w a))
+      (ap (λ (x : Bool). leb m 0 && x) (o ∙ ap (λ (v : Walker s). onlyFirst (v .positions) (v .group) (v .stack)) (past-decoded w i)))
+      (λ _. empty-decoded u ∙ ap emptied (past-decoded w i)) (λ _. advance-decoded n w i (forged-ray w a))
 
   pub step-decoded : (n : ℕ) (w : WalkerWords s) → InRange w → decodedStep N (stepWords m N n w) ≡ stepOf m T n (decoded N w)
   unfolding stepWords stepOf
   step-decoded n w i =
-      cond-same (decodedStep N) (sizesFit m n) (sizesFit m n)
-      (cond (forgedWords m N w) (stayWords w (refused 10)) (cond (leb m 0 && onlyFirstWords m N w) (emptiedWords w) (advanceWords m N n w)))
-      (stayWords w (refused 2))
-      (cond (forgedWalker m T (decoded N w)) (stay (decoded N w) (refused 10))
-      (cond (leb m 0 && onlyIn w) (emptied (decoded N w)) (advance m T n (decoded N w) (dueIn w))))
-      (stay (decoded N w) (refused 2)) refl
-      (λ _. cond-same (decodedStep N) (forgedWords m N w) (forgedWalker m T (decoded N w)) (stayWords w (refused 10))
-      (cond (leb m 0 && onlyFirstWords m N w) (emptiedWords w) (advanceWords m N n w)) (stay (decoded N w) (refused 10))
-      (cond (leb m 0 && onlyIn w) (emptied (decoded N w)) (advance m T n (decoded N w) (dueIn w)))
-      (same-forged w) (λ _. refl) (λ a. unforged-decoded n w i a))
+      cond-same (decodedStep N) (sizesFit m n) (sizesFit m n) (cond (forgedWords m N w) (stayWords w (refused 10)) goes-on) (stayWords w (refused 2))
+      (cond (forgedWalker m T (decoded N w)) (stay (decoded N w) (refused 10)) goes-on-lists) (stay (decoded N w) (refused 2)) refl
+      (λ _. cond-same (decodedStep N) (forgedWords m N w) (forgedWalker m T (decoded N w)) (stayWords w (refused 10)) goes-on
+      (stay (decoded N w) (refused 10)) goes-on-lists (same-forged w) (λ _. refl) (λ a. unforged-decoded n w i a))
       (λ _. refl)
+    where
+      goes-on : SteppedWords s
+      goes-on = cond (leb m 0 && onlyFirstWords m N (pastSkips N w)) (emptiedWords (pastSkips N w)) (advanceWords m N n w)
+
+      goes-on-lists : Stepped s
+      goes-on-lists = cond (leb m 0 && onlyIn w) (emptied (decoded N w)) (advance m T n (decoded N w) (dueIn w))

@@ -1,5 +1,6 @@
--- The list that a word of bits stands for: its highest bit is the list's first, and clearing it leaves the rest.
-use mathlib.Core.Bool.{true, false}
+-- The list that a word of bits stands for: its highest bit is the list's first, and clearing it leaves the rest. Positions that are passed over are
+-- not in it.
+use mathlib.Core.Bool.{Bool, true, false, not, _&&_}
 use mathlib.Core.List.{List, [], _∷_}
 use mathlib.Core.Path.{_≡_, refl, sym, ap, _∙_}
 use Prim.Native.Nat.{ℕ, zero, suc, _+_, _-_, _/_, _%_, _^_, _≤_, _<_}
@@ -7,9 +8,10 @@ use native.Mathlib.Nat.{mod-lt, mod-le, mul-one}
 use native.Mathlib.Omega.{arith}
 use native.Mathlib.Decide.{decLt}
 use lib.Bits.{bitXor, xor-lt}
-use lib.Dec.{eqb}
+use lib.Dec.{eqb, ltb}
 use lib.Pow.{pow-pos, pow-mono}
-use borrow.Author.Tests.{eq-eqb, ne-eqb}
+use borrow.Author.Tests.{eq-eqb, ne-eqb, lt-ltb, le-ltb, ltb-true}
+use Rattle.lists.proofs.Counts.{Same, equal, apart, same?}
 use Rattle.words.specs.Fields.{field}
 use Rattle.words.specs.Ones.{onesBelow}
 use Rattle.words.specs.Top.{Top}
@@ -18,7 +20,8 @@ use Rattle.words.proofs.Ors.{bit-past, field-cut}
 use Rattle.words.proofs.Ranks.{rank-step, top-set}
 use Rattle.node.specs.Node.{childIndex}
 use Rattle.walk.specs.Slots.{falling}
-use Rattle.walk.specs.Words.{Group, packed, unpacked, isSet, positionsIn, childrenIn, highest, restOf, firstPosition, firstChild}
+use Rattle.walk.specs.Words.{Group, packed, unpacked, isSet, positionsIn, childrenIn, highest, restOf, firstPosition, pastSkipped, firstChild}
+use Rattle.walk.proofs.Cases.{cond-elim, and-true, and-false}
 use Rattle.walk.proofs.Falling.{falling-same, falling-none, falling-cut, falling-top}
 
 -- ---- bits
@@ -59,26 +62,112 @@ top-above n t w h l = go (decLt t w)
 
 -- ---- positions
 
-pub positions-first : (g : Group) → 0 < g .bits → g .bits < 2 ^ 32 → positionsIn g ≡ firstPosition g ∷ positionsIn (restOf g)
-positions-first g h l =
-    falling-top (λ b. g .base + b) (λ b. isSet b (g .bits)) 32 (highest (g .bits)) (t .within) (set-is (highest (g .bits)) (g .bits) (top-set 32 (g .bits) (highest (g .bits)) t))
-    (λ i x y. past-clear (highest (g .bits) + 1) i (g .bits) (t .upper) (omega arith))
-    ∙ ap (λ (l : List ℕ). firstPosition g ∷ l) (lower ∙ sym upper)
-  where
-    t : Top 32 (g .bits) (highest (g .bits))
-    t = highest-is (g .bits) h l
+module _ (skips : ℕ → Bool) where
+  -- bit b of a group is a position that is not passed over
+  abbrev isHeld : Group → ℕ → Bool
+  isHeld g b = not (skips (g .base + b)) && isSet b (g .bits)
 
-    lower : falling (λ b. g .base + b) (λ b. isSet b (g .bits)) (highest (g .bits)) ≡ falling (λ b. g .base + b) (λ b. isSet b (restOf g .bits)) (highest (g .bits))
-    lower = falling-same _ _ _ _ (highest (g .bits)) (λ i k. sym (cut-set (highest (g .bits)) i (g .bits) k)) (λ i k e. refl)
+  unset-held : (g : Group) (b : ℕ) → isSet b (g .bits) ≡ false → isHeld g b ≡ false
+  unset-held g b e = rw e (and-false (not (skips (g .base + b))))
 
-    upper : positionsIn (restOf g) ≡ falling (λ b. g .base + b) (λ b. isSet b (restOf g .bits)) (highest (g .bits))
-    upper =
-        falling-cut (λ b. g .base + b) (λ b. isSet b (restOf g .bits)) (highest (g .bits)) 32 (omega (arith, t .within))
-        (λ i x y. past-clear (highest (g .bits)) i (restOf g .bits) (mod-lt (g .bits) (pow-pos (highest (g .bits)))) x)
+  pub positions-none : (g : Group) → g .bits ≡ 0 → positionsIn skips g ≡ []
+  positions-none g e = falling-none (λ b. g .base + b) (isHeld g) 32 (λ i l. unset-held g i (past-clear 0 i (g .bits) (omega arith) (omega arith)))
 
-pub positions-none : (g : Group) → g .bits ≡ 0 → positionsIn g ≡ []
-positions-none g e =
-    falling-none (λ b. g .base + b) (λ b. isSet b (g .bits)) 32 (λ i l. past-clear 0 i (g .bits) (omega arith) (omega arith))
+  module _ (g : Group) (some : 0 < g .bits) (word : g .bits < 2 ^ 32) where
+    abbrev top : ℕ
+    top = highest (g .bits)
+
+    top-here : Top 32 (g .bits) top
+    top-here = highest-is (g .bits) some word
+
+    none-above : (i : ℕ) → top < i → isHeld g i ≡ false
+    none-above i h = unset-held g i (past-clear (top + 1) i (g .bits) (top-here .upper) (omega arith))
+
+    rest-held : positionsIn skips (restOf g) ≡ falling (λ b. g .base + b) (isHeld g) top
+    rest-held =
+        falling-cut (λ b. g .base + b) (isHeld (restOf g)) top 32 (omega (arith, top-here .within))
+        (λ i x y. unset-held (restOf g) i (past-clear top i (restOf g .bits) (mod-lt (g .bits) (pow-pos top)) x))
+        ∙ falling-same (λ b. g .base + b) (λ b. g .base + b) (isHeld (restOf g)) (isHeld g) top
+        (λ i k. ap (λ (x : Bool). not (skips (g .base + i)) && x) (cut-set top i (g .bits) k)) (λ i k e. refl)
+
+    -- the highest comes first if it is not passed over,
+    pub positions-first : skips (firstPosition g) ≡ false → positionsIn skips g ≡ firstPosition g ∷ positionsIn skips (restOf g)
+    positions-first e =
+        falling-top (λ b. g .base + b) (isHeld g) 32 top (top-here .within) held (λ i x y. none-above i x)
+        ∙ ap (λ (l : List ℕ). firstPosition g ∷ l) (sym rest-held)
+      where
+        held : isHeld g top ≡ true
+        held = rw (e, set-is top (g .bits) (top-set 32 (g .bits) top top-here))
+
+    -- and else those below it are all
+    pub positions-past : skips (firstPosition g) ≡ true → positionsIn skips g ≡ positionsIn skips (restOf g)
+    positions-past e =
+        falling-cut (λ b. g .base + b) (isHeld g) top 32 (omega (arith, top-here .within)) (λ i x y. from-top i x (same? i top)) ∙ sym rest-held
+      where
+        from-top : (i : ℕ) → top ≤ i → Same i top → isHeld g i ≡ false
+        from-top i h (equal z n) = rw (z, e)
+        from-top i h (apart z n) = none-above i (omega arith)
+
+-- what is left of a word is a word
+pub rest-lt : (g : Group) → g .bits < 2 ^ 32 → restOf g .bits < 2 ^ 32
+rest-lt g h = omega (arith, mod-le (g .bits) (2 ^ highest (g .bits)))
+
+-- ---- positions that are passed over
+
+module _ (skips : ℕ → Bool) where
+  -- the first position of a group, if it has one, is not passed over
+  abbrev pub AtFront : Group → Type 0
+  AtFront g = (skips (firstPosition g) && ltb 0 (g .bits)) ≡ false
+
+  pub front-first : (g : Group) → AtFront g → 0 < g .bits → skips (firstPosition g) ≡ false
+  front-first g f h = go (skips (firstPosition g)) f
+    where
+      go : (b : Bool) → (b && ltb 0 (g .bits)) ≡ false → b ≡ false
+      go true e = sym (lt-ltb 0 (g .bits) h) ∙ e
+      go false e = refl
+
+  pub empty-front : (g : Group) → g .bits ≤ 0 → AtFront g
+  empty-front g h = rw (le-ltb 0 (g .bits) h) (and-false (skips (firstPosition g)))
+
+  -- a group of which the first is not passed over stays whole
+  pub front-stays : (k : ℕ) (g : Group) → AtFront g → pastSkipped skips k g ≡ g
+  front-stays zero g f = refl
+  front-stays (suc k) g f = rw f
+
+  -- what is left past them stands for the same list,
+  pub skipped-same : (k : ℕ) (g : Group) → g .bits < 2 ^ 32 → positionsIn skips (pastSkipped skips k g) ≡ positionsIn skips g
+  skipped-same zero g l = refl
+  skipped-same (suc k) g l =
+      cond-elim (λ (u : Group). positionsIn skips u ≡ positionsIn skips g) (skips (firstPosition g) && ltb 0 (g .bits))
+      (pastSkipped skips k (restOf g)) g
+      (λ e. let a = and-true (skips (firstPosition g)) (ltb 0 (g .bits)) e in
+      skipped-same k (restOf g) (rest-lt g l) ∙ sym (positions-past skips g (ltb-true 0 (g .bits) (a .1)) l (a .0)))
+      (λ e. refl)
+
+  -- is a word,
+  pub skipped-lt : (k : ℕ) (g : Group) → g .bits < 2 ^ 32 → pastSkipped skips k g .bits < 2 ^ 32
+  skipped-lt zero g l = l
+  skipped-lt (suc k) g l =
+      cond-elim (λ (u : Group). u .bits < 2 ^ 32) (skips (firstPosition g) && ltb 0 (g .bits)) (pastSkipped skips k (restOf g)) g
+      (λ e. skipped-lt k (restOf g) (rest-lt g l)) (λ e. l)
+
+  -- and begins with one that is not passed over
+  pub skipped-front : (k : ℕ) (g : Group) → k ≤ 32 → g .bits < 2 ^ k → AtFront (pastSkipped skips k g)
+  skipped-front zero g h l = empty-front g (omega arith)
+  skipped-front (suc k) g h l =
+      cond-elim AtFront (skips (firstPosition g) && ltb 0 (g .bits)) (pastSkipped skips k (restOf g)) g
+      (λ e. skipped-front k (restOf g) (omega arith) (lower (ltb-true 0 (g .bits) (and-true (skips (firstPosition g)) (ltb 0 (g .bits)) e .1))))
+      (λ e. e)
+    where
+      lower : 0 < g .bits → restOf g .bits < 2 ^ k
+      lower p =
+          let t = highest-is (g .bits) p (omega (arith, pow-mono {i = suc k} {j = 32} h)) in
+          let i : highest (g .bits) ≤ k = below (decLt k (highest (g .bits))) t in
+          omega (arith, mod-lt (g .bits) (pow-pos (highest (g .bits))), pow-mono {i = highest (g .bits)} {j = k} i)
+        where
+          below : Dec (k < highest (g .bits)) → Top 32 (g .bits) (highest (g .bits)) → highest (g .bits) ≤ k
+          below (yes q) t = absurd (omega (arith, t .low, pow-mono {i = suc k} {j = highest (g .bits)} q))
+          below (no q) t = omega arith
 
 -- ---- children
 
@@ -119,10 +208,6 @@ children-first octant g q h l =
     upper =
         falling-cut (number (restOf g)) (λ k. isSet (24 + k) (restOf g .bits)) (top - 24) 8 (omega (arith, t .within))
         (λ i x y. past-clear top (24 + i) (restOf g .bits) (mod-lt (g .bits) (pow-pos top)) (omega arith))
-
--- what is left of a word is a word
-pub rest-lt : (g : Group) → g .bits < 2 ^ 32 → restOf g .bits < 2 ^ 32
-rest-lt g h = omega (arith, mod-le (g .bits) (2 ^ highest (g .bits)))
 
 -- ---- a group as one word
 

@@ -19,6 +19,10 @@ pub record Lawful {s d : Type 0} (S : Shape) (Rule : ℕ → Type 0) (T : Tests 
   -- telling makes no ray a forged one
   pub told-accepted : (x : d) (ray : s) → T .forged ray ≡ false → T .forged (T .told x ray) ≡ false
 
+-- none of the record's positions is absent
+abbrev pub Present : {s d : Type 0} → Shape → Tests s d → Type 0
+Present {s} S T = (ray : s) (p : ℕ) → p < S .positions → T .absent ray p ≡ false
+
 -- a node that meets the rule has at most 24 positions
 abbrev pub Narrow : {s d : Type 0} → ℕ → Tests s d → Type 0
 Narrow {s} m T = (ray : s) (n v : ℕ) → T .forged ray ≡ false → v < m → T .rule n v ≡ true → length (T .positions ray v) ≤ 24

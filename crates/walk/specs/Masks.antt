@@ -1,26 +1,38 @@
 -- Hit masks (01, "Rust forms and their replacements"): what the bits of a node's mask say of its slots, where the node meets the rule.
-use mathlib.Core.Bool.{true, false}
+use mathlib.Core.Bool.{true, false, not}
 use mathlib.Core.Path.{_≡_}
 use Prim.Native.Nat.{ℕ, _+_, _^_, _<_}
 use lib.Bits.{bitXor}
-use Rattle.walk.specs.Slots.{Slots, passedChild, passedPosition}
+use Rattle.walk.specs.Slots.{Slots, passedChild, inPassedSlot}
 use Rattle.walk.specs.Words.{isSet}
 use Rattle.walk.specs.WordStep.{NodeWords}
 
 module _ {s d : Type 0} (W : Slots s d) (mask : s → ℕ → ℕ) where
   -- a record's own fields, with a mask for each ray and node
   abbrev pub wordsOf : NodeWords s d
-  wordsOf = record { rule = W .rule; told = W .told; forged = W .forged; octant = W .octant; mask = mask; imask = W .imask; childBase = W .shape .base; positionBase = W .positionBase }
+  wordsOf = record {
+    rule = W .rule;
+    told = W .told;
+    forged = W .forged;
+    absent = W .absent;
+    skips = λ ray p. not (W .admits ray p);
+    octant = W .octant;
+    mask = mask;
+    imask = W .imask;
+    childBase = W .shape .base;
+    positionBase = W .positionBase;
+  }
 
   pub record MaskLaws : Type 0 where
     pub octant-lt : (ray : s) → W .forged ray ≡ false → W .octant ray < 8
     pub octant-told : (x : d) (ray : s) → W .octant (W .told x ray) ≡ W .octant ray
+    pub admits-told : (x : d) (ray : s) → W .admits (W .told x ray) ≡ W .admits ray
     pub mask-lt : (ray : s) (v : ℕ) → mask ray v < 2 ^ 32
     pub imask-lt : (v : ℕ) → v < W .shape .nodes → W .imask v < 256
     pub child-base-lt : (v : ℕ) → v < W .shape .nodes → W .shape .base v < 2 ^ 32
     -- bit b below 24 is the position b past the node's base
     pub position-bit : (ray : s) (n v b : ℕ) → W .forged ray ≡ false → v < W .shape .nodes → W .rule n v ≡ true → b < 24
-        → isSet b (mask ray v) ≡ passedPosition W ray v (W .positionBase v + b)
+        → isSet b (mask ray v) ≡ inPassedSlot W ray v (W .positionBase v + b)
     -- bit 24 + k is the child in slot k XOR octant
     pub child-bit : (ray : s) (n v k : ℕ) → W .forged ray ≡ false → v < W .shape .nodes → W .rule n v ≡ true → k < 8
         → isSet (24 + k) (mask ray v) ≡ passedChild W ray v (bitXor k (W .octant ray))

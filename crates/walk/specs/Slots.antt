@@ -32,8 +32,10 @@ pub record Slots (s d : Type 0) : Type 0 where
   pub octant : s → ℕ
   -- `passes ray v j`: the ray passes slot j of node v
   pub passes : s → ℕ → ℕ → Bool
-  -- a position's own test; all pass where there is none
+  -- a position's own test, which passes over those that fail; all pass where there is none
   pub admits : s → ℕ → Bool
+  -- a position that is not there: where it is not passed over its report is refused
+  pub absent : s → ℕ → Bool
   pub told : d → s → s
   pub forged : s → Bool
 
@@ -47,8 +49,12 @@ module _ {s d : Type 0} (W : Slots s d) where
   passedChild ray v j = eqb (innerBit (W .imask v) j) 1 && W .passes ray v j
 
   -- position x stands in the leaf range of a slot of node v that the ray passes
+  abbrev pub inPassedSlot : s → ℕ → ℕ → Bool
+  inPassedSlot ray v x = someBelow (λ j. eqb (inRange x (W .shape .start v j) (W .shape .count v j)) 1 && W .passes ray v j) 8
+
+  -- and it passes its own test
   abbrev pub passedPosition : s → ℕ → ℕ → Bool
-  passedPosition ray v x = someBelow (λ j. eqb (inRange x (W .shape .start v j) (W .shape .count v j)) 1 && W .passes ray v j) 8 && W .admits ray x
+  passedPosition ray v x = inPassedSlot ray v x && W .admits ray x
 
   -- the passed positions of a node are 24 at most, the highest first; the octant plays no part
   abbrev pub positionsOf : s → ℕ → List ℕ
@@ -59,7 +65,7 @@ module _ {s d : Type 0} (W : Slots s d) where
   childrenOf ray v = falling (λ k. childAt v (bitXor k (W .octant ray))) (λ k. passedChild ray v (bitXor k (W .octant ray))) 8
 
   abbrev pub testsOf : Tests s d
-  testsOf = record { rule = W .rule; positions = positionsOf; children = childrenOf; told = W .told; forged = W .forged }
+  testsOf = record { rule = W .rule; positions = positionsOf; children = childrenOf; told = W .told; forged = W .forged; absent = W .absent }
 
   -- ---- in the words of the demand
 

@@ -68,9 +68,9 @@ abbrev pub noRoom : List ℕ → List (List ℕ) → Bool
 noRoom [] st = false
 noRoom (x ∷ r) st = leb 32 (length st)
 
--- position p is none of the n
-abbrev pub badPosition : ℕ → ℕ → Bool
-badPosition n p = leb n p
+-- position p is absent, or none of the n
+abbrev pub badPosition : {s d : Type 0} → Tests s d → ℕ → s → ℕ → Bool
+badPosition T n ray p = T .absent ray p || leb n p
 
 -- node c may not be tested: it leaves a 33rd group, or does not exist, or all tests were made, or it breaks the rule
 abbrev pub badNode : {s d : Type 0} → ℕ → Tests s d → ℕ → ℕ → ℕ → List ℕ → List (List ℕ) → Bool
@@ -115,7 +115,7 @@ afterTest T w c r st =
     }
 
 abbrev pub advance : {s d : Type 0} → ℕ → Tests s d → ℕ → Walker s → Due → Stepped s
-advance m T n w (report p ps) = cond (badPosition n p) (stay w (refused 10)) (afterReport w p ps)
+advance m T n w (report p ps) = cond (badPosition T n (w .ray) p) (stay w (refused 10)) (afterReport w p ps)
 advance m T n w (test c r st) = cond (badNode m T n (w .tests) c r st) (stay w (refused 10)) (afterTest T w c r st)
 advance m T n w nothing = stay w done
 

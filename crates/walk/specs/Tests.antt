@@ -8,7 +8,7 @@ use Prim.Native.Nat.{ℕ}
 pub record Tests (s d : Type 0) : Type 0 where
   -- `rule n v`: node v meets the node rule of a record of n positions
   pub rule : ℕ → ℕ → Bool
-  -- the positions of a node that the ray passes, highest first
+  -- the positions of a node that the ray passes, highest first; none that is passed over is among them
   pub positions : s → ℕ → List ℕ
   -- the children of a node that the ray passes, by falling slot XOR octant
   pub children : s → ℕ → List ℕ
@@ -16,3 +16,5 @@ pub record Tests (s d : Type 0) : Type 0 where
   pub told : d → s → s
   -- a ray that no walker just begun holds
   pub forged : s → Bool
+  -- a position that is not there: its report is refused
+  pub absent : s → ℕ → Bool

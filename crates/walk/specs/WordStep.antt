@@ -7,9 +7,9 @@ use lib.Dec.{eqb, leb, ltb}
 use lib.ListN.{length, getD, replicate}
 use Rattle.faststack.specs.Stack.{capacity, hasRoom, pushed, topOf}
 use Rattle.walk.specs.Tests.{Tests}
-use Rattle.walk.specs.Step.{Walker, Answer, tested, position, done, refused, Stepped, sizesFit, badPosition, stay}
+use Rattle.walk.specs.Step.{Walker, Answer, tested, position, done, refused, Stepped, sizesFit, stay}
 use Rattle.walk.specs.Calls.{Op, step, tell}
-use Rattle.walk.specs.Words.{Group, packed, unpacked, positionsIn, childrenIn, groupsIn, restOf, firstPosition, firstChild, hasChild, waitingDepth}
+use Rattle.walk.specs.Words.{Group, packed, unpacked, positionsIn, childrenIn, groupsIn, restOf, firstPosition, pastSkipped, firstChild, hasChild, waitingDepth}
 
 pub record WalkerWords (s : Type 0) : Type 0 where
   pub ray : s
@@ -25,11 +25,14 @@ pub record SteppedWords (s : Type 0) : Type 0 where
   pub walker : WalkerWords s
   pub answer : Answer
 
--- What a step in words reads: `rule`, `told` and `forged` as in `Tests`, and of a node its hit mask for a ray and its fields.
+-- What a step in words reads: `rule`, `told`, `forged` and `absent` as in `Tests`, which positions are passed over where their report is due, and of
+-- a node its hit mask for a ray and its fields.
 pub record NodeWords (s d : Type 0) : Type 0 where
   pub rule : ℕ → ℕ → Bool
   pub told : d → s → s
   pub forged : s → Bool
+  pub absent : s → ℕ → Bool
+  pub skips : s → ℕ → Bool
   pub octant : s → ℕ
   pub mask : s → ℕ → ℕ
   pub imask : ℕ → ℕ
@@ -73,7 +76,14 @@ afterReportWords w =
 
 -- it is reported if it is one of the n
 unfoldable pub reportWords : {s : Type 0} → ℕ → WalkerWords s → SteppedWords s
-reportWords n w = cond (badPosition n (firstPosition (w .positions))) (stayWords w (refused 10)) (afterReportWords w)
+reportWords n w = cond (leb n (firstPosition (w .positions))) (stayWords w (refused 10)) (afterReportWords w)
+
+-- the walker after a step that leads to u: a refused one leaves it as it was
+abbrev pub leaving : {s : Type 0} → WalkerWords s → Answer → WalkerWords s → WalkerWords s
+leaving w (tested v) u = u
+leaving w (position p) u = u
+leaving w done u = u
+leaving w (refused e) u = w
 
 -- a node was tested
 abbrev pub isTest : Answer → Bool
@@ -110,7 +120,7 @@ module _ {s d : Type 0} (N : NodeWords s d) where
       record {
         ray = w .ray;
         tests = w .tests;
-        positions = positionsIn (w .positions);
+        positions = positionsIn (N .skips (w .ray)) (w .positions);
         group = childrenIn (N .octant (w .ray)) (w .current);
         stack = groupsIn (N .octant (w .ray)) (w .stack) (w .depth);
       }
@@ -120,7 +130,20 @@ module _ {s d : Type 0} (N : NodeWords s d) where
 
   -- the tests of a step on lists: it differs in the lists that a node gives
   abbrev pub testsWith : (s → ℕ → List ℕ) → (s → ℕ → List ℕ) → Tests s d
-  testsWith positions children = record { rule = N .rule; positions = positions; children = children; told = N .told; forged = N .forged }
+  testsWith positions children =
+      record { rule = N .rule; positions = positions; children = children; told = N .told; forged = N .forged; absent = N .absent }
+
+  -- the walker without the positions in front of its hand that are passed over
+  abbrev pub pastSkips : WalkerWords s → WalkerWords s
+  pastSkips w =
+      record {
+        ray = w .ray;
+        tests = w .tests;
+        positions = pastSkipped (N .skips (w .ray)) 32 (w .positions);
+        current = w .current;
+        depth = w .depth;
+        stack = w .stack;
+      }
 
 -- ---- a step on a record of m nodes
 
@@ -164,11 +187,17 @@ module _ {s d : Type 0} (m : ℕ) (N : NodeWords s d) where
   unfoldable pub popWords : ℕ → WalkerWords s → ℕ → SteppedWords s
   popWords n w d = cond (ltb 0 d) (visitWords n w (unpacked (topOf (w .stack) d)) (d - 1)) (stayWords w done)
 
-  -- positions come first, then the group in hand, then the stack
-  unfoldable pub advanceWords : ℕ → WalkerWords s → SteppedWords s
-  advanceWords n w =
-      cond (ltb 0 (w .positions .bits)) (reportWords n w)
+  -- positions come first, one that is absent refused; then the group in hand, then the stack
+  unfoldable pub turnWords : ℕ → WalkerWords s → SteppedWords s
+  turnWords n w =
+      cond (ltb 0 (w .positions .bits))
+      (cond (N .absent (w .ray) (firstPosition (w .positions))) (stayWords w (refused 10)) (reportWords n w))
       (cond (hasChild (w .current)) (visitWords n w (w .current) (w .depth)) (popWords n w (waitingDepth (w .stack) (w .depth))))
+
+  -- first of all positions that are passed over go, and then the same turn does what is due
+  unfoldable pub advanceWords : ℕ → WalkerWords s → SteppedWords s
+  unfolding turnWords
+  advanceWords n w = let r = turnWords n (pastSkips N w) in record { walker = leaving w (r .answer) (r .walker); answer = r .answer }
 
   -- A turn, and up to k more after tests of nodes of which no position is passed: on until positions are in hand, nothing is left, or one is refused.
   unfoldable pub seekWords : ℕ → ℕ → WalkerWords s → SteppedWords s
@@ -179,7 +208,8 @@ module _ {s d : Type 0} (m : ℕ) (N : NodeWords s d) where
   unfoldable pub stepWords : ℕ → WalkerWords s → SteppedWords s
   stepWords n w =
       cond (sizesFit m n)
-      (cond (forgedWords w) (stayWords w (refused 10)) (cond (leb m 0 && onlyFirstWords w) (emptiedWords w) (advanceWords n w)))
+      (cond (forgedWords w) (stayWords w (refused 10))
+      (cond (leb m 0 && onlyFirstWords (pastSkips N w)) (emptiedWords (pastSkips N w)) (advanceWords n w)))
       (stayWords w (refused 2))
 
   -- ---- lists of calls
@@ -196,8 +226,10 @@ module _ {s d : Type 0} (m : ℕ) (N : NodeWords s d) where
   pub record Decodes (positions children : s → ℕ → List ℕ) : Type 0 where
     pub octant-lt : (r : s) → N .forged r ≡ false → N .octant r < 8
     pub octant-told : (x : d) (r : s) → N .octant (N .told x r) ≡ N .octant r
+    pub skips-told : (x : d) (r : s) → N .skips (N .told x r) ≡ N .skips r
     pub mask-lt : (r : s) (v : ℕ) → N .mask r v < 2 ^ 32
     pub imask-lt : (v : ℕ) → v < m → N .imask v < 256
     pub child-base-lt : (v : ℕ) → v < m → N .childBase v < 2 ^ 32
-    pub positions-are : (r : s) (n v : ℕ) → N .forged r ≡ false → v < m → N .rule n v ≡ true → positionsIn (passedPositions N r v) ≡ positions r v
+    pub positions-are : (r : s) (n v : ℕ) → N .forged r ≡ false → v < m → N .rule n v ≡ true
+        → positionsIn (N .skips r) (passedPositions N r v) ≡ positions r v
     pub children-are : (r : s) (n v : ℕ) → N .forged r ≡ false → v < m → N .rule n v ≡ true → childrenIn (N .octant r) (passedChildren N r v) ≡ children r v

@@ -1,11 +1,11 @@
 -- Groups as words of bits, and the lists that they stand for (01, "Walking"; "Rust forms and their replacements"). Positions are bits counted from a
 -- base. Children are bits 31 to 24, by slot XOR octant, over the imask in the low byte.
-use mathlib.Core.Bool.{Bool, cond}
+use mathlib.Core.Bool.{Bool, not, _&&_, cond}
 use mathlib.Core.List.{List, [], _∷_}
 use Prim.Native.Nat.{ℕ, zero, suc, _+_, _-_, _*_, _/_, _%_, _^_}
 use lib.Bits.{bitXor}
 use lib.Count.{leadingZeros}
-use lib.Dec.{eqb, leb}
+use lib.Dec.{eqb, leb, ltb}
 use Rattle.words.specs.Fields.{field}
 use Rattle.faststack.specs.Stack.{topOf}
 use Rattle.node.specs.Node.{childIndex}
@@ -28,9 +28,9 @@ unpacked w = record { base = w % 2 ^ 32; bits = w / 2 ^ 32 }
 abbrev pub isSet : ℕ → ℕ → Bool
 isSet j n = eqb (field 1 j n) 1
 
--- positions, the highest first
-abbrev pub positionsIn : Group → List ℕ
-positionsIn g = falling (λ b. g .base + b) (λ b. isSet b (g .bits)) 32
+-- positions that are not passed over, the highest first
+abbrev pub positionsIn : (ℕ → Bool) → Group → List ℕ
+positionsIn skips g = falling (λ b. g .base + b) (λ b. not (skips (g .base + b)) && isSet b (g .bits)) 32
 
 -- children by falling slot XOR octant; a child's rank counts the ones of imask below its slot
 abbrev pub childrenIn : ℕ → Group → List ℕ
@@ -54,6 +54,11 @@ restOf g = record { base = g .base; bits = g .bits % 2 ^ highest (g .bits) }
 -- the position of the highest bit
 abbrev pub firstPosition : Group → ℕ
 firstPosition g = g .base + highest (g .bits)
+
+-- the group from its first position on that is not passed over, if that is among the first k
+abbrev pub pastSkipped : (ℕ → Bool) → ℕ → Group → Group
+pastSkipped skips zero g = g
+pastSkipped skips (suc k) g = let rest = pastSkipped skips k (restOf g) in cond (skips (firstPosition g) && ltb 0 (g .bits)) rest g
 
 -- the child of the highest bit: its slot is the bit's place past 24, XOR octant
 abbrev pub firstChild : ℕ → Group → ℕ

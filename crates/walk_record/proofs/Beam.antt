@@ -1,7 +1,7 @@
 -- The ray of a walker: its octant is one of eight unless it is forged, and telling leaves octant and acceptance as they were.
 use mathlib.Core.Bool.{Bool, true, false, not, _&&_, cond}
 use mathlib.Core.Path.{_≡_, refl, sym, subst}
-use Prim.Native.Nat.{_*_, _^_, _<_}
+use Prim.Native.Nat.{ℕ, _*_, _^_, _<_}
 use native.Mathlib.Omega.{arith}
 use lib.Dec.{T, eqb}
 use lib.Ieee.{Float, nan, inf, fin, up, down, lt, eq, isNan}
@@ -14,7 +14,7 @@ use Rattle.ray.proofs.Bounds
 use Rattle.float.specs.Magnitude.{Within}
 use Rattle.float.proofs.Magnitude.{atmost-no-nan}
 use Rattle.walk.proofs.Cases.{and-true, not-false-true}
-use Rattle.walk_record.specs.Record.{RayLaws}
+use Rattle.walk_record.specs.Record.{RayLaws, AllPresent}
 use Rattle.walk_record.specs.Beam.{Beam, beamOf, ownInverse, forgedBeam, reaching, toldBeam, beams}
 
 -- what is below something is no NaN
@@ -46,7 +46,10 @@ told-accepted : (t : Float) (b : Beam) → forgedBeam b ≡ false → forgedBeam
 told-accepted t b = reach-accepted t b _ (below-no-nan t (b .ray .tmax))
 
 pub beam-laws : RayLaws beams
-beam-laws = record { octant-lt = octant-lt; octant-told = λ t b. refl; told-accepted = told-accepted }
+beam-laws = record { octant-lt = octant-lt; octant-told = λ t b. refl; admits-told = λ t b. refl; told-accepted = told-accepted }
+
+pub beams-present : (n : ℕ) → AllPresent beams n
+beams-present n b p h = refl
 
 -- ---- a walker just begun
 

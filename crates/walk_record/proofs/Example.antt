@@ -1,9 +1,10 @@
 -- Walks computed, over three nodes, the first with a leaf in slot 2 and children in slots 0 and 5.
-use mathlib.Core.Bool.{false, true}
+use mathlib.Core.Bool.{Bool, false, true, not, _||_}
 use mathlib.Core.List.{List, [], _∷_, _++_}
 use mathlib.Core.Path.{_≡_, refl}
 use Prim.Native.Nat.{ℕ}
 use lib.Count.{leadingZeros}
+use lib.Dec.{eqb}
 use lib.IntN.{pos, negsuc}
 use lib.Ieee.{Float, inf, fin, round, ofBits, ofInt, add, sub, mul, div, lt, le, eq, isNan}
 use lib.ListN.{replicate}
@@ -24,6 +25,7 @@ use Rattle.walk.specs.Calls.{step, tell}
 use Rattle.walk.specs.Words.{Group}
 use Rattle.walk.specs.WordStep.{WalkerWords, noGroup, freshWords, stepWords, advanceWords, reportWords, visitWords, popWords, runWords}
 use Rattle.walk.specs.WordQueries.{queryWords}
+use Rattle.walk_record.specs.Record.{Rays}
 use Rattle.walk_record.specs.Beam.{Beam, beamOf, beams}
 use Rattle.walk_record.specs.Walk.{runAt, queryAt, anyHitAt}
 
@@ -60,6 +62,17 @@ against = beam (fin false 3 (pos 0)) (fin true 1 (pos 0))
 abbrev holds : Group → Group → WalkerWords Beam
 holds positions current = record { ray = along; tests = 0; positions = positions; current = current; depth = 0; stack = replicate 32 0 }
 
+-- with a test of positions, or with positions that are not there
+abbrev withPositions : (ℕ → Bool) → (ℕ → Bool) → Rays Beam Float
+withPositions admits absent = record {
+  passes = beams .passes;
+  admits = λ b p. admits p;
+  absent = λ b p. absent p;
+  octant = beams .octant;
+  told = beams .told;
+  forged = beams .forged;
+}
+
 pub record Examples : Type 0 where
   -- slot 0 comes before slot 5 in octant 7, and after it in octant 3; positions fall in both
   pub octant-7 : anyHitAt three beams 4 along .noted ≡ 0 ∷ 2 ∷ 1 ∷ 3 ∷ []
@@ -75,6 +88,17 @@ pub record Examples : Type 0 where
   pub group-without-nodes : runAt [] beams (step 5 ∷ []) (holds noGroup (record { base = 1; bits = 0x8000_0000 })) .answers ≡ refused 10 ∷ []
   -- a walker that was done on a record without nodes is done on one with nodes too
   pub done-elsewhere : runAt three beams (step 4 ∷ step 4 ∷ []) (runAt [] beams (step 0 ∷ []) (freshWords along) .walker) .answers ≡ done ∷ done ∷ []
+  -- positions 1 and 2, all of a node's, are passed over by the step that tests the next node; 2 alone by the one that reports 1
+  pub both-passed-over :
+      runAt three (withPositions (λ p. eqb p 0 || eqb p 3) (λ p. false)) (step 4 ∷ step 4 ∷ step 4 ∷ step 4 ∷ step 4 ∷ step 4 ∷ [])
+      (freshWords along) .answers
+      ≡ tested 0 ∷ position 0 ∷ tested 1 ∷ tested 2 ∷ position 3 ∷ done ∷ []
+  pub one-passed-over :
+      anyHitAt three (withPositions (λ p. not (eqb p 2)) (λ p. false)) 4 along .noted ≡ 0 ∷ 1 ∷ 3 ∷ []
+  -- position 1 is not there: the step is refused, and so is the next, 2 being passed over again
+  pub absent-refused :
+      runAt three (withPositions (λ p. not (eqb p 2)) (λ p. eqb p 1)) (step 4 ∷ step 4 ∷ step 4 ∷ step 4 ∷ step 4 ∷ []) (freshWords along) .answers
+      ≡ tested 0 ∷ position 0 ∷ tested 1 ∷ refused 10 ∷ refused 10 ∷ []
   -- a walker with another octant than its ray's is forged
   pub forged : runAt three beams (step 4 ∷ []) (freshWords (record { ray = along .ray; octant = 3 })) .answers ≡ refused 10 ∷ []
 
@@ -87,5 +111,8 @@ examples = record {
   position-without-nodes = refl;
   group-without-nodes = refl;
   done-elsewhere = refl;
+  both-passed-over = refl;
+  one-passed-over = refl;
+  absent-refused = refl;
   forged = refl;
 }

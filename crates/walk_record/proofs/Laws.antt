@@ -1,5 +1,5 @@
 -- A record's bytes give all that the walk's theory asks: of its slots where nodes meet the rule, and of its hit masks.
-use mathlib.Core.Bool.{Bool, true, false}
+use mathlib.Core.Bool.{true, false}
 use mathlib.Core.List.{List}
 use mathlib.Core.Path.{_≡_, refl, subst}
 use Prim.Native.Nat.{ℕ, zero, suc, _+_, _-_, _*_, _%_, _≤_, _<_}
@@ -10,21 +10,19 @@ use Rattle.lists.proofs.Tells.{told, tells-true, tells-same, tells-as, eqb-tell
 use Rattle.words.specs.Ones.{onesBelow}
 use Rattle.words.specs.Fields.{field}
 use Rattle.words.proofs.Le.{le-lt}
-use Rattle.soundness.specs.Range.{inRange}
 use Rattle.soundness.proofs.Range.{in-range, range-stands}
 use Rattle.node.specs.Node.{nodeAt, nodeFrom, innerBit, codeCount}
 use Rattle.decode.proofs.Decode.{slot-back}
 use Rattle.rule.specs.Rule.{Rule, SlotRule, empty, child, leaf, nodeRule}
-use Rattle.slot.specs.Mask.{passesSlot}
 use Rattle.hits.proofs.HitBits.{mask-lt, child-bit-set, child-bit-of, position-bit-of, position-bit-set}
 use Rattle.record_shape.specs.Record.{nodeCount, metaAt, leafCount, shapeAt, RuleAt}
 use Rattle.record_shape.proofs.Placed.{placed}
 use Rattle.record_shape.proofs.Record.{node-tells}
-use Rattle.walk.specs.Slots.{passedChild, passedPosition, SlotLaws}
+use Rattle.walk.specs.Slots.{passedChild, inPassedSlot, SlotLaws}
 use Rattle.walk.specs.Words.{isSet}
 use Rattle.walk.specs.Masks.{MaskLaws}
-use Rattle.walk.proofs.Slots.{child-tells, position-tells}
-use Rattle.walk_record.specs.Record.{Rays, RayLaws, FieldsFit, slotsAt, maskAt}
+use Rattle.walk.proofs.Slots.{child-tells, PassedSlot, slot-tells}
+use Rattle.walk_record.specs.Record.{Rays, RayLaws, FieldsFit, slotTest, slotsAt, maskAt}
 
 -- ---- what the rule says of a leaf range
 
@@ -77,25 +75,26 @@ module _ {s d : Type 0} (bytes : List ℕ) (R : Rays s d) (laws : RayLaws R) (n 
       o : R .octant r < 8
       o = laws .octant-lt r f
 
-      to : field 1 (24 + i) (maskAt bytes R r v) ≡ 1
-          → (innerBit (nodeAt bytes v .imask) (bitXor i (R .octant r)) ≡ 1) × (passesSlot (nodeAt bytes v) (R .ray r) (bitXor i (R .octant r)) ≡ true)
-      to z =
-          let h = child-bit-of (nodeAt bytes v) (R .ray r) (R .octant r) k (laws .octant-lt r f) (met k v e .slots) (24 + i) (omega arith) z in
-          let y : 24 + i - 24 ≡ i = omega arith in
-          let j : (innerBit (nodeAt bytes v .imask) (bitXor (24 + i - 24) (R .octant r)) ≡ 1) × (passesSlot (nodeAt bytes v) (R .ray r) (bitXor (24 + i - 24) (R .octant r)) ≡ true) = (h .inner, h .passed) in
-          subst (λ (x : ℕ). (innerBit (nodeAt bytes v .imask) (bitXor x (R .octant r)) ≡ 1) × (passesSlot (nodeAt bytes v) (R .ray r) (bitXor x (R .octant r)) ≡ true)) y j
+      Child : ℕ → Type 0
+      Child j = (innerBit (nodeAt bytes v .imask) j ≡ 1) × (slotTest bytes R r v j ≡ true)
 
-      from : (innerBit (nodeAt bytes v .imask) (bitXor i (R .octant r)) ≡ 1) × (passesSlot (nodeAt bytes v) (R .ray r) (bitXor i (R .octant r)) ≡ true)
-          → field 1 (24 + i) (maskAt bytes R r v) ≡ 1
+      to : field 1 (24 + i) (maskAt bytes R r v) ≡ 1 → Child (bitXor i (R .octant r))
+      to z =
+          let h = child-bit-of (slotTest bytes R r v) (nodeAt bytes v) (R .octant r) k o (met k v e .slots) (24 + i) (omega arith) z in
+          let y : 24 + i - 24 ≡ i = omega arith in
+          subst (λ (x : ℕ). Child (bitXor x (R .octant r))) y (h .inner, h .passed)
+
+      from : Child (bitXor i (R .octant r)) → field 1 (24 + i) (maskAt bytes R r v) ≡ 1
       from q =
-          subst (λ (x : ℕ). field 1 (24 + x) (maskAt bytes R r v) ≡ 1) (slot-back i (R .octant r) l (laws .octant-lt r f))
-          (child-bit-set (nodeAt bytes v) (R .ray r) (R .octant r) k (laws .octant-lt r f) (met k v e .slots) (bitXor i (R .octant r)) (xor-lt 3 i (R .octant r) l (laws .octant-lt r f)) (q .0) (q .1))
+          subst (λ (x : ℕ). field 1 (24 + x) (maskAt bytes R r v) ≡ 1) (slot-back i (R .octant r) l o)
+          (child-bit-set (slotTest bytes R r v) (nodeAt bytes v) (R .octant r) k o (met k v e .slots) (bitXor i (R .octant r))
+          (xor-lt 3 i (R .octant r) l o) (q .0) (q .1))
 
   position-bit : (r : s) (k v b : ℕ) → R .forged r ≡ false → nodeRule (nodeAt bytes v) (nodeCount bytes) k v ≡ true → b < 24
-      → isSet b (maskAt bytes R r v) ≡ passedPosition (slotsAt bytes R n) r v (nodeAt bytes v .«primitive_base_idx» + b)
+      → isSet b (maskAt bytes R r v) ≡ inPassedSlot (slotsAt bytes R n) r v (nodeAt bytes v .«primitive_base_idx» + b)
   unfolding shapeAt
   position-bit r k v b f e l =
-      tells-same (tells-as (eqb-tells (field 1 b (maskAt bytes R r v)) 1) to from) (position-tells (slotsAt bytes R n) r v (base + b))
+      tells-same (tells-as (eqb-tells (field 1 b (maskAt bytes R r v)) 1) to from) (slot-tells (slotsAt bytes R n) r v (base + b))
     where
       base : ℕ
       base = nodeAt bytes v .«primitive_base_idx»
@@ -106,20 +105,21 @@ module _ {s d : Type 0} (bytes : List ℕ) (R : Rays s d) (laws : RayLaws R) (n 
       meta : ℕ → ℕ
       meta j = metaAt (nodeAt bytes v) j
 
-      to : field 1 b (maskAt bytes R r v) ≡ 1
-          → ((j : ℕ) × (j < 8) × ((inRange (base + b) (base + meta j % 32) (leafCount (bit j) (meta j)) ≡ 1) × (passesSlot (nodeAt bytes v) (R .ray r) j ≡ true))) × (_≡_ {A = Bool} true true)
+      to : field 1 b (maskAt bytes R r v) ≡ 1 → PassedSlot (slotsAt bytes R n) r v (base + b)
       to z =
-          let q = position-bit-of (nodeAt bytes v) (R .ray r) (R .octant r) k (laws .octant-lt r f) (met k v e .slots) b l z in
-          let c = leaf-counts (bit (q .0)) (meta (q .0)) (q .1 .outer) in
-          ((q .0, q .1 .slot, (in-range (base + b) (base + meta (q .0) % 32) (leafCount (bit (q .0)) (meta (q .0))) (omega (arith, q .1 .from)) (omega (arith, q .1 .upto)), q .1 .passed)), refl)
+          let q = position-bit-of (slotTest bytes R r v) (nodeAt bytes v) (R .octant r) k (laws .octant-lt r f) (met k v e .slots) b l z in
+          let j = q .0 in
+          let c = leaf-counts (bit j) (meta j) (q .1 .outer) in
+          let g = in-range (base + b) (base + meta j % 32) (leafCount (bit j) (meta j)) (omega (arith, q .1 .from)) (omega (arith, q .1 .upto)) in
+          (j, q .1 .slot, (g, q .1 .passed))
 
-      from : ((j : ℕ) × (j < 8) × ((inRange (base + b) (base + meta j % 32) (leafCount (bit j) (meta j)) ≡ 1) × (passesSlot (nodeAt bytes v) (R .ray r) j ≡ true))) × (_≡_ {A = Bool} true true)
-          → field 1 b (maskAt bytes R r v) ≡ 1
+      from : PassedSlot (slotsAt bytes R n) r v (base + b) → field 1 b (maskAt bytes R r v) ≡ 1
       from q =
-          let j = q .0 .0 in
-          let g = range-stands (base + b) (base + meta j % 32) (leafCount (bit j) (meta j)) (omega (arith, q .0 .2 .0)) in
+          let j = q .0 in
+          let g = range-stands (base + b) (base + meta j % 32) (leafCount (bit j) (meta j)) (omega (arith, q .2 .0)) in
           let c = leaf-count (bit j) (meta j) (omega (arith, g .0, g .1)) in
-          position-bit-set (nodeAt bytes v) (R .ray r) (R .octant r) k (laws .octant-lt r f) (met k v e .slots) b j (q .0 .1) (c .0) (q .0 .2 .1) (omega (arith, g .0)) (omega (arith, g .1, c .1))
+          position-bit-set (slotTest bytes R r v) (nodeAt bytes v) (R .octant r) k (laws .octant-lt r f) (met k v e .slots) b j (q .1) (c .0)
+          (q .2 .1) (omega (arith, g .0)) (omega (arith, g .1, c .1))
 
 -- ---- words in range
 
@@ -134,7 +134,8 @@ module _ {s d : Type 0} (bytes : List ℕ) (R : Rays s d) (laws : RayLaws R) (n 
   mask-laws = record {
     octant-lt = laws .octant-lt;
     octant-told = laws .octant-told;
-    mask-lt = λ r v. mask-lt (nodeAt bytes v) (R .ray r) (R .octant r);
+    admits-told = laws .admits-told;
+    mask-lt = λ r v. mask-lt (slotTest bytes R r v) (nodeAt bytes v) (R .octant r);
     imask-lt = fit .imask;
     child-base-lt = fit .childBase;
     position-bit = λ r k v b f h e l. position-bit bytes R laws n r k v b f e l;

@@ -12,24 +12,33 @@ use Rattle.node.specs.Node.{nodeAt, noSlot}
 use Rattle.slot.specs.Mask.{passesSlot}
 use Rattle.hits.proofs.Reach.{LowerReach, lower-reach-passes-fewer}
 use Rattle.walk_record.specs.Beam.{Beam, reaching, toldBeam}
-use Rattle.walk_record.specs.Walk.{Reached, first, child, Passed}
+use Rattle.walk_record.specs.Walk.{ReachedBy, first, child, PassedBy, boxTest, Reached, Passed}
+
+-- a test of slots that passes no more than another reaches no more nodes, and passes no more positions
+module _ (bytes : List ℕ) (a b : ℕ → ℕ → Bool) (fewer : (v j : ℕ) → a v j ≡ true → b v j ≡ true) where
+  pub fewer-reached : (v : ℕ) → ReachedBy bytes a v → ReachedBy bytes b v
+  fewer-reached v (first e h) = first e h
+  fewer-reached v (child {v = u} j q l i p e) = child j (fewer-reached u q) l i (fewer u j p) e
+
+  pub fewer-passed : (admits : ℕ → Bool) (n p : ℕ) → PassedBy bytes n a admits p → PassedBy bytes n b admits p
+  fewer-passed admits n p q = record {
+    node = q .node;
+    reached = fewer-reached (q .node) (q .reached);
+    slot = q .slot;
+    holds = q .holds;
+    passes = fewer (q .node) (q .slot) (q .passes);
+    admitted = q .admitted;
+  }
 
 module _ (bytes : List ℕ) (r s : Ray) (lower : LowerReach r s) where
-  passed-slot : (v j : ℕ) → passesSlot (nodeAt bytes v) r j ≡ true → passesSlot (nodeAt bytes v) s j ≡ true
+  passed-slot : (v j : ℕ) → boxTest bytes r v j ≡ true → boxTest bytes s v j ≡ true
   passed-slot v j = lower-reach-passes-fewer (nodeAt bytes v) (getD (nodeAt bytes v .slots) j noSlot) r s lower
 
   pub lower-reach-reaches-fewer : (v : ℕ) → Reached bytes r v → Reached bytes s v
-  lower-reach-reaches-fewer v (first e h) = first e h
-  lower-reach-reaches-fewer v (child {v = u} j q l a b e) = child j (lower-reach-reaches-fewer u q) l a (passed-slot u j b) e
+  lower-reach-reaches-fewer = fewer-reached bytes (boxTest bytes r) (boxTest bytes s) passed-slot
 
   pub lower-reach-meets-fewer : (n p : ℕ) → Passed bytes n r p → Passed bytes n s p
-  lower-reach-meets-fewer n p q = record {
-    node = q .node;
-    reached = lower-reach-reaches-fewer (q .node) (q .reached);
-    slot = q .slot;
-    holds = q .holds;
-    passes = passed-slot (q .node) (q .slot) (q .passes);
-  }
+  lower-reach-meets-fewer = fewer-passed bytes (boxTest bytes r) (boxTest bytes s) passed-slot (λ p. true)
 
 -- ---- telling
 

@@ -9,7 +9,6 @@ use Rattle.walk.specs.Queries.{Reaction, Going}
 use Rattle.walk.specs.Slots.{positionsOf, childrenOf, testsOf}
 use Rattle.walk.specs.WordStep.{WalkerWords, stayWords, forgedWords, decodedStep, decoded, InRange, Decodes}
 use Rattle.walk.specs.WordQueries.{queryWords}
-use Rattle.walk.proofs.Slots.{slots-narrow}
 use Rattle.walk.proofs.Masks.{masks-decode}
 use Rattle.walk.proofs.WordStep.{step-decoded}
 use Rattle.walk.proofs.WordRuns
@@ -63,10 +62,11 @@ module _ {s d : Type 0} (bytes : List ℕ) (R : Rays s d) (laws : RayLaws R) (fi
   -- and, where there is a next one, lowers the number of steps left
   pub step-falls : (n : ℕ) (w : WalkerWords s) → InRange w → Going (stepAt bytes R n w .answer) → stepsLeftWords (nodeCount bytes) (stepAt bytes R n w .walker) < stepsLeftWords (nodeCount bytes) w
   unfolding stepAt
-  step-falls n w i = words-fall (nodeCount bytes) (nodeWordsAt bytes R) (positionsOf (slotsAt bytes R n)) (childrenOf (slotsAt bytes R n)) (decodes n) (slots-narrow (slotsAt bytes R n) (nodeCount bytes)) n w i
+  step-falls n w i = words-fall (nodeCount bytes) (nodeWordsAt bytes R) n w i
 
   -- so that a query with more steps than are left is always the same
   pub query-enough : {a : Type 0} (react : ℕ → s → a → Reaction d a) (f g n : ℕ) (w : WalkerWords s) (x : a) → InRange w → stepsLeftWords (nodeCount bytes) w < f → stepsLeftWords (nodeCount bytes) w < g
       → queryWords (nodeCount bytes) (nodeWordsAt bytes R) react f n w x ≡ queryWords (nodeCount bytes) (nodeWordsAt bytes R) react g n w x
   query-enough react f g n w x i h k =
-      query-words-enough (nodeCount bytes) (nodeWordsAt bytes R) (positionsOf (slotsAt bytes R n)) (childrenOf (slotsAt bytes R n)) (decodes n) (slots-narrow (slotsAt bytes R n) (nodeCount bytes)) react f g n w x i h k
+      query-words-enough (nodeCount bytes) (nodeWordsAt bytes R) (positionsOf (slotsAt bytes R n)) (childrenOf (slotsAt bytes R n))
+      (decodes n) react f g n w x i h k

@@ -1,10 +1,11 @@
 -- The ray that a walker holds, with its octant beside it, what telling does to it, and when it is forged (01, "Walking"; "Causes of refusal").
-use mathlib.Core.Bool.{Bool, not, _&&_, cond}
+use mathlib.Core.Bool.{Bool, true, false, not, _&&_, cond}
 use Prim.Native.Nat.{ℕ}
 use lib.Dec.{eqb}
 use lib.Ieee.{Float, lt, eq}
 use Rattle.ray.specs.declared.Ray.{Ray}
 use Rattle.ray.specs.Ray.{safeInverse, octantOf, acceptedRay}
+use Rattle.slot.specs.Mask.{passesSlot}
 use Rattle.walk_record.specs.Record.{Rays}
 
 pub record Beam : Type 0 where
@@ -32,5 +33,13 @@ reaching t r = record { origin = r .origin; direction = r .direction; inverse = 
 abbrev pub toldBeam : Float → Beam → Beam
 toldBeam t b = record { ray = cond (lt t (b .ray .tmax)) (reaching t (b .ray)) (b .ray); octant = b .octant }
 
+-- slots are passed by their boxes alone, and no position is passed over or absent
 abbrev pub beams : Rays Beam Float
-beams = record { ray = λ b. b .ray; octant = λ b. b .octant; told = toldBeam; forged = forgedBeam }
+beams = record {
+  passes = λ b v node j. passesSlot node (b .ray) j;
+  admits = λ b p. true;
+  absent = λ b p. false;
+  octant = λ b. b .octant;
+  told = toldBeam;
+  forged = forgedBeam;
+}

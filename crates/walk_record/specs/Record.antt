@@ -1,28 +1,37 @@
 -- What a walk reads of a record's bytes (01, "Walking"; "Words, bytes and bounds").
-use mathlib.Core.Bool.{Bool, true, false}
+use mathlib.Core.Bool.{Bool, false, not}
 use mathlib.Core.List.{List}
 use mathlib.Core.Path.{_≡_}
 use Prim.Native.Nat.{ℕ, _^_, _<_}
-use Rattle.ray.specs.declared.Ray.{Ray}
+use Rattle.node.specs.declared.Node.{Node}
 use Rattle.node.specs.Node.{nodeAt}
 use Rattle.rule.specs.Rule.{nodeRule}
-use Rattle.slot.specs.Mask.{passesSlot, hitMask}
+use Rattle.slot.specs.Mask.{hitMaskOf}
 use Rattle.record_shape.specs.Record.{nodeCount, shapeAt}
 use Rattle.walk.specs.Slots.{Slots}
 use Rattle.walk.specs.WordStep.{NodeWords}
 
 -- How a walker's ray is read: s is what it holds of one, d is what is told.
 pub record Rays (s d : Type 0) : Type 0 where
-  pub ray : s → Ray
+  -- `passes r v b j`: the ray passes slot j of node v, which is b
+  pub passes : s → ℕ → Node → ℕ → Bool
+  -- a position's own test, which passes over those that fail; and a position that is not there, whose report is refused
+  pub admits : s → ℕ → Bool
+  pub absent : s → ℕ → Bool
   pub octant : s → ℕ
   pub told : d → s → s
   pub forged : s → Bool
 
--- an octant is one of eight, and telling changes it as little as it makes a ray forged
+-- an octant is one of eight, and telling changes it and the tests of positions as little as it makes a ray forged
 pub record RayLaws {s d : Type 0} (R : Rays s d) : Type 0 where
   pub octant-lt : (r : s) → R .forged r ≡ false → R .octant r < 8
   pub octant-told : (x : d) (r : s) → R .octant (R .told x r) ≡ R .octant r
+  pub admits-told : (x : d) (r : s) → R .admits (R .told x r) ≡ R .admits r
   pub told-accepted : (x : d) (r : s) → R .forged r ≡ false → R .forged (R .told x r) ≡ false
+
+-- none of n positions is absent
+abbrev pub AllPresent : {s d : Type 0} → Rays s d → ℕ → Type 0
+AllPresent {s} R n = (r : s) (p : ℕ) → p < n → R .absent r p ≡ false
 
 -- Each node's imask is a byte and its child_base_idx a word of 32 bits, as in any list of bytes.
 pub record FieldsFit (bytes : List ℕ) : Type 0 where
@@ -30,7 +39,11 @@ pub record FieldsFit (bytes : List ℕ) : Type 0 where
   pub childBase : (v : ℕ) → v < nodeCount bytes → nodeAt bytes v .«child_base_idx» < 2 ^ 32
 
 module _ {s d : Type 0} (bytes : List ℕ) (R : Rays s d) where
-  -- the slots of a record of n positions; there is no test of single positions
+  -- which slots of which nodes the ray passes
+  abbrev pub slotTest : s → ℕ → ℕ → Bool
+  slotTest r v j = R .passes r v (nodeAt bytes v) j
+
+  -- the slots of a record of n positions
   abbrev pub slotsAt : ℕ → Slots s d
   slotsAt n = record {
     shape = shapeAt bytes n;
@@ -38,15 +51,16 @@ module _ {s d : Type 0} (bytes : List ℕ) (R : Rays s d) where
     positionBase = λ v. nodeAt bytes v .«primitive_base_idx»;
     rule = λ k v. nodeRule (nodeAt bytes v) (nodeCount bytes) k v;
     octant = R .octant;
-    passes = λ r v j. passesSlot (nodeAt bytes v) (R .ray r) j;
-    admits = λ r x. true;
+    passes = slotTest;
+    admits = R .admits;
+    absent = R .absent;
     told = R .told;
     forged = R .forged;
   }
 
   -- the hit mask of node v
   abbrev pub maskAt : s → ℕ → ℕ
-  maskAt r v = hitMask (nodeAt bytes v) (R .ray r) (R .octant r)
+  maskAt r v = hitMaskOf (slotTest r v) (nodeAt bytes v) (R .octant r)
 
   -- what a step in words reads
   abbrev pub nodeWordsAt : NodeWords s d
@@ -54,6 +68,8 @@ module _ {s d : Type 0} (bytes : List ℕ) (R : Rays s d) where
     rule = λ k v. nodeRule (nodeAt bytes v) (nodeCount bytes) k v;
     told = R .told;
     forged = R .forged;
+    absent = R .absent;
+    skips = λ r p. not (R .admits r p);
     octant = R .octant;
     mask = maskAt;
     imask = λ v. nodeAt bytes v .imask;

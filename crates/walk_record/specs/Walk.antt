@@ -1,5 +1,5 @@
 -- Steps, lists of calls and queries over a record as bytes, and what a ray reaches and passes there (01, "Walking").
-use mathlib.Core.Bool.{true}
+use mathlib.Core.Bool.{Bool, true}
 use mathlib.Core.List.{List, []}
 use mathlib.Core.Path.{_≡_}
 use Prim.Native.Nat.{ℕ, _<_}
@@ -41,16 +41,31 @@ module _ {s d : Type 0} (bytes : List ℕ) (R : Rays s d) where
   abbrev pub listingAt : ℕ → s → List ℕ
   listingAt n r = listing (nodeCount bytes) (testsOf (slotsAt bytes R n)) r 0
 
--- Node 0 is reached, and with a node each child in a slot that the ray passes (01, "Walking").
-pub data Reached (bytes : List ℕ) (ray : Ray) : ℕ → Type 0 where
-  first : {v : ℕ} → v ≡ 0 → 0 < nodeCount bytes → Reached bytes ray v
-  child : {v c : ℕ} (j : ℕ) → Reached bytes ray v → j < 8 → innerBit (nodeAt bytes v .imask) j ≡ 1 → passesSlot (nodeAt bytes v) ray j ≡ true
-      → c ≡ childIndex (nodeAt bytes v .«child_base_idx») (nodeAt bytes v .imask) j → Reached bytes ray c
+-- ---- in the words of the demand, for any test of slots and of positions
 
--- p is passed: it stands in a slot that the ray passes, in a reached node.
-pub record Passed (bytes : List ℕ) (n : ℕ) (ray : Ray) (p : ℕ) : Type 0 where
+-- Node 0 is reached, and with a node each child in a slot that passes.
+pub data ReachedBy (bytes : List ℕ) (test : ℕ → ℕ → Bool) : ℕ → Type 0 where
+  first : {v : ℕ} → v ≡ 0 → 0 < nodeCount bytes → ReachedBy bytes test v
+  child : {v c : ℕ} (j : ℕ) → ReachedBy bytes test v → j < 8 → innerBit (nodeAt bytes v .imask) j ≡ 1 → test v j ≡ true
+      → c ≡ childIndex (nodeAt bytes v .«child_base_idx») (nodeAt bytes v .imask) j → ReachedBy bytes test c
+
+-- p is passed: it stands in a slot that passes, in a reached node, and passes itself.
+pub record PassedBy (bytes : List ℕ) (n : ℕ) (test : ℕ → ℕ → Bool) (admits : ℕ → Bool) (p : ℕ) : Type 0 where
   pub node : ℕ
-  pub reached : Reached bytes ray node
+  pub reached : ReachedBy bytes test node
   pub slot : ℕ
   pub holds : Holds (shapeAt bytes n) node slot p
-  pub passes : passesSlot (nodeAt bytes node) ray slot ≡ true
+  pub passes : test node slot ≡ true
+  pub admitted : admits p ≡ true
+
+-- ---- by boxes alone
+
+-- the ray passes slot j of node v
+abbrev pub boxTest : List ℕ → Ray → ℕ → ℕ → Bool
+boxTest bytes ray v j = passesSlot (nodeAt bytes v) ray j
+
+abbrev pub Reached : List ℕ → Ray → ℕ → Type 0
+Reached bytes ray = ReachedBy bytes (boxTest bytes ray)
+
+abbrev pub Passed : List ℕ → ℕ → Ray → ℕ → Type 0
+Passed bytes n ray = PassedBy bytes n (boxTest bytes ray) (λ p. true)

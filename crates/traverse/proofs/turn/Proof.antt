@@ -1,4 +1,4 @@
-use mathlib.Core.Path.{_≡_, refl, _∙_}
+use mathlib.Core.Path.{refl, _∙_}
 use native.Mathlib.Omega.{arith}
 use Rattle.record_shape.specs.Record.{nodeCount}
 use Rattle.walk_record.specs.Beam.{beams}
@@ -17,7 +17,9 @@ returns : tie.Need-returns
 returns c =
     let a = c .before .before .before .before .args in
     c .report .ensures (a .ray) (a .octant) (a .stack .now)
-    ∙ report-due (a .n) (walkerOf (a .ray) (a .octant) (a .walk) (a .stack .now)) (nodeCount (a .«record» .now)) (nodeWordsAt (a .«record» .now) beams) (c .before .if1 .taken)
+    ∙ report-due (a .n) (walkerOf (a .ray) (a .octant) (a .walk) (a .stack .now)) (nodeCount (a .«record» .now))
+    (nodeWordsAt (a .«record» .now) beams) refl refl
+    (c .before .if1 .taken)
 
 near-ends-requires : tie.Need-near-ends-requires
 near-ends-requires c κs = search needs
