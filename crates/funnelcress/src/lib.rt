@@ -220,15 +220,9 @@ fn any_hit_number(answer: AnyHit) -> u64
     ensures { λ r. ⌜ r ≡ anyHitNumber (anyHitAnswer answer) ⌝ }
 {
     match answer {
-        AnyHit::Listed(count, tests) => {
-            return query_number(tests, 0, count);
-        }
-        AnyHit::Short(needed) => {
-            return query_number(0, 1, needed);
-        }
-        AnyHit::Refused(number) => {
-            return refusal_number(number);
-        }
+        AnyHit::Listed(count, tests) => return query_number(tests, 0, count),
+        AnyHit::Short(needed) => return query_number(0, 1, needed),
+        AnyHit::Refused(number) => return refusal_number(number),
     }
 }
 
@@ -258,12 +252,8 @@ fn closest_number(found: ClosestFound, out: &mut [f32]) -> u64
             out[0] = t;
             return query_number(found.tests, 0, p);
         }
-        ClosestHit::NoHit => {
-            return query_number(found.tests, 1, 0);
-        }
-        ClosestHit::Refused(number) => {
-            return refusal_number(number);
-        }
+        ClosestHit::NoHit => return query_number(found.tests, 1, 0),
+        ClosestHit::Refused(number) => return refusal_number(number),
     }
 }
 
@@ -323,15 +313,9 @@ fn miss_number(found: MissFound) -> u64
 {
     let answer = found.answer;
     match answer {
-        Occlusion::Missed => {
-            return query_number(found.tests, 0, 0);
-        }
-        Occlusion::Blocked => {
-            return query_number(found.tests, 1, 0);
-        }
-        Occlusion::Refused(number) => {
-            return refusal_number(number);
-        }
+        Occlusion::Missed => return query_number(found.tests, 0, 0),
+        Occlusion::Blocked => return query_number(found.tests, 1, 0),
+        Occlusion::Refused(number) => return refusal_number(number),
     }
 }
 
