@@ -1,4 +1,5 @@
 //! Rows: calls timed in turn, and what is printed of them.
+use std::hint::black_box;
 
 const RUNS: usize = 31;
 
@@ -50,14 +51,17 @@ fn once() -> bool {
     std::env::args().any(|a| a == "once")
 }
 
+/// Functions by whose names a profile tells the sides of a row; each has a number of its own, so that they are not merged.
 #[inline(never)]
 fn ours_once(f: &mut dyn FnMut()) {
     f();
+    black_box(0);
 }
 
 #[inline(never)]
 fn rust_once(f: &mut dyn FnMut()) {
     f();
+    black_box(1);
 }
 
 /// Runs both in turn and prints the row: the time of ours over the Rust's, and the best time of each for one of the `items`

@@ -9,7 +9,8 @@ use borrow.Author.Tests.{leb-false}
 use Rattle.faststack.specs.Stack.{hasRoom, topOf}
 use Rattle.walk.specs.Step.{Answer, tested, position, done, refused, sizesFit, badPosition}
 use Rattle.walk.specs.Words.{Group, unpacked, restOf, firstPosition, firstChild, hasChild, waitingDepth}
-use Rattle.walk.specs.WordStep.{WalkerWords, SteppedWords, NodeWords, tellWords, forgedWords, onlyFirstWords, badChild, reportWords, visitWords, popWords, advanceWords, stepWords}
+use Rattle.walk.specs.WordStep.{WalkerWords, SteppedWords, NodeWords, tellWords, forgedWords, onlyFirstWords, badChild}
+use Rattle.walk.specs.WordStep.{reportWords, visitWords, popWords, advanceWords, stepWords}
 use Rattle.walk.specs.Queries.{Reaction}
 use Rattle.walk.specs.WordQueries.{OutcomeWords, toldAllWords, followWords, queryWords}
 use Rattle.walk.proofs.Cases.{cond-elim, or-false}
@@ -43,7 +44,8 @@ module _ {s d : Type 0} (m : ℕ) (N : NodeWords s d) (n : ℕ) where
         (λ _. cond-elim Few (forgedWords m N w) _ _ (λ _. (h, omega arith))
         (λ _. cond-elim Few (leb m 0 && onlyFirstWords m N w) _ _ (λ _. (h, tt))
         (λ _. cond-elim Few (ltb 0 (w .positions .bits)) _ _
-        (λ _. cond-elim Few (badPosition n (firstPosition (w .positions))) _ _ (λ _. (h, omega arith)) (λ b. (h, leb-false n (firstPosition (w .positions)) b)))
+        (λ _. cond-elim Few (badPosition n (firstPosition (w .positions))) _ _ (λ _. (h, omega arith))
+        (λ b. (h, leb-false n (firstPosition (w .positions)) b)))
         (λ _. cond-elim Few (hasChild (w .current)) _ _ (λ _. visit-few (w .current) (w .depth))
         (λ _. cond-elim Few (ltb 0 (waitingDepth (w .stack) (w .depth))) _ _
         (λ _. visit-few (unpacked (topOf (w .stack) (waitingDepth (w .stack) (w .depth)))) _) (λ _. (h, tt)))))))
@@ -71,7 +73,8 @@ module _ {s d : Type 0} (m : ℕ) (N : NodeWords s d) (n : ℕ) where
     query-few (suc f) w x h q = go (stepWords m N n w .answer) (stepWords m N n w .walker) (step-few w h .0) (step-few w h .1) (query-few f)
       where
         go : (b : Answer) (u : WalkerWords s) → u .tests ≤ m → Below n b
-            → ((v : WalkerWords s) (y : a) → v .tests ≤ m → Q f y → Ends (queryWords m N react f n v y)) → Ends (followWords m N react b u x (queryWords m N react f n))
+            → ((v : WalkerWords s) (y : a) → v .tests ≤ m → Q f y → Ends (queryWords m N react f n v y))
+            → Ends (followWords m N react b u x (queryWords m N react f n))
         go (tested c) u k l on = on u x k (drops f x q)
         go (position p) u k l on =
             let r : Reaction d a = react p (u .ray) x in

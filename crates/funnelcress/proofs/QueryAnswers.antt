@@ -13,7 +13,8 @@ use Rattle.query.specs.Entry.{entryCause}
 use Rattle.any_hit.specs.AnyHit.{Answer, refused, anyHitOf, listAfter}
 use Rattle.closest.specs.Panes.{Result, ClosestAnswer, refusedClosest, MissAnswer, refusedMiss, paneCause, closestOf, missOf}
 use Rattle.funnelcress.specs.Lists.{rayAt}
-use Rattle.funnelcress.specs.Queries.{ofEight, anyHitBy, listBy, shortCause, closestIn, closestBy, distanceIn, missBy, anyHitNumber, closestNumber, missNumber}
+use Rattle.funnelcress.specs.Queries.{ofEight, anyHitBy, listBy, shortCause, closestIn, closestBy, distanceIn, missBy}
+use Rattle.funnelcress.specs.Queries.{anyHitNumber, closestNumber, missNumber}
 
 module _ (ray : List Float) where
   -- a ray made again of what the calls are given
@@ -39,13 +40,15 @@ module _ (ray : List Float) where
     unfolding listBy
     list-unfit list h = unfit list (listAfter bytes n (rayAt ray) list) h
 
-    pub any-hit-fit : (r : Ray) → length ray ≡ 8 → r ≡ rayAt ray → (number : ℕ) (a : Answer) (room : ℕ) → number ≡ anyHitNumber a → a ≡ anyHitOf bytes n (again r) room
+    pub any-hit-fit : (r : Ray) → length ray ≡ 8 → r ≡ rayAt ray
+        → (number : ℕ) (a : Answer) (room : ℕ) → number ≡ anyHitNumber a → a ≡ anyHitOf bytes n (again r) room
         → number ≡ anyHitNumber (anyHitBy bytes n ray room)
     unfolding anyHitBy
     any-hit-fit r g e number a room i j =
         i ∙ ap anyHitNumber (j ∙ ap (λ (x : Ray). anyHitOf bytes n x room) (same-ray r e) ∙ fit (refused 1) (anyHitOf bytes n (rayAt ray) room) g)
 
-    pub list-fit : (r : Ray) → length ray ≡ 8 → r ≡ rayAt ray → (after list : List ℕ) → after ≡ listAfter bytes n (again r) list → after ≡ listBy bytes n ray list
+    pub list-fit : (r : Ray) → length ray ≡ 8 → r ≡ rayAt ray → (after list : List ℕ) → after ≡ listAfter bytes n (again r) list
+        → after ≡ listBy bytes n ray list
     unfolding listBy
     list-fit r g e after list j = j ∙ ap (λ (x : Ray). listAfter bytes n x list) (same-ray r e) ∙ fit list (listAfter bytes n (rayAt ray) list) g
 
@@ -54,7 +57,8 @@ module _ (ray : List Float) where
 
     abbrev Closes : ℕ → List Float → List Float → Type 0
     Closes number after out =
-        (number ≡ closestNumber (closestBy (length out) bytes indices panes ray)) × (after ≡ distanceIn (closestBy (length out) bytes indices panes ray .answer) out)
+        (number ≡ closestNumber (closestBy (length out) bytes indices panes ray))
+        × (after ≡ distanceIn (closestBy (length out) bytes indices panes ray .answer) out)
 
     closes : (number : ℕ) (after out : List Float) (a : Result ClosestAnswer) → number ≡ closestNumber a → after ≡ distanceIn (a .answer) out
         → a ≡ closestBy (length out) bytes indices panes ray → Closes number after out
@@ -66,7 +70,8 @@ module _ (ray : List Float) where
         closes number out out (record { answer = refusedClosest 1; tests = 0 }) e refl (unfit _ (closestIn (length out) bytes indices panes ray) h)
 
     -- no float is lent
-    pub closest-short : (r : Ray) → length ray ≡ 8 → r ≡ rayAt ray → (number cause k : ℕ) (out : List Float) → length out ≡ 0 → cause ≡ entryCause (eqb (length panes % 6) 0) (length bytes) (length indices) r
+    pub closest-short : (r : Ray) → length ray ≡ 8 → r ≡ rayAt ray → (number cause k : ℕ) (out : List Float) → length out ≡ 0
+        → cause ≡ entryCause (eqb (length panes % 6) 0) (length bytes) (length indices) r
         → k ≡ shortCause cause → number ≡ 0x2_0000_0000 + k → Closes number out out
     unfolding closestBy closestNumber distanceIn closestIn
     closest-short r g e number cause k out z c s i =
@@ -80,7 +85,8 @@ module _ (ray : List Float) where
     some zero h = absurd (h refl)
     some (suc room) h = refl
 
-    pub closest-fit : (r : Ray) → length ray ≡ 8 → r ≡ rayAt ray → (number : ℕ) (after out : List Float) (a : Result ClosestAnswer) → (length out ≡ 0 → ⊥) → a ≡ closestOf bytes indices panes (again r)
+    pub closest-fit : (r : Ray) → length ray ≡ 8 → r ≡ rayAt ray
+        → (number : ℕ) (after out : List Float) (a : Result ClosestAnswer) → (length out ≡ 0 → ⊥) → a ≡ closestOf bytes indices panes (again r)
         → number ≡ closestNumber a → after ≡ distanceIn (a .answer) out → Closes number after out
     unfolding closestBy
     closest-fit r g e number after out a z c i j =
@@ -93,8 +99,12 @@ module _ (ray : List Float) where
     unfolding missBy missNumber
     miss-unfit number e h = e ∙ ap missNumber (unfit (record { answer = refusedMiss 1; tests = 0 }) (missOf bytes indices panes (rayAt ray)) h)
 
-    pub miss-fit : (r : Ray) → length ray ≡ 8 → r ≡ rayAt ray → (number : ℕ) (a : Result MissAnswer) → number ≡ missNumber a → a ≡ missOf bytes indices panes (again r)
+    pub miss-fit : (r : Ray) → length ray ≡ 8 → r ≡ rayAt ray
+        → (number : ℕ) (a : Result MissAnswer) → number ≡ missNumber a → a ≡ missOf bytes indices panes (again r)
         → number ≡ missNumber (missBy bytes indices panes ray)
     unfolding missBy
     miss-fit r g e number a i j =
-        i ∙ ap missNumber (j ∙ ap (missOf bytes indices panes) (same-ray r e) ∙ fit (record { answer = refusedMiss 1; tests = 0 }) (missOf bytes indices panes (rayAt ray)) g)
+        i
+        ∙ ap missNumber
+        (j ∙ ap (missOf bytes indices panes) (same-ray r e)
+        ∙ fit (record { answer = refusedMiss 1; tests = 0 }) (missOf bytes indices panes (rayAt ray)) g)

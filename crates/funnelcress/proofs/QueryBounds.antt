@@ -50,8 +50,8 @@ fitted-fits count tests room t c = go (leb count room)
     go true = (t, c)
     go false = (refl, c)
 
-walked-fits : (n : ℕ) (o : OutcomeWords Beam (List ℕ)) (e : S.Answer) (room : ℕ) → o .walker .tests ≤ 65535 → length (o .noted) < 0x1_0000_0000 → Below n e
-    → AnyHitFits (H.walked o e room)
+walked-fits : (n : ℕ) (o : OutcomeWords Beam (List ℕ)) (e : S.Answer) (room : ℕ) → o .walker .tests ≤ 65535
+    → length (o .noted) < 0x1_0000_0000 → Below n e → AnyHitFits (H.walked o e room)
 unfolding H.walked AnyHitFits
 walked-fits n o (S.tested v) room t c l = omega arith
 walked-fits n o (S.position p) room t c l = omega arith
@@ -90,7 +90,8 @@ Small (fault k) = k ≤ 11
 module _ {A : Type 0} (F : P.Result A → Type 0) (refuse : ℕ → A) (found : Found Float → ℕ → P.Result A)
     (refuses : (k : ℕ) → k ≤ 11 → F (record { answer = refuse k; tests = 0 }))
     (finds : (x : Found Float) (tests : ℕ) → Small x → tests ≤ 65535 → F (found x tests)) where
-  ended-fits : (n : ℕ) (o : OutcomeWords Beam (Found Float)) (e : S.Answer) → o .walker .tests ≤ 65535 → Below n e → Small (o .noted) → F (P.walked refuse found o e)
+  ended-fits : (n : ℕ) (o : OutcomeWords Beam (Found Float)) (e : S.Answer) → o .walker .tests ≤ 65535 → Below n e → Small (o .noted)
+      → F (P.walked refuse found o e)
   unfolding P.walked
   ended-fits n o (S.tested v) t l x = refuses 10 (omega arith)
   ended-fits n o (S.position p) t l x = finds (o .noted) (o .walker .tests) x t
@@ -125,7 +126,8 @@ module _ (indices : List ℕ) (panes : List Float) where
   unfolding P.paneOf P.paneMet
   pane-faults p b = go (ltb (getD indices p 0) (length panes / 6)) (acceptedBox (P.paneBox panes (getD indices p 0)))
     where
-      go : (there accepted : Bool) → Faults (cond there (cond accepted (distance (entryDistance (P.paneBox panes (getD indices p 0)) (b .ray))) (faulty 6)) (faulty 10))
+      go : (there accepted : Bool)
+          → Faults (cond there (cond accepted (distance (entryDistance (P.paneBox panes (getD indices p 0)) (b .ray))) (faulty 6)) (faulty 10))
       go false accepted = omega arith
       go true false = omega arith
       go true true = tt
@@ -152,7 +154,8 @@ module _ (bytes indices : List ℕ) (panes : List Float) (r : Ray) where
   pub closest-fits : ClosestFits (P.closestOf bytes indices panes r)
   unfolding ClosestFits P.closestOf P.closestWalk P.closestFound
   closest-fits =
-      query-fits ClosestFits P.refusedClosest P.closestFound (λ k l. (refl, l)) finds bytes indices panes r (closest (P.paneOf indices panes) P.nearer) (closest-small indices panes)
+      query-fits ClosestFits P.refusedClosest P.closestFound (λ k l. (refl, l)) finds
+      bytes indices panes r (closest (P.paneOf indices panes) P.nearer) (closest-small indices panes)
     where
       finds : (x : Found Float) (tests : ℕ) → Small x → tests ≤ 65535 → ClosestFits (P.closestFound x tests)
       finds none tests h t = t
@@ -162,7 +165,8 @@ module _ (bytes indices : List ℕ) (panes : List Float) (r : Ray) where
   pub miss-fits : MissFits (P.missOf bytes indices panes r)
   unfolding MissFits P.missOf P.missWalk P.missFound
   miss-fits =
-      query-fits MissFits P.refusedMiss P.missFound (λ k l. (refl, l)) finds bytes indices panes r (miss (P.paneOf indices panes) P.nearer) (miss-small indices panes)
+      query-fits MissFits P.refusedMiss P.missFound (λ k l. (refl, l)) finds
+      bytes indices panes r (miss (P.paneOf indices panes) P.nearer) (miss-small indices panes)
     where
       finds : (x : Found Float) (tests : ℕ) → Small x → tests ≤ 65535 → MissFits (P.missFound x tests)
       finds none tests h t = t
@@ -174,7 +178,8 @@ module _ (bytes indices : List ℕ) (panes : List Float) (r : Ray) where
 pub any-hit-number-fits : (bytes : List ℕ) (n : ℕ) (ray : List Float) (room : ℕ) → AnyHitFits (anyHitBy bytes n ray room)
 unfolding AnyHitFits anyHitBy
 any-hit-number-fits bytes n ray room =
-    cond-elim AnyHitFits (eqb (length ray) 8) (H.anyHitOf bytes n (rayAt ray) room) (H.refused 1) (λ _. any-hit-fits bytes n (rayAt ray) room) (λ _. omega arith)
+    cond-elim AnyHitFits (eqb (length ray) 8) (H.anyHitOf bytes n (rayAt ray) room) (H.refused 1)
+    (λ _. any-hit-fits bytes n (rayAt ray) room) (λ _. omega arith)
 
 short-most : (cause : ℕ) → shortCause cause ≤ 11
 unfolding shortCause

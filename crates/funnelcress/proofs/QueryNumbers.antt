@@ -9,13 +9,15 @@ use borrow.Author.Tests.{le-ltb, lt-ltb}
 use Rattle.any_hit.specs.AnyHit.{Answer, listed, refused, lacking, answerOf}
 use Rattle.any_hit.specs.declared.AnyHit.{AnyHit}
 use Rattle.any_hit.specs.declared.AnyHit.the-variants as A
-use Rattle.closest.specs.Panes.{Result, ClosestAnswer, hitAt, noHit, refusedClosest, MissAnswer, missed, blocked, refusedMiss, closestAnswer, closestResult, missAnswer, missResult}
+use Rattle.closest.specs.Panes.{Result, ClosestAnswer, hitAt, noHit, refusedClosest, MissAnswer, missed, blocked, refusedMiss}
+use Rattle.closest.specs.Panes.{closestAnswer, closestResult, missAnswer, missResult}
 use Rattle.closest.specs.declared.ClosestHit.{ClosestHit}
 use Rattle.closest.specs.declared.ClosestHit.the-variants as C
 use Rattle.closest.specs.declared.ClosestFound.{ClosestFound}
 use Rattle.closest.specs.declared.Occlusion.the-variants as M
 use Rattle.closest.specs.declared.MissFound.{MissFound}
-use Rattle.funnelcress.specs.Queries.{numberOf, anyHitNumber, closestNumber, missNumber, distanceIn, shortCause, AnyHitFits, ClosestFits, MissFits}
+use Rattle.funnelcress.specs.Queries.{numberOf, anyHitNumber, closestNumber, missNumber}
+use Rattle.funnelcress.specs.Queries.{distanceIn, shortCause, AnyHitFits, ClosestFits, MissFits}
 
 -- ---- any-hit
 
@@ -100,7 +102,8 @@ closest-apart a b x out = go (a .answer) (a .tests) (b .answer) (b .tests)
     first : List Float → Float
     first l = getD l 0 nan
 
-    go : (a : ClosestAnswer) (t : ℕ) (b : ClosestAnswer) (u : ℕ) → ClosestFits (found a t) → ClosestFits (found b u) → closestNumber (found a t) ≡ closestNumber (found b u)
+    go : (a : ClosestAnswer) (t : ℕ) (b : ClosestAnswer) (u : ℕ) → ClosestFits (found a t) → ClosestFits (found b u)
+        → closestNumber (found a t) ≡ closestNumber (found b u)
         → distanceIn a (x ∷ out) ≡ distanceIn b (x ∷ out) → found a t ≡ found b u
     go (hitAt p d) t (hitAt q e) u h k n l = let i : p ≡ q = omega arith in ap₂ found (ap₂ hitAt i (ap first l)) (omega arith)
     go (hitAt p d) t noHit u h k n l = absurd (omega arith)
@@ -156,7 +159,8 @@ pub miss-apart : (a b : Result MissAnswer) → MissFits a → MissFits b → mis
 unfolding missNumber MissFits
 miss-apart a b = go (a .answer) (a .tests) (b .answer) (b .tests)
   where
-    go : (a : MissAnswer) (t : ℕ) (b : MissAnswer) (u : ℕ) → MissFits (found a t) → MissFits (found b u) → missNumber (found a t) ≡ missNumber (found b u) → found a t ≡ found b u
+    go : (a : MissAnswer) (t : ℕ) (b : MissAnswer) (u : ℕ) → MissFits (found a t) → MissFits (found b u)
+        → missNumber (found a t) ≡ missNumber (found b u) → found a t ≡ found b u
     go missed t missed u h k n = ap (found missed) (omega arith)
     go missed t blocked u h k n = absurd (omega arith)
     go missed t (refusedMiss j) u h k n = absurd (omega arith)

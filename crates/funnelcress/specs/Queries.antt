@@ -7,7 +7,8 @@ use lib.Dec.{eqb, ltb}
 use lib.ListN.{length, set}
 use lib.Ieee.{Float}
 use Rattle.any_hit.specs.AnyHit.{Answer, listed, refused, lacking, anyHitOf, listAfter}
-use Rattle.closest.specs.Panes.{Result, ClosestAnswer, hitAt, noHit, refusedClosest, MissAnswer, missed, blocked, refusedMiss, paneCause, closestOf, missOf}
+use Rattle.closest.specs.Panes.{Result, ClosestAnswer, hitAt, noHit, refusedClosest, MissAnswer, missed, blocked, refusedMiss}
+use Rattle.closest.specs.Panes.{paneCause, closestOf, missOf}
 use Rattle.funnelcress.specs.Lists.{rayAt}
 
 -- a ray is eight floats; a list of another length is refused 1, before anything else

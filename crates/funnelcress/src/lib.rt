@@ -1,5 +1,5 @@
 // The library for C and Rust: each function is exported under its name. Numbers that are returned are those of
-// refusals, 0 for none, but the record check's and conversion's, which also hold what they answer.
+// refusals, 0 for none, but the record check's, conversion's and the queries', which also hold what they answer.
 ghost use mathlib.Core.Path.{_≡_};
 ghost use Prim.Native.Nat.{_+_, _*_, _/_, _≤_, _<_};
 ghost use lib.ListN.{length};
@@ -11,7 +11,8 @@ ghost use Rattle.funnelcress.specs.Answers.{answerNumber};
 ghost use Rattle.funnelcress.specs.Converted.{conversionBy, conversionNumber};
 ghost use Rattle.any_hit.specs.AnyHit.{answerOf as anyHitAnswer};
 ghost use Rattle.closest.specs.Panes.{closestAnswer, closestResult, missResult};
-ghost use Rattle.funnelcress.specs.Queries.{anyHitBy, listBy, closestBy, distanceIn, missBy, shortCause, numberOf, anyHitNumber, closestNumber, missNumber, AnyHitFits, ClosestFits, MissFits};
+ghost use Rattle.funnelcress.specs.Queries.{anyHitBy, listBy, closestBy, distanceIn, missBy, shortCause};
+ghost use Rattle.funnelcress.specs.Queries.{numberOf, anyHitNumber, closestNumber, missNumber, AnyHitFits, ClosestFits, MissFits};
 ghost use Rattle.funnelcress.specs.Lists.{vecAt, boxAt, rayAt, filled, areaAt, entryAt, refusal, rayRefusal, answered};
 use aabb::Aabb;
 use any_hit::AnyHit;
@@ -226,8 +227,8 @@ fn any_hit_number(answer: AnyHit) -> u64
     }
 }
 
-// Any-hit for a ray of eight floats: node tests, the kind of answer, and below 2^32 how many positions are listed, the length that a short list wants, or
-// the number of a refusal. The positions are at the front of the list.
+// Any-hit for a ray of eight floats: node tests, the kind of answer, and below 2^32 how many positions are listed, the length that
+// a short list wants, or the number of a refusal. The positions are at the front of the list.
 #[no_mangle]
 pub extern "C" fn funnelcress_any_hit(record: &[u8], n: usize, ray: &[f32], list: &mut [u32]) -> u64
     ensures { λ r. ⌜ r ≡ anyHitNumber (anyHitBy (now («record» .entry)) n (now (ray .entry)) (length (now (list .entry)))) ⌝ }
@@ -270,8 +271,8 @@ fn short_cause(cause: u32) -> u32
     4
 }
 
-// Closest for a ray of eight floats: node tests, the kind of answer, and below 2^32 the position of a hit or the number of a refusal. The distance of a hit
-// is the first float of `out`, which has at least one.
+// Closest for a ray of eight floats: node tests, the kind of answer, and below 2^32 the position of a hit or the number of a
+// refusal. The distance of a hit is the first float of `out`, which has at least one.
 #[no_mangle]
 pub extern "C" fn funnelcress_closest(
     record: &[u8],
@@ -280,8 +281,10 @@ pub extern "C" fn funnelcress_closest(
     ray: &[f32],
     out: &mut [f32],
 ) -> u64
-    ensures { λ r. ⌜ r ≡ closestNumber (closestBy (length (now (out .entry))) (now («record» .entry)) (now (indices .entry)) (now (panes .entry)) (now (ray .entry))) ⌝ }
-    ensures { λ _. ⌜ now (out .exit) ≡ distanceIn (closestBy (length (now (out .entry))) (now («record» .entry)) (now (indices .entry)) (now (panes .entry)) (now (ray .entry)) .answer) (now (out .entry)) ⌝ }
+    ensures { λ r. ⌜ r ≡ closestNumber (closestBy (length (now (out .entry))) (now («record» .entry)) (now (indices .entry))
+        (now (panes .entry)) (now (ray .entry))) ⌝ }
+    ensures { λ _. ⌜ now (out .exit) ≡ distanceIn (closestBy (length (now (out .entry))) (now («record» .entry)) (now (indices .entry))
+        (now (panes .entry)) (now (ray .entry)) .answer) (now (out .entry)) ⌝ }
 {
     if ray.len() != 8 {
         return refusal_number(1);

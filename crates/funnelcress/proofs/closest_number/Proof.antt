@@ -1,6 +1,7 @@
 use mathlib.Core.Path.{_∙_}
 use native.Mathlib.Omega.{arith}
-use Rattle.funnelcress.proofs.QueryNumbers.{number-hit, number-no-hit, number-refused-closest, hit-out, no-hit-out, refused-out, hit-tests, no-hit-tests}
+use Rattle.funnelcress.proofs.QueryNumbers.{number-hit, number-no-hit, number-refused-closest}
+use Rattle.funnelcress.proofs.QueryNumbers.{hit-out, no-hit-out, refused-out, hit-tests, no-hit-tests}
 use borrow.Author.Needs.{needs}
 use Rattle.funnelcress.proofs.closest_number.Statement.{statement}
 use Rattle.funnelcress.proofs.closest_number.Tie as tie
@@ -18,7 +19,8 @@ same-length : tie.Need-same-length
 same-length c = search needs
 
 returns : tie.Need-returns
-returns c = (c .query-number .ensures ∙ number-hit _ _ _ (c .before .before .answer .given .1), hit-out _ _ _ _ (c .before .before .answer .given .1))
+returns c =
+    let e = c .before .before .answer .given .1 in (c .query-number .ensures ∙ number-hit _ _ _ e, hit-out _ _ _ _ e)
 
 enum-told : tie.Need-enum-told
 enum-told c = search needs
@@ -36,7 +38,8 @@ refusal-number-requires : tie.Need-refusal-number-requires
 refusal-number-requires c κs = search needs
 
 returns-3 : tie.Need-returns-3
-returns-3 c = (c .refusal-number .ensures ∙ number-refused-closest _ _ (c .before .before .answer2 .given .1), refused-out _ _ _ (c .before .before .answer2 .given .1))
+returns-3 c =
+    let e = c .before .before .answer2 .given .1 in (c .refusal-number .ensures ∙ number-refused-closest _ _ e, refused-out _ _ _ e)
 
 pub closest-number-spec : {M : Type 1} → statement M
 closest-number-spec =

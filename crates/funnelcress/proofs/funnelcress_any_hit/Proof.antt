@@ -28,7 +28,9 @@ returns-2 : tie.Need-returns-2
 returns-2 c =
     let h = c .before .before .before in
     let r = h .before .before in
-    (any-hit-fit _ _ _ _ (r .before .if1 .left) (r .ray-at .ensures) _ _ _ (c .any-hit-number .ensures) (h .any-hit .ensures .0), list-fit _ _ _ _ (r .before .if1 .left) (r .ray-at .ensures) _ _ (h .any-hit .ensures .1))
+    let g = r .before .if1 .left in
+    let e = r .ray-at .ensures in
+    (any-hit-fit _ _ _ _ g e _ _ _ (c .any-hit-number .ensures) (h .any-hit .ensures .0), list-fit _ _ _ _ g e _ _ (h .any-hit .ensures .1))
 
 pub funnelcress-any-hit-spec : {M : Type 1} → statement M
 funnelcress-any-hit-spec =

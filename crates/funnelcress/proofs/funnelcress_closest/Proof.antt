@@ -30,13 +30,15 @@ returns-2 c =
     let s = c .before in
     let k = s .before in
     let r = k .before .before in
-    closest-short _ _ _ _ _ (r .before .if1 .left) (r .ray-at .ensures) _ _ _ _ (k .before .if2 .taken) (k .entry-cause .ensures) (s .short-cause .ensures) (c .refusal-number2 .ensures)
+    closest-short _ _ _ _ _ (r .before .if1 .left) (r .ray-at .ensures) _ _ _ _
+    (k .before .if2 .taken) (k .entry-cause .ensures) (s .short-cause .ensures) (c .refusal-number2 .ensures)
 
 closest-requires : tie.Need-closest-requires
 closest-requires c κs = search needs
 
 closest-number-requires : tie.Need-closest-number-requires
-closest-number-requires c κs = (subst ClosestFits (sym (c .before .closest .ensures)) (closest-fits _ _ _ _), omega (arith, c .before .before .if2 .left))
+closest-number-requires c κs =
+    (subst ClosestFits (sym (c .before .closest .ensures)) (closest-fits _ _ _ _), omega (arith, c .before .before .if2 .left))
 
 same-length : tie.Need-same-length
 same-length c = search needs
@@ -46,7 +48,8 @@ returns-3 c =
     let n = c .before .before in
     let h = n .before .before in
     let r = h .before .before in
-    closest-fit _ _ _ _ _ (r .before .if1 .left) (r .ray-at .ensures) _ _ _ _ (h .before .if2 .left) (h .closest .ensures) (n .closest-number .ensures .0) (n .closest-number .ensures .1)
+    closest-fit _ _ _ _ _ (r .before .if1 .left) (r .ray-at .ensures) _ _ _ _
+    (h .before .if2 .left) (h .closest .ensures) (n .closest-number .ensures .0) (n .closest-number .ensures .1)
 
 pub funnelcress-closest-spec : {M : Type 1} → statement M
 funnelcress-closest-spec =
