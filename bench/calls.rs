@@ -27,6 +27,38 @@ unsafe extern "C" {
         list: *mut u32,
         list_len: usize,
     ) -> u64;
+    fn funnelcress_any_hit(
+        record: *const u8,
+        record_len: usize,
+        n: usize,
+        ray: *const f32,
+        ray_len: usize,
+        list: *mut u32,
+        list_len: usize,
+    ) -> u64;
+    fn funnelcress_closest(
+        record: *const u8,
+        record_len: usize,
+        indices: *const u32,
+        indices_len: usize,
+        panes: *const f32,
+        panes_len: usize,
+        ray: *const f32,
+        ray_len: usize,
+        out: *mut f32,
+        out_len: usize,
+    ) -> u64;
+    fn funnelcress_miss(
+        record: *const u8,
+        record_len: usize,
+        indices: *const u32,
+        indices_len: usize,
+        panes: *const f32,
+        panes_len: usize,
+        ray: *const f32,
+        ray_len: usize,
+    ) -> u64;
+    fn measured_steps(record: *const u8, record_len: usize, n: usize, ray: *const f32, ray_len: usize) -> u64;
     fn measured_hit_masks(
         record: *const u8,
         record_len: usize,
@@ -97,6 +129,72 @@ pub fn bvh2_to_cwbvh(words: &[u32], indices: &[u32], limit: u32, order: bool, s:
             s.list.len(),
         )
     }
+}
+
+/// A query's number: the node tests, the kind of answer, and what it holds.
+#[inline(always)]
+fn parts(x: u64) -> (u32, u32, u32) {
+    ((x >> 48) as u32, (x >> 32) as u32 & 0xffff, x as u32)
+}
+
+/// How many positions are listed, and after how many node tests.
+#[inline(always)]
+pub fn any_hit(record: &[u8], n: usize, ray: &[f32; 8], list: &mut [u32]) -> (u32, u32) {
+    let x = unsafe { funnelcress_any_hit(record.as_ptr(), record.len(), n, ray.as_ptr(), 8, list.as_mut_ptr(), list.len()) };
+    let (tests, kind, count) = parts(x);
+    assert_eq!(kind, 0);
+    (count, tests)
+}
+
+/// Position and distance, and the node tests.
+#[inline(always)]
+pub fn closest(record: &[u8], indices: &[u32], panes: &[f32], ray: &[f32; 8]) -> (Option<(u32, f32)>, u32) {
+    let mut out = [0f32];
+    let x = unsafe {
+        funnelcress_closest(
+            record.as_ptr(),
+            record.len(),
+            indices.as_ptr(),
+            indices.len(),
+            panes.as_ptr(),
+            panes.len(),
+            ray.as_ptr(),
+            8,
+            out.as_mut_ptr(),
+            1,
+        )
+    };
+    let (tests, kind, position) = parts(x);
+    assert!(kind < 2);
+    ((kind == 0).then_some((position, out[0])), tests)
+}
+
+/// Whether nothing is nearer than the reach, and the node tests.
+#[inline(always)]
+pub fn miss(record: &[u8], indices: &[u32], panes: &[f32], ray: &[f32; 8]) -> (bool, u32) {
+    let x = unsafe {
+        funnelcress_miss(
+            record.as_ptr(),
+            record.len(),
+            indices.as_ptr(),
+            indices.len(),
+            panes.as_ptr(),
+            panes.len(),
+            ray.as_ptr(),
+            8,
+        )
+    };
+    let (tests, kind, _) = parts(x);
+    assert!(kind < 2);
+    (kind == 0, tests)
+}
+
+/// How many positions a walker reports, stepped to its end, and the node tests.
+#[inline(always)]
+pub fn steps(record: &[u8], n: usize, ray: &[f32; 8]) -> (u32, u32) {
+    let x = unsafe { measured_steps(record.as_ptr(), record.len(), n, ray.as_ptr(), 8) };
+    assert_ne!(x, u64::MAX);
+    ((x >> 32) as u32, x as u32)
 }
 
 pub fn hit_masks(record: &[u8], ray: &[f32], out: &mut [u32]) -> usize {

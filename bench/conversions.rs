@@ -28,7 +28,9 @@ fn conversion(name: &str, t: &Tree, limit: u32, order: bool, checks: f64) {
             black_box(bvh2_to_cwbvh(black_box(&bvh2), limit, order, false));
         },
     );
-    println!("    without the tree's checks {:.2}", (ours - checks) / rust);
+    if ours.is_finite() {
+        println!("    without the tree's checks {:.2}", (ours - checks) / rust);
+    }
     let published = bvh2_to_cwbvh(&bvh2, limit, order, false);
     assert!(s.record.starts_with(&record_of(&published.nodes)) && s.list == published.primitive_indices);
     assert_eq!(s.decisions, c.decisions);

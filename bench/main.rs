@@ -4,6 +4,7 @@ mod boxes;
 mod calls;
 mod conversions;
 mod nodes;
+mod queries;
 mod records;
 mod timing;
 mod trees;
@@ -21,10 +22,20 @@ mod rng;
 #[path = "../oracle/driver/tree.rs"]
 mod tree;
 
+/// The modules that arguments name, or all: see bench/README.md.
 fn main() {
-    boxes::rows();
-    nodes::rows();
-    trees::rows();
-    conversions::rows();
-    records::rows();
+    let parts: [(&str, fn()); 6] = [
+        ("boxes", boxes::rows),
+        ("nodes", nodes::rows),
+        ("trees", trees::rows),
+        ("conversions", conversions::rows),
+        ("records", records::rows),
+        ("queries", queries::rows),
+    ];
+    let names: Vec<String> = std::env::args().skip(1).filter(|a| parts.iter().any(|(name, _)| a == name)).collect();
+    for (name, rows) in parts {
+        if names.is_empty() || names.iter().any(|a| a == name) {
+            rows();
+        }
+    }
 }

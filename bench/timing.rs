@@ -1,4 +1,5 @@
 //! Rows: calls timed in turn, and what is printed of them.
+use std::hint::black_box;
 
 const RUNS: usize = 31;
 
@@ -39,9 +40,39 @@ fn enough(once: f64) -> usize {
     (0.01 / once) as usize + 1
 }
 
+/// Whether a row is wanted: an argument `rows=TEXT` keeps those whose name has the text.
+pub fn picked(name: &str) -> bool {
+    let mut texts = std::env::args().filter_map(|a| a.strip_prefix("rows=").map(str::to_owned)).peekable();
+    texts.peek().is_none() || texts.any(|t| name.contains(&t))
+}
+
+/// Whether each side of a row is to run once, for a count of its instructions.
+fn once() -> bool {
+    std::env::args().any(|a| a == "once")
+}
+
+/// Functions by whose names a profile tells the sides of a row; each has a number of its own, so that they are not merged.
+#[inline(never)]
+fn ours_once(f: &mut dyn FnMut()) {
+    f();
+    black_box(0);
+}
+
+#[inline(never)]
+fn rust_once(f: &mut dyn FnMut()) {
+    f();
+    black_box(1);
+}
+
 /// Runs both in turn and prints the row: the time of ours over the Rust's, and the best time of each for one of the `items`
 /// that a call works on, which it also returns.
 pub fn row(name: &str, items: usize, ours: &mut dyn FnMut(), rust: &mut dyn FnMut()) -> (f64, f64) {
+    if once() {
+        println!("{name}, each once");
+        ours_once(ours);
+        rust_once(rust);
+        return (f64::NAN, f64::NAN);
+    }
     let calls = enough(time(5, ours).max(time(5, rust)) / 5.0);
     let mut ratios = vec![];
     let (mut a, mut b) = (f64::MAX, f64::MAX);
@@ -69,6 +100,11 @@ pub fn row(name: &str, items: usize, ours: &mut dyn FnMut(), rust: &mut dyn FnMu
 
 /// The same of ours alone, where the Rust has nothing to measure it by.
 pub fn alone(name: &str, items: usize, ours: &mut dyn FnMut()) -> f64 {
+    if once() {
+        println!("{name}, once");
+        ours_once(ours);
+        return f64::NAN;
+    }
     let calls = enough(time(5, ours) / 5.0);
     let mut times: Vec<f64> = (0..RUNS).map(|_| time(calls, ours) / (calls * items) as f64).collect();
     times.sort_by(f64::total_cmp);

@@ -3,3 +3,7 @@ pub mod Filled
 pub mod Numbers
 pub mod Converted
 pub mod ConvertedNumbers
+pub mod Bounds
+pub mod QueryNumbers
+pub mod QueryBounds
+pub mod QueryAnswers

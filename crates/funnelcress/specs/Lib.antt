@@ -1,3 +1,4 @@
 pub mod Lists
 pub mod Answers
 pub mod Converted
+pub mod Queries

@@ -1,7 +1,7 @@
 // The library for C and Rust: each function is exported under its name. Numbers that are returned are those of
-// refusals, 0 for none, but the record check's and conversion's, which also hold what they answer.
+// refusals, 0 for none, but the record check's, conversion's and the queries', which also hold what they answer.
 ghost use mathlib.Core.Path.{_≡_};
-ghost use Prim.Native.Nat.{_+_, _*_, _/_, _≤_};
+ghost use Prim.Native.Nat.{_+_, _*_, _/_, _≤_, _<_};
 ghost use lib.ListN.{length};
 ghost use Rattle.aabb.specs.Aabb.{entryDistance};
 ghost use Rattle.record_shape.specs.Check.{checkOf, wordsAfter};
@@ -9,9 +9,18 @@ ghost use Rattle.validate.specs.Validity.{answerOf};
 ghost use Rattle.bvh2_to_cwbvh.specs.Answer.{answerOf as conversionAnswer};
 ghost use Rattle.funnelcress.specs.Answers.{answerNumber};
 ghost use Rattle.funnelcress.specs.Converted.{conversionBy, conversionNumber};
+ghost use Rattle.any_hit.specs.AnyHit.{answerOf as anyHitAnswer};
+ghost use Rattle.closest.specs.Panes.{closestAnswer, closestResult, missResult};
+ghost use Rattle.funnelcress.specs.Queries.{anyHitBy, listBy, closestBy, distanceIn, missBy, shortCause};
+ghost use Rattle.funnelcress.specs.Queries.{numberOf, anyHitNumber, closestNumber, missNumber, AnyHitFits, ClosestFits, MissFits};
 ghost use Rattle.funnelcress.specs.Lists.{vecAt, boxAt, rayAt, filled, areaAt, entryAt, refusal, rayRefusal, answered};
 use aabb::Aabb;
+use any_hit::AnyHit;
 use bvh2_to_cwbvh::Conversion;
+use closest::ClosestFound;
+use closest::ClosestHit;
+use closest::MissFound;
+use closest::Occlusion;
 use ray::Ray;
 use ray::Vec3;
 use validate::Validity;
@@ -195,5 +204,145 @@ pub extern "C" fn funnelcress_bvh2_to_cwbvh(
         costs,
         record,
         list,
+    ))
+}
+
+// Node tests, the kind of a query's answer, and what it holds, as one number.
+fn query_number(tests: u32, kind: u64, held: u32) -> u64
+    requires { ⌜ (tests ≤ 65535) × (kind ≤ 1) ⌝ }
+    ensures { λ r. ⌜ r ≡ numberOf tests kind held ⌝ }
+{
+    tests as u64 * 0x1_0000_0000_0000 + kind * 0x1_0000_0000 + held as u64
+}
+
+// Any-hit's answer as a number.
+fn any_hit_number(answer: AnyHit) -> u64
+    requires { ⌜ AnyHitFits (anyHitAnswer answer) ⌝ }
+    ensures { λ r. ⌜ r ≡ anyHitNumber (anyHitAnswer answer) ⌝ }
+{
+    match answer {
+        AnyHit::Listed(count, tests) => return query_number(tests, 0, count),
+        AnyHit::Short(needed) => return query_number(0, 1, needed),
+        AnyHit::Refused(number) => return refusal_number(number),
+    }
+}
+
+// Any-hit for a ray of eight floats: node tests, the kind of answer, and below 2^32 how many positions are listed, the length that
+// a short list wants, or the number of a refusal. The positions are at the front of the list.
+#[no_mangle]
+pub extern "C" fn funnelcress_any_hit(record: &[u8], n: usize, ray: &[f32], list: &mut [u32]) -> u64
+    ensures { λ r. ⌜ r ≡ anyHitNumber (anyHitBy (now («record» .entry)) n (now (ray .entry)) (length (now (list .entry)))) ⌝ }
+    ensures { λ _. ⌜ now (list .exit) ≡ listBy (now («record» .entry)) n (now (ray .entry)) (now (list .entry)) ⌝ }
+{
+    if ray.len() != 8 {
+        return refusal_number(1);
+    }
+    let r = ray_at(ray);
+    any_hit_number(any_hit::any_hit(record, n, r.origin, r.direction, r.tmin, r.tmax, list))
+}
+
+// Closest's answer as a number, and the distance of a hit as the first float lent.
+fn closest_number(found: ClosestFound, out: &mut [f32]) -> u64
+    requires { ⌜ ClosestFits (closestResult found) × (0 < length (now out)) ⌝ }
+    ensures { λ r. ⌜ r ≡ closestNumber (closestResult found) ⌝ }
+    ensures { λ _. ⌜ now (out .exit) ≡ distanceIn (closestAnswer (found .answer)) (now (out .entry)) ⌝ }
+{
+    let answer = found.answer;
+    match answer {
+        ClosestHit::Hit(p, t) => {
+            out[0] = t;
+            return query_number(found.tests, 0, p);
+        }
+        ClosestHit::NoHit => return query_number(found.tests, 1, 0),
+        ClosestHit::Refused(number) => return refusal_number(number),
+    }
+}
+
+// What refuses closest where no float is lent, by the cause on entry.
+fn short_cause(cause: u32) -> u32
+    ensures { λ r. ⌜ r ≡ shortCause cause ⌝ }
+{
+    if cause == 0 {
+        return 4;
+    }
+    if cause < 4 {
+        return cause;
+    }
+    4
+}
+
+// Closest for a ray of eight floats: node tests, the kind of answer, and below 2^32 the position of a hit or the number of a
+// refusal. The distance of a hit is the first float of `out`, which has at least one.
+#[no_mangle]
+pub extern "C" fn funnelcress_closest(
+    record: &[u8],
+    indices: &[u32],
+    panes: &[f32],
+    ray: &[f32],
+    out: &mut [f32],
+) -> u64
+    ensures { λ r. ⌜ r ≡ closestNumber (closestBy (length (now (out .entry))) (now («record» .entry)) (now (indices .entry))
+        (now (panes .entry)) (now (ray .entry))) ⌝ }
+    ensures { λ _. ⌜ now (out .exit) ≡ distanceIn (closestBy (length (now (out .entry))) (now («record» .entry)) (now (indices .entry))
+        (now (panes .entry)) (now (ray .entry)) .answer) (now (out .entry)) ⌝ }
+{
+    if ray.len() != 8 {
+        return refusal_number(1);
+    }
+    let r = ray_at(ray);
+    if out.len() == 0 {
+        let fits = panes.len() % 6 == 0;
+        let cause = query::entry_cause(fits, record.len(), indices.len(), r);
+        return refusal_number(short_cause(cause));
+    }
+    closest_number(
+        closest::closest(
+            record,
+            indices,
+            panes,
+            r.origin,
+            r.direction,
+            r.tmin,
+            r.tmax,
+        ),
+        out,
+    )
+}
+
+// Miss's answer as a number.
+fn miss_number(found: MissFound) -> u64
+    requires { ⌜ MissFits (missResult found) ⌝ }
+    ensures { λ r. ⌜ r ≡ missNumber (missResult found) ⌝ }
+{
+    let answer = found.answer;
+    match answer {
+        Occlusion::Missed => return query_number(found.tests, 0, 0),
+        Occlusion::Blocked => return query_number(found.tests, 1, 0),
+        Occlusion::Refused(number) => return refusal_number(number),
+    }
+}
+
+// Miss for a ray of eight floats: node tests, the kind of answer, and below 2^32 the number of a refusal.
+#[no_mangle]
+pub extern "C" fn funnelcress_miss(
+    record: &[u8],
+    indices: &[u32],
+    panes: &[f32],
+    ray: &[f32],
+) -> u64
+    ensures { λ r. ⌜ r ≡ missNumber (missBy (now («record» .entry)) (now (indices .entry)) (now (panes .entry)) (now (ray .entry))) ⌝ }
+{
+    if ray.len() != 8 {
+        return refusal_number(1);
+    }
+    let r = ray_at(ray);
+    miss_number(closest::miss(
+        record,
+        indices,
+        panes,
+        r.origin,
+        r.direction,
+        r.tmin,
+        r.tmax,
     ))
 }

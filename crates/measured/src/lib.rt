@@ -9,6 +9,8 @@ ghost use Rattle.cost.specs.Rows.{fill, Ready};
 use aabb::Aabb;
 use ray::Ray;
 use ray::Vec3;
+use traverse::Answer;
+use traverse::Walker;
 
 // Three floats, from a place on.
 fn vec_at(s: &[f32], at: usize) -> Vec3
@@ -46,6 +48,45 @@ pub extern "C" fn measured_hit_masks(record: &[u8], ray: &[f32], out: &mut [u32]
     let r = Ray::new(vec_at(ray, 0), direction, ray[6], ray[7]);
     fill_masks(record, r, ray::octant(direction), m, out);
     m
+}
+
+// What stands for a refusal.
+const REFUSED: u64 = 0xffff_ffff_ffff_ffff;
+
+// More steps than any walk has: a test and 24 positions for each of 65,535 nodes, and the last that says done.
+const MOST_STEPS: u32 = 1638376;
+
+// Walks step by step to the end: how many positions are reported, and below 2^32 the node tests.
+fn walked(record: &[u8], n: usize, start: Walker) -> u64 {
+    let mut walker = start;
+    let mut reports: u32 = 0;
+    let mut steps: u32 = 0;
+    while steps < MOST_STEPS {
+        let stepped = walker.step(record, n);
+        let answer = stepped.answer;
+        match answer {
+            Answer::Tested(_) => {}
+            Answer::Position(_) => reports += 1,
+            Answer::Done => return reports as u64 * 0x1_0000_0000 + walker.tests as u64,
+            Answer::Refused(_) => return REFUSED,
+        }
+        walker = stepped.walker;
+        steps += 1;
+    }
+    REFUSED
+}
+
+// The same for a ray of eight floats, from its walker just begun.
+#[no_mangle]
+pub extern "C" fn measured_steps(record: &[u8], n: usize, ray: &[f32]) -> u64 {
+    if ray.len() != 8 {
+        return REFUSED;
+    }
+    let started = Walker::new(vec_at(ray, 0), vec_at(ray, 3), ray[6], ray[7]);
+    if started.refused != 0 {
+        return REFUSED;
+    }
+    walked(record, n, started.walker)
 }
 
 // How many nodes of a record of n positions meet the node rule.

@@ -1,0 +1,86 @@
+-- What a query's answer can hold, on any bytes: tests of at most every node, positions that are there, and no more of them than steps.
+use mathlib.Core.Bool.{_&&_, _||_, not}
+use mathlib.Core.List.{List, [], _∷_}
+use mathlib.Core.Path.{_≡_, refl}
+use Prim.Native.Nat.{ℕ, zero, suc, _≤_, _<_}
+use native.Mathlib.Omega.{arith}
+use lib.Dec.{leb, ltb}
+use borrow.Author.Tests.{leb-false}
+use Rattle.faststack.specs.Stack.{hasRoom, topOf}
+use Rattle.walk.specs.Step.{Answer, tested, position, done, refused, sizesFit, badPosition}
+use Rattle.walk.specs.Words.{Group, unpacked, restOf, firstPosition, firstChild, hasChild, waitingDepth}
+use Rattle.walk.specs.WordStep.{WalkerWords, SteppedWords, NodeWords, tellWords, forgedWords, onlyFirstWords, badChild}
+use Rattle.walk.specs.WordStep.{reportWords, visitWords, popWords, advanceWords, stepWords}
+use Rattle.walk.specs.Queries.{Reaction}
+use Rattle.walk.specs.WordQueries.{OutcomeWords, toldAllWords, followWords, queryWords}
+use Rattle.walk.proofs.Cases.{cond-elim, or-false}
+
+-- a position is one of the n, and a refusal has a cause's number
+abbrev pub Below : ℕ → Answer → Type 0
+Below n (tested v) = Unit {0}
+Below n (position p) = p < n
+Below n done = Unit {0}
+Below n (refused k) = k ≤ 11
+
+module _ {s d : Type 0} (m : ℕ) (N : NodeWords s d) (n : ℕ) where
+  -- after a step: no more tests than nodes
+  abbrev Few : SteppedWords s → Type 0
+  Few r = (r .walker .tests ≤ m) × Below n (r .answer)
+
+  module _ (w : WalkerWords s) (h : w .tests ≤ m) where
+    visit-few : (g : Group) (e : ℕ) → Few (visitWords m N n w g e)
+    unfolding visitWords
+    visit-few g e =
+        cond-elim Few (badChild m N n w g e) _ _ (λ _. (h, omega arith)) (λ b.
+        let c = firstChild (N .octant (w .ray)) g in
+        let r = hasChild (restOf g) && not (hasRoom e) in
+        let o = or-false (r || leb m c || leb m (w .tests)) (not (N .rule n c)) b in
+        (leb-false m (w .tests) (or-false (r || leb m c) (leb m (w .tests)) (o .0) .1), tt))
+
+    step-few : Few (stepWords m N n w)
+    unfolding stepWords advanceWords reportWords popWords
+    step-few =
+        cond-elim Few (sizesFit m n) _ _
+        (λ _. cond-elim Few (forgedWords m N w) _ _ (λ _. (h, omega arith))
+        (λ _. cond-elim Few (leb m 0 && onlyFirstWords m N w) _ _ (λ _. (h, tt))
+        (λ _. cond-elim Few (ltb 0 (w .positions .bits)) _ _
+        (λ _. cond-elim Few (badPosition n (firstPosition (w .positions))) _ _ (λ _. (h, omega arith))
+        (λ b. (h, leb-false n (firstPosition (w .positions)) b)))
+        (λ _. cond-elim Few (hasChild (w .current)) _ _ (λ _. visit-few (w .current) (w .depth))
+        (λ _. cond-elim Few (ltb 0 (waitingDepth (w .stack) (w .depth))) _ _
+        (λ _. visit-few (unpacked (topOf (w .stack) (waitingDepth (w .stack) (w .depth)))) _) (λ _. (h, tt)))))))
+        (λ _. (h, omega arith))
+
+  -- ---- a query, whatever is said of what it notes with so many steps left
+
+  module _ {a : Type 0} (react : ℕ → s → a → Reaction d a) (Q : ℕ → a → Type 0)
+      (drops : (f : ℕ) (x : a) → Q (suc f) x → Q f x)
+      (notes : (f p : ℕ) (r : s) (x : a) → p < n → Q (suc f) x → Q f (react p r x .noted)) where
+    abbrev Ends : OutcomeWords s a → Type 0
+    Ends o = (o .walker .tests ≤ m) × Below n (o .ended) × Q 0 (o .noted)
+
+    at-last : (f : ℕ) (x : a) → Q f x → Q 0 x
+    at-last zero x q = q
+    at-last (suc f) x q = at-last f x (drops f x q)
+
+    told-tests : (l : List d) (w : WalkerWords s) → toldAllWords N l w .tests ≡ w .tests
+    told-tests [] w = refl
+    told-tests (x ∷ l) w = told-tests l (tellWords N x w)
+
+    pub query-few : (f : ℕ) (w : WalkerWords s) (x : a) → w .tests ≤ m → Q f x → Ends (queryWords m N react f n w x)
+    unfolding queryWords
+    query-few zero w x h q = (h, tt, q)
+    query-few (suc f) w x h q = go (stepWords m N n w .answer) (stepWords m N n w .walker) (step-few w h .0) (step-few w h .1) (query-few f)
+      where
+        go : (b : Answer) (u : WalkerWords s) → u .tests ≤ m → Below n b
+            → ((v : WalkerWords s) (y : a) → v .tests ≤ m → Q f y → Ends (queryWords m N react f n v y))
+            → Ends (followWords m N react b u x (queryWords m N react f n))
+        go (tested c) u k l on = on u x k (drops f x q)
+        go (position p) u k l on =
+            let r : Reaction d a = react p (u .ray) x in
+            let t = told-tests (r .tells) u in
+            let y = notes f p (u .ray) x l q in
+            cond-elim Ends (r .stop) _ _ (λ _. (omega (arith, t), l, at-last f (r .noted) y))
+            (λ _. on (toldAllWords N (r .tells) u) (r .noted) (omega (arith, t)) y)
+        go done u k l on = (k, tt, at-last (suc f) x q)
+        go (refused e) u k l on = (k, l, at-last (suc f) x q)

@@ -1,0 +1,205 @@
+-- Every query's answer fits its number, on any bytes.
+use mathlib.Core.Bool.{Bool, true, false, _&&_, cond}
+use mathlib.Core.List.{List, [], _∷_}
+use mathlib.Core.Path.{_≡_, refl}
+use Prim.Native.Nat.{ℕ, zero, suc, _+_, _%_, _/_, _≤_, _<_}
+use native.Mathlib.Omega.{arith}
+use lib.Dec.{eqb, leb, ltb}
+use lib.Ieee.{Float}
+use borrow.Author.Tests.{ltb-true}
+use lib.ListN.{length, getD, length-append}
+use Rattle.ray.specs.declared.Ray.{Ray}
+use Rattle.ray.specs.Ray.{acceptedRay}
+use Rattle.record_shape.specs.Record.{nodeCount}
+use Rattle.aabb.specs.Aabb.{acceptedBox, entryDistance}
+use Rattle.walk.specs.Step as S
+use Rattle.walk.specs.Queries.{Reaction, stepsFor, append, Pane, distance, faulty, Found, none, hit, fault, lower, lowerAt, closest, blockAt, miss}
+use Rattle.walk.specs.WordStep.{freshWords}
+use Rattle.walk.specs.WordQueries.{OutcomeWords}
+use Rattle.walk.proofs.Cases.{cond-elim}
+use Rattle.walk_record.specs.Beam.{Beam, beamOf, beams}
+use Rattle.walk_record.specs.Record.{nodeWordsAt}
+use Rattle.walk_record.specs.Walk.{queryAt, anyHitAt}
+use Rattle.query.specs.Entry.{entryCause}
+use Rattle.query.proofs.Entry.{entered}
+use Rattle.any_hit.specs.AnyHit as H
+use Rattle.closest.specs.Panes as P
+use Rattle.funnelcress.specs.Lists.{rayAt}
+use Rattle.funnelcress.specs.Queries.{anyHitBy, shortCause, closestIn, closestBy, missBy, AnyHitFits, ClosestFits, MissFits}
+use Rattle.funnelcress.proofs.Bounds.{Below, query-few}
+
+-- ---- refused on entry: a cause's number, or sizes that fit
+
+entry-most : (fits : Bool) (bytes n : ℕ) (r : Ray) → entryCause fits bytes n r ≤ 11
+unfolding entryCause
+entry-most fits bytes n r = go (fits && eqb (bytes % 80) 0) (leb n 65536 && leb (bytes / 80) 65535) (acceptedRay r)
+  where
+    go : (a b c : Bool) → elim a [ false ↦ 1 | true ↦ elim b [ false ↦ 2 | true ↦ elim c [ false ↦ 9 | true ↦ 0 ] ] ] ≤ 11
+    go false b c = omega arith
+    go true false c = omega arith
+    go true true false = omega arith
+    go true true true = omega arith
+
+-- ---- any-hit
+
+fitted-fits : (count tests room : ℕ) → tests ≤ 65535 → count < 0x1_0000_0000 → AnyHitFits (H.fitted count tests room)
+unfolding H.fitted AnyHitFits
+fitted-fits count tests room t c = go (leb count room)
+  where
+    go : (b : Bool) → AnyHitFits (elim b [ true ↦ H.listed count tests | false ↦ H.lacking 11 count ])
+    go true = (t, c)
+    go false = (refl, c)
+
+walked-fits : (n : ℕ) (o : OutcomeWords Beam (List ℕ)) (e : S.Answer) (room : ℕ) → o .walker .tests ≤ 65535
+    → length (o .noted) < 0x1_0000_0000 → Below n e → AnyHitFits (H.walked o e room)
+unfolding H.walked AnyHitFits
+walked-fits n o (S.tested v) room t c l = omega arith
+walked-fits n o (S.position p) room t c l = omega arith
+walked-fits n o S.done room t c l = fitted-fits (length (o .noted)) (o .walker .tests) room t c
+walked-fits n o (S.refused k) room t c l = l
+
+-- noted positions and the steps left are no more than the steps given
+abbrev Noted : List ℕ → ℕ → List ℕ → Type 0
+Noted bytes f x = f + length x ≤ stepsFor (nodeCount bytes)
+
+walk-fits : (bytes : List ℕ) (n : ℕ) (b : Beam) → nodeCount bytes ≤ 65535 → (room : ℕ) → AnyHitFits (H.walkOf bytes n b room)
+unfolding H.walkOf anyHitAt queryAt
+walk-fits bytes n b m room =
+    let o = anyHitAt bytes beams n b in
+    let q = query-few (nodeCount bytes) (nodeWordsAt bytes beams) n append (Noted bytes) (λ f x h. omega arith)
+    (λ f p r x l h. omega (arith, length-append x (p ∷ []))) (stepsFor (nodeCount bytes)) (freshWords b) [] (omega arith) (omega arith) in
+    walked-fits n o (o .ended) room (omega (arith, q .0)) (omega (arith, q .2)) (q .1)
+
+pub any-hit-fits : (bytes : List ℕ) (n : ℕ) (r : Ray) (room : ℕ) → AnyHitFits (H.anyHitOf bytes n r room)
+unfolding H.anyHitOf AnyHitFits
+any-hit-fits bytes n r room = go (entryCause true (length bytes) n r) refl (entry-most true (length bytes) n r)
+  where
+    go : (c : ℕ) → entryCause true (length bytes) n r ≡ c → c ≤ 11
+        → AnyHitFits (elim c [ suc k ↦ H.refused (suc k) | zero ↦ H.walkOf bytes n (beamOf r) room ])
+    go zero e l = walk-fits bytes n (beamOf r) (entered true (length bytes) n r e .small) room
+    go (suc k) e l = l
+
+-- ---- closest and miss
+
+-- what they note: a position that is there, or a cause's number
+abbrev Small : Found Float → Type 0
+Small none = Unit {0}
+Small (hit p t) = p < 65536
+Small (fault k) = k ≤ 11
+
+module _ {A : Type 0} (F : P.Result A → Type 0) (refuse : ℕ → A) (found : Found Float → ℕ → P.Result A)
+    (refuses : (k : ℕ) → k ≤ 11 → F (record { answer = refuse k; tests = 0 }))
+    (finds : (x : Found Float) (tests : ℕ) → Small x → tests ≤ 65535 → F (found x tests)) where
+  ended-fits : (n : ℕ) (o : OutcomeWords Beam (Found Float)) (e : S.Answer) → o .walker .tests ≤ 65535 → Below n e → Small (o .noted)
+      → F (P.walked refuse found o e)
+  unfolding P.walked
+  ended-fits n o (S.tested v) t l x = refuses 10 (omega arith)
+  ended-fits n o (S.position p) t l x = finds (o .noted) (o .walker .tests) x t
+  ended-fits n o S.done t l x = finds (o .noted) (o .walker .tests) x t
+  ended-fits n o (S.refused k) t l x = refuses k l
+
+  entered-fits : (c : ℕ) (w : P.Result A) → c ≤ 11 → (c ≡ 0 → F w) → F (P.entered refuse c w)
+  unfolding P.entered
+  entered-fits zero w l h = h refl
+  entered-fits (suc k) w l h = refuses (suc k) l
+
+  module _ (bytes indices : List ℕ) (panes : List Float) (r : Ray) (react : ℕ → Beam → Found Float → Reaction Float (Found Float))
+      (reacts : (p : ℕ) (b : Beam) (x : Found Float) → p < 65536 → Small x → Small (react p b x .noted)) where
+    query-fits : let o = queryAt bytes beams react none (length indices) (beamOf r) in
+        F (P.entered refuse (P.paneCause bytes indices panes r) (P.walked refuse found o (o .ended)))
+    unfolding queryAt
+    query-fits =
+        let o = queryAt bytes beams react none (length indices) (beamOf r) in
+        entered-fits (P.paneCause bytes indices panes r) _ (entry-most _ _ _ r) (λ e.
+        let s = entered _ _ _ r e in
+        let q = query-few (nodeCount bytes) (nodeWordsAt bytes beams) (length indices) react (λ f x. Small x) (λ f x h. h)
+        (λ f p b x l h. reacts p b x (omega (arith, l, s .few)) h) (stepsFor (nodeCount bytes)) (freshWords (beamOf r)) none (omega arith) tt in
+        ended-fits (length indices) o (o .ended) (omega (arith, q .0, s .small)) (q .1) (q .2))
+
+-- a pane's fault is 6 or 10
+abbrev Faults : Pane Float → Type 0
+Faults (distance t) = Unit {0}
+Faults (faulty k) = k ≤ 11
+
+module _ (indices : List ℕ) (panes : List Float) where
+  pane-faults : (p : ℕ) (b : Beam) → Faults (P.paneOf indices panes p b)
+  unfolding P.paneOf P.paneMet
+  pane-faults p b = go (ltb (getD indices p 0) (length panes / 6)) (acceptedBox (P.paneBox panes (getD indices p 0)))
+    where
+      go : (there accepted : Bool)
+          → Faults (cond there (cond accepted (distance (entryDistance (P.paneBox panes (getD indices p 0)) (b .ray))) (faulty 6)) (faulty 10))
+      go false accepted = omega arith
+      go true false = omega arith
+      go true true = tt
+
+  closest-small : (p : ℕ) (b : Beam) (x : Found Float) → p < 65536 → Small x → Small (closest (P.paneOf indices panes) P.nearer p b x .noted)
+  closest-small p b x l h = go (P.paneOf indices panes p b) (pane-faults p b)
+    where
+      lowers : (near : Bool) (t : Float) → Small (lower (P.paneOf indices panes) P.nearer near p t x .noted)
+      lowers true t = l
+      lowers false t = h
+
+      go : (v : Pane Float) → Faults v → Small (lowerAt (P.paneOf indices panes) P.nearer v p b x .noted)
+      go (distance t) f = lowers (P.nearer t b) t
+      go (faulty k) f = f
+
+  miss-small : (p : ℕ) (b : Beam) (x : Found Float) → p < 65536 → Small x → Small (miss (P.paneOf indices panes) P.nearer p b x .noted)
+  miss-small p b x l h = go (P.paneOf indices panes p b) (pane-faults p b)
+    where
+      go : (v : Pane Float) → Faults v → Small (blockAt (P.paneOf indices panes) P.nearer v p b x .noted)
+      go (distance t) f = cond-elim Small (P.nearer t b) (hit p t) x (λ _. l) (λ _. h)
+      go (faulty k) f = f
+
+module _ (bytes indices : List ℕ) (panes : List Float) (r : Ray) where
+  pub closest-fits : ClosestFits (P.closestOf bytes indices panes r)
+  unfolding ClosestFits P.closestOf P.closestWalk P.closestFound
+  closest-fits =
+      query-fits ClosestFits P.refusedClosest P.closestFound (λ k l. (refl, l)) finds
+      bytes indices panes r (closest (P.paneOf indices panes) P.nearer) (closest-small indices panes)
+    where
+      finds : (x : Found Float) (tests : ℕ) → Small x → tests ≤ 65535 → ClosestFits (P.closestFound x tests)
+      finds none tests h t = t
+      finds (hit p d) tests h t = (t, h)
+      finds (fault k) tests h t = (refl, h)
+
+  pub miss-fits : MissFits (P.missOf bytes indices panes r)
+  unfolding MissFits P.missOf P.missWalk P.missFound
+  miss-fits =
+      query-fits MissFits P.refusedMiss P.missFound (λ k l. (refl, l)) finds
+      bytes indices panes r (miss (P.paneOf indices panes) P.nearer) (miss-small indices panes)
+    where
+      finds : (x : Found Float) (tests : ℕ) → Small x → tests ≤ 65535 → MissFits (P.missFound x tests)
+      finds none tests h t = t
+      finds (hit p d) tests h t = t
+      finds (fault k) tests h t = (refl, h)
+
+-- ---- for a ray of eight floats, or another
+
+pub any-hit-number-fits : (bytes : List ℕ) (n : ℕ) (ray : List Float) (room : ℕ) → AnyHitFits (anyHitBy bytes n ray room)
+unfolding AnyHitFits anyHitBy
+any-hit-number-fits bytes n ray room =
+    cond-elim AnyHitFits (eqb (length ray) 8) (H.anyHitOf bytes n (rayAt ray) room) (H.refused 1)
+    (λ _. any-hit-fits bytes n (rayAt ray) room) (λ _. omega arith)
+
+short-most : (cause : ℕ) → shortCause cause ≤ 11
+unfolding shortCause
+short-most zero = omega arith
+short-most (suc k) = cond-elim (λ (j : ℕ). j ≤ 11) (ltb (suc k) 4) (suc k) 4 (λ h. omega (arith, ltb-true (suc k) 4 h)) (λ _. omega arith)
+
+module _ (bytes indices : List ℕ) (panes ray : List Float) where
+  closest-in-fits : (room : ℕ) → ClosestFits (closestIn room bytes indices panes ray)
+  unfolding ClosestFits closestIn
+  closest-in-fits zero = (refl, short-most (P.paneCause bytes indices panes (rayAt ray)))
+  closest-in-fits (suc room) = closest-fits bytes indices panes (rayAt ray)
+
+  pub closest-number-fits : (room : ℕ) → ClosestFits (closestBy room bytes indices panes ray)
+  unfolding ClosestFits closestBy
+  closest-number-fits room =
+      cond-elim ClosestFits (eqb (length ray) 8) (closestIn room bytes indices panes ray) (record { answer = P.refusedClosest 1; tests = 0 })
+      (λ _. closest-in-fits room) (λ _. (refl, omega arith))
+
+  pub miss-number-fits : MissFits (missBy bytes indices panes ray)
+  unfolding MissFits missBy
+  miss-number-fits =
+      cond-elim MissFits (eqb (length ray) 8) (P.missOf bytes indices panes (rayAt ray)) (record { answer = P.refusedMiss 1; tests = 0 })
+      (λ _. miss-fits bytes indices panes (rayAt ray)) (λ _. (refl, omega arith))
