@@ -67,7 +67,7 @@ fn walked(record: &[u8], n: usize, start: Walker) -> u64 {
         match answer {
             Answer::Tested(_) => {}
             Answer::Position(_) => reports += 1,
-            Answer::Done => return reports as u64 * 0x1_0000_0000 + walker.tests as u64,
+            Answer::Done => return reports as u64 * 0x1_0000_0000 + walker.walk.tests as u64,
             Answer::Refused(_) => return REFUSED,
         }
         walker = stepped.walker;
