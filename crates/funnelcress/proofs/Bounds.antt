@@ -7,10 +7,10 @@ use native.Mathlib.Omega.{arith}
 use lib.Dec.{leb, ltb}
 use borrow.Author.Tests.{leb-false}
 use Rattle.faststack.specs.Stack.{hasRoom, topOf}
-use Rattle.walk.specs.Step.{Answer, tested, position, done, refused, sizesFit, badPosition}
+use Rattle.walk.specs.Step.{Answer, tested, position, done, refused, sizesFit}
 use Rattle.walk.specs.Words.{Group, unpacked, restOf, firstPosition, firstChild, hasChild, waitingDepth}
 use Rattle.walk.specs.WordStep.{WalkerWords, SteppedWords, NodeWords, tellWords, forgedWords, onlyFirstWords, badChild}
-use Rattle.walk.specs.WordStep.{reportWords, visitWords, popWords, advanceWords, stepWords}
+use Rattle.walk.specs.WordStep.{leaving, pastSkips, reportWords, visitWords, popWords, turnWords, advanceWords, stepWords}
 use Rattle.walk.specs.Queries.{Reaction}
 use Rattle.walk.specs.WordQueries.{OutcomeWords, toldAllWords, followWords, queryWords}
 use Rattle.walk.proofs.Cases.{cond-elim, or-false}
@@ -37,18 +37,34 @@ module _ {s d : Type 0} (m : ℕ) (N : NodeWords s d) (n : ℕ) where
         let o = or-false (r || leb m c || leb m (w .tests)) (not (N .rule n c)) b in
         (leb-false m (w .tests) (or-false (r || leb m c) (leb m (w .tests)) (o .0) .1), tt))
 
+    turn-few : Few (turnWords m N n w)
+    unfolding turnWords reportWords popWords
+    turn-few =
+        cond-elim Few (ltb 0 (w .positions .bits)) _ _
+        (λ _. cond-elim Few (N .absent (w .ray) (firstPosition (w .positions))) _ _ (λ _. (h, omega arith))
+        (λ _. cond-elim Few (leb n (firstPosition (w .positions))) _ _ (λ _. (h, omega arith))
+        (λ b. (h, leb-false n (firstPosition (w .positions)) b))))
+        (λ _. cond-elim Few (hasChild (w .current)) _ _ (λ _. visit-few (w .current) (w .depth))
+        (λ _. cond-elim Few (ltb 0 (waitingDepth (w .stack) (w .depth))) _ _
+        (λ _. visit-few (unpacked (topOf (w .stack) (waitingDepth (w .stack) (w .depth)))) _) (λ _. (h, tt))))
+
+  module _ (w : WalkerWords s) (h : w .tests ≤ m) where
+    advance-few : Few (advanceWords m N n w)
+    unfolding advanceWords
+    advance-few = let t = turn-few (pastSkips N w) h in (go (turnWords m N n (pastSkips N w) .answer) (turnWords m N n (pastSkips N w) .walker) (t .0), t .1)
+      where
+        go : (a : Answer) (u : WalkerWords s) → u .tests ≤ m → leaving w a u .tests ≤ m
+        go (tested v) u k = k
+        go (position p) u k = k
+        go done u k = k
+        go (refused e) u k = h
+
     step-few : Few (stepWords m N n w)
-    unfolding stepWords advanceWords reportWords popWords
+    unfolding stepWords
     step-few =
         cond-elim Few (sizesFit m n) _ _
         (λ _. cond-elim Few (forgedWords m N w) _ _ (λ _. (h, omega arith))
-        (λ _. cond-elim Few (leb m 0 && onlyFirstWords m N w) _ _ (λ _. (h, tt))
-        (λ _. cond-elim Few (ltb 0 (w .positions .bits)) _ _
-        (λ _. cond-elim Few (badPosition n (firstPosition (w .positions))) _ _ (λ _. (h, omega arith))
-        (λ b. (h, leb-false n (firstPosition (w .positions)) b)))
-        (λ _. cond-elim Few (hasChild (w .current)) _ _ (λ _. visit-few (w .current) (w .depth))
-        (λ _. cond-elim Few (ltb 0 (waitingDepth (w .stack) (w .depth))) _ _
-        (λ _. visit-few (unpacked (topOf (w .stack) (waitingDepth (w .stack) (w .depth)))) _) (λ _. (h, tt)))))))
+        (λ _. cond-elim Few (leb m 0 && onlyFirstWords m N (pastSkips N w)) _ _ (λ _. (h, tt)) (λ _. advance-few)))
         (λ _. (h, omega arith))
 
   -- ---- a query, whatever is said of what it notes with so many steps left
