@@ -1,7 +1,7 @@
 -- On from turn to turn until positions are in hand.
 use mathlib.Core.Path.{_≡_, refl, sym, ap, subst, _∙_}
 use mathlib.Core.Bool.{Bool, true, false, _&&_, cond}
-use mathlib.Core.List.{[], _∷_}
+use mathlib.Core.List.{List, [], _∷_}
 use mathlib.Core.Logic.{⊎-elim}
 use Prim.Native.Nat.{ℕ, zero, suc, _-_, _≤_, _<_}
 use native.Mathlib.Omega.{arith}
@@ -9,15 +9,31 @@ use lib.Dec.{eqb, ltb}
 use denote.Enum.Declared.{tagOf}
 use types.Run.{OneOf}
 use borrow.Author.Tests.{eq-eqb, ne-eqb, lt-ltb, ltb-true, eqb-true}
+use Rattle.ray.specs.declared.Ray.{Ray}
 use Rattle.faststack.specs.Stack.{capacity}
 use Rattle.walk.specs.Step as S
 use Rattle.walk.specs.WordStep.{WalkerWords, SteppedWords, NodeWords, isTest, findsNone, advanceWords, seekWords}
 use Rattle.advance.specs.declared.Turn.{Turn}
 use Rattle.advance.specs.declared.Answer.{Answer}
 use Rattle.advance.specs.declared.Answer.the-variants.{Tested, Position, Done, Refused}
-use Rattle.advance.specs.Turn.{answerOf, goesOn}
+use Rattle.advance.specs.declared.Walk.{Walk}
+use Rattle.advance.specs.Turn.{answerOf, walkerOf, seeking, goesOn}
 use Rattle.advance.proofs.Answer.{the-type}
 use Rattle.advance.proofs.Shows.{Shows, turn-shows}
+
+-- A search from a walk without positions in hand, by its numbers, is one from the walk.
+pub seeking-from : (ray : Ray) (octant : ℕ) (stack : List ℕ) (v : Walk) → v .positions .bits ≡ 0
+    → walkerOf ray octant (seeking (v .tests) (v .positions .base) (v .current .base) (v .current .bits) (v .depth)) stack ≡ walkerOf ray octant v stack
+seeking-from ray octant stack v e =
+    ap (λ (bits : ℕ). walkerOf ray octant
+      (record {
+        tests = v .tests;
+        positions = record { base = v .positions .base; bits = bits };
+        current = v .current;
+        depth = v .depth;
+      })
+      stack)
+    (sym e)
 
 -- ---- by the tests that the code makes
 

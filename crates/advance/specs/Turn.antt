@@ -36,6 +36,11 @@ answerOf (Refused k) = S.refused k
 abbrev pub begun : Walk
 begun = record { tests = 0; positions = record { base = 0; bits = 0 }; current = record { base = 0; bits = 0x8000_0000 }; depth = 0 }
 
+-- a walk without positions in hand, by its numbers: the tests made, the base of the positions last in hand, the group in hand, and how many groups wait
+abbrev pub seeking : (tests held current bits depth : ℕ) → Walk
+seeking tests held current bits depth =
+    record { tests = tests; positions = record { base = held; bits = 0 }; current = record { base = current; bits = bits }; depth = depth }
+
 -- the walker of a ray with its octant, a walk and a stack
 abbrev pub walkerOf : Ray → ℕ → Walk → List ℕ → WalkerWords Beam
 walkerOf ray octant v stack =

@@ -10,7 +10,7 @@ ghost use Rattle.walk.specs.Words.{firstPosition, firstChild, restOf, waitingDe
 ghost use Rattle.walk.specs.WordStep.{visitWords, advanceWords, seekWords};
 ghost use Rattle.walk_record.specs.Beam.{beams};
 ghost use Rattle.walk_record.specs.Record.{nodeWordsAt};
-ghost use Rattle.advance.specs.Turn.{groupOf, walkerOf, begun, turned, Walkable, dueIn, dueGroup, lacksRoom, waits, stacked, isPast, followed, goesOn};
+ghost use Rattle.advance.specs.Turn.{groupOf, walkerOf, begun, turned, seeking, Walkable, dueIn, dueGroup, lacksRoom, waits, stacked, isPast, followed, goesOn};
 use node_test::Tested;
 use ray::Ray;
 use slot::Ends;
@@ -279,9 +279,14 @@ fn goes_on(turn: Turn, left: u32) -> bool
     }
 }
 
-// On from a walk without positions in hand until some are, nothing is left, or a test is refused: one test, and up to `most` more.
+// On from a walk without positions in hand until some are, nothing is left, or a test is refused: one test, and up to `most` more. It takes the walk's
+// numbers one by one, which go in registers: a struct would go through memory, and what is stored in parts and read whole waits for the stores.
 pub fn seek(
-    start: Walk,
+    tests: u32,
+    held: u32,
+    current: u32,
+    bits: u32,
+    depth: u32,
     most: u32,
     ray: Ray,
     e: Ends,
@@ -290,10 +295,23 @@ pub fn seek(
     record: &[u8],
     n: usize,
 ) -> Turn
-    requires { ⌜ Walkable (now «record») n ray e octant (start .depth) (length (now stack)) × (start .positions .bits ≡ 0) ⌝ }
-    ensures { λ r. ⌜ turned ray octant r (now (stack .exit)) ≡ seekWords (nodeCount (now («record» .entry))) (nodeWordsAt (now («record» .entry)) beams) most n (walkerOf ray octant start (now (stack .entry))) ⌝ }
+    requires { ⌜ Walkable (now «record») n ray e octant depth (length (now stack)) ⌝ }
+    ensures { λ r. ⌜ turned ray octant r (now (stack .exit))
+        ≡ seekWords (nodeCount (now («record» .entry))) (nodeWordsAt (now («record» .entry)) beams) most n
+        (walkerOf ray octant (seeking tests held current bits depth) (now (stack .entry))) ⌝ }
 {
-    let mut walk = start;
+    let mut walk = Walk {
+        tests,
+        positions: Group {
+            base: held,
+            bits: 0,
+        },
+        current: Group {
+            base: current,
+            bits,
+        },
+        depth,
+    };
     let mut left = most;
     loop {
         let turn = test_due(walk, ray, e, octant, stack, record, n);
@@ -303,5 +321,23 @@ pub fn seek(
         let next = turn.walk;
         walk = next;
         left -= 1;
+    }
+}
+
+// The walk after a turn, read number by number as it was stored.
+pub fn walk_after(turn: Turn) -> Walk
+    ensures { λ r. ⌜ r ≡ turn .walk ⌝ }
+{
+    Walk {
+        tests: turn.walk.tests,
+        positions: Group {
+            base: turn.walk.positions.base,
+            bits: turn.walk.positions.bits,
+        },
+        current: Group {
+            base: turn.walk.current.base,
+            bits: turn.walk.current.bits,
+        },
+        depth: turn.walk.depth,
     }
 }

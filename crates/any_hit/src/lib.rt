@@ -69,6 +69,7 @@ fn gather(
     record: &[u8],
     n: usize,
     ray: Ray,
+    e: slot::Ends,
     octant: u32,
     start: Walk,
     noted: u32,
@@ -80,18 +81,23 @@ fn gather(
     requires { ⌜ (start .positions .bits ≡ 0) × (noted ≤ most + 24) ⌝ }
     ensures { λ r. ⌜ Gathers (now («record» .entry)) n ray octant most (now (found .entry)) r (now (stack .exit)) (now (found .exit)) ⌝ }
 {
-    let e = slot::near_ends(ray.direction);
     let mut walk = start;
     let mut count = noted;
     while count <= most {
-        let turn = advance::seek(walk, ALL, ray, e, octant, stack, record, n);
-        let next = turn.walk;
-        let answer = turn.answer;
-        let state = state_of(answer);
+        let turn = advance::seek(walk.tests, walk.positions.base, walk.current.base, walk.current.bits, walk.depth, ALL, ray, e, octant, stack, record, n);
+        let next = advance::walk_after(turn);
+        let reply = turn.answer;
         walk = next;
-        match state {
-            State::Paused => {}
-            _ => return Gathered { state, walk, count },
+        match reply {
+            Answer::Done => {
+                let state = State::Done;
+                return Gathered { state, walk, count };
+            }
+            Answer::Refused(k) => {
+                let state = State::Refused(k);
+                return Gathered { state, walk, count };
+            }
+            _ => {}
         }
         while walk.positions.bits > 0 {
             let held = walk.positions;
@@ -155,7 +161,8 @@ fn walk_again(
     }
     let start = advance::begin();
     let mut stack = [0u64; 32];
-    let again = gather(record, n, ray, octant, start, 0, MANY, &mut stack, list);
+    let e = slot::near_ends(ray.direction);
+    let again = gather(record, n, ray, e, octant, start, 0, MANY, &mut stack, list);
     AnyHit::Listed(again.count, again.walk.tests)
 }
 
@@ -179,10 +186,12 @@ fn walk_on(
     let mut more = [0u32; 1024];
     copy(found, first.count as usize, &mut more);
     let start = first.walk;
+    let e = slot::near_ends(ray.direction);
     let rest = gather(
         record,
         n,
         ray,
+        e,
         octant,
         start,
         first.count,
@@ -212,7 +221,8 @@ fn walk_whole(record: &[u8], n: usize, ray: Ray, list: &mut [u32]) -> AnyHit
     let start = advance::begin();
     let mut stack = [0u64; 32];
     let mut found = [0u32; 64];
-    let first = gather(record, n, ray, octant, start, 0, 40, &mut stack, &mut found);
+    let e = slot::near_ends(ray.direction);
+    let first = gather(record, n, ray, e, octant, start, 0, 40, &mut stack, &mut found);
     let state = first.state;
     match state {
         State::Done => deliver(&found, first.count, first.walk.tests, list),

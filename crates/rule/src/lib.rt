@@ -192,11 +192,19 @@ pub fn meets_rule(s: &[u8], o: usize, meta8: u64, imask: u8, i: usize, m: usize,
     slots_ok(s, o, meta8, imask, n)
 }
 
-// Whether node i of a record of m nodes and n positions meets the node rule.
+// Whether node i of a record of m nodes and n positions meets the node rule. It does not call `meets_rule`: that has one caller, the walk's test of a
+// node, into whose loop it is compiled.
 pub fn node_rule(s: &[u8], i: usize, m: usize, n: usize) -> bool
     requires { ⌜ 80 * i + 80 ≤ length (now s) ⌝ }
     ensures { λ r. ⌜ r ≡ nodeRule (nodeAt (now (s .entry)) i) m n i ⌝ }
 {
     let o = 80 * i;
-    meets_rule(s, o, node::metas(s, o), node::imask(s, o), i, m, n)
+    let imask = node::imask(s, o);
+    if !head_ok(s, o) {
+        return false;
+    }
+    if !children_ok(s, o, imask, m, i) {
+        return false;
+    }
+    slots_ok(s, o, node::metas(s, o), imask, n)
 }

@@ -177,7 +177,24 @@ fn turn(walk: Walk, ray: Ray, octant: u32, stack: &mut [u64; 32], record: &[u8],
         return report(walk, n);
     }
     let e = slot::near_ends(ray.direction);
-    advance::seek(walk, 0, ray, e, octant, stack, record, n)
+    let tests = walk.tests;
+    let held = walk.positions.base;
+    let current = walk.current;
+    let depth = walk.depth;
+    advance::seek(
+        tests,
+        held,
+        current.base,
+        current.bits,
+        depth,
+        0,
+        ray,
+        e,
+        octant,
+        stack,
+        record,
+        n,
+    )
 }
 
 impl Walker {

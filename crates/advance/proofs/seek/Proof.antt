@@ -18,13 +18,13 @@ use Rattle.advance.proofs.seek.Statement.{statement}
 use Rattle.advance.proofs.seek.Tie as tie
 
 abbrev Inv-loop : tie.InvT-loop
-Inv-loop most ray e octant stack₀ «record» n walk₀ left₀ stack walk left =
+Inv-loop tests held current bits depth most ray e octant stack₀ «record» n walk₀ left₀ stack walk left =
     (length stack ≡ length stack₀) × (walk .depth ≤ capacity) × (walk .positions .bits ≡ 0)
     × (seekWords (nodeCount «record») (nodeWordsAt «record» beams) left n (walkerOf ray octant walk stack)
     ≡ seekWords (nodeCount «record») (nodeWordsAt «record» beams) most n (walkerOf ray octant walk₀ stack₀))
 
 abbrev μ-loop : tie.MeasureT-loop
-μ-loop most ray e octant stack₀ «record» n walk₀ left₀ stack walk left = left
+μ-loop tests held current bits depth most ray e octant stack₀ «record» n walk₀ left₀ stack walk left = left
 
 -- ---- a turn in the loop
 
@@ -46,7 +46,9 @@ module _ (c : tie.After-goes-on Inv-loop μ-loop) where
   w = walkerOf (l .before .before .before .args .ray) (l .before .before .before .args .octant) (l .loop .walk) (l .loop .stack)
 
   abbrev r : SteppedWords Beam
-  r = turned (l .before .before .before .args .ray) (l .before .before .before .args .octant) (c .before .before .before .test-due .result) (c .before .before .before .test-due .last .1 .1 .1 .1 .0)
+  r =
+      let t = c .before .before .before .test-due in
+      turned (l .before .before .before .args .ray) (l .before .before .before .args .octant) (t .result) (t .last .1 .1 .1 .1 .0)
 
   turn : r ≡ advanceWords m N n w
   turn = c .before .before .before .test-due .ensures
@@ -77,14 +79,24 @@ module _ (c : tie.After-goes-on Inv-loop μ-loop) where
 -- ---- the needs
 
 loop-holds : tie.Need-loop-holds Inv-loop μ-loop
-loop-holds c = let s = c .before .before in (refl, s .pre .0 .deep, s .pre .1, refl)
+loop-holds c = let s = c .before .before in (refl, s .pre .deep, refl, refl)
 
 test-due-requires : tie.Need-test-due-requires Inv-loop μ-loop
 test-due-requires c κs =
     let l = c .before .loop in
     let s = c .before .before .before .before in
-    let p = s .pre .0 in
-    (record { whole = p .whole; nodes = p .nodes; positions = p .positions; ends = p .ends; eight = p .eight; deep = l .inv .1; stack = omega (arith, l .inv .0, p .stack) }, l .inv .2)
+    let p = s .pre in (
+      record {
+        whole = p .whole;
+        nodes = p .nodes;
+        positions = p .positions;
+        ends = p .ends;
+        eight = p .eight;
+        deep = l .inv .1;
+        stack = omega (arith, l .inv .0, p .stack);
+      },
+      l .inv .2,
+    )
 
 goes-on-requires : tie.Need-goes-on-requires Inv-loop μ-loop
 goes-on-requires c κs = search needs

@@ -1,10 +1,12 @@
-use mathlib.Core.Path.{refl, _∙_}
+use mathlib.Core.Path.{refl, ap, _∙_}
 use native.Mathlib.Omega.{arith}
 use Rattle.record_shape.specs.Record.{nodeCount}
 use Rattle.walk_record.specs.Beam.{beams}
 use Rattle.walk_record.specs.Record.{nodeWordsAt}
 use Rattle.slot.specs.Parts.{endsOf}
+use Rattle.walk.specs.WordStep.{seekWords}
 use Rattle.advance.specs.Turn.{walkerOf}
+use Rattle.advance.proofs.Seeks.{seeking-from}
 use Rattle.traverse.proofs.Reports.{report-due, one-turn}
 use borrow.Author.Needs.{needs}
 use Rattle.traverse.proofs.turn.Statement.{statement}
@@ -26,16 +28,27 @@ near-ends-requires c κs = search needs
 
 seek-requires : tie.Need-seek-requires
 seek-requires c κs =
-    let s = c .before .before .before .before .before in
-    let w = s .pre (c .before .near-ends .result) (c .before .near-ends .ensures) in (
-      record { whole = w .whole; nodes = w .nodes; positions = w .positions; ends = w .ends; eight = w .eight; deep = w .deep; stack = omega arith },
-      omega (arith, c .before .before .if1 .left),
-    )
+    let e = c .before .before in
+    let w = e .before .before .before .before .pre (e .near-ends .result) (e .near-ends .ensures) in
+    record {
+      whole = w .whole;
+      nodes = w .nodes;
+      positions = w .positions;
+      ends = w .ends;
+      eight = w .eight;
+      deep = w .deep;
+      stack = omega arith;
+    }
 
 returns-2 : tie.Need-returns-2
 returns-2 c =
-    let a = c .before .before .before .before .before .before .args in
-    c .seek .ensures ∙ one-turn (a .n) (walkerOf (a .ray) (a .octant) (a .walk) (a .stack .now)) (nodeCount (a .«record» .now)) (nodeWordsAt (a .«record» .now) beams)
+    let i = c .before .before .before .before in
+    let a = i .before .before .before .args in
+    let m = nodeCount (a .«record» .now) in
+    let N = nodeWordsAt (a .«record» .now) beams in
+    c .seek .ensures
+    ∙ ap (seekWords m N 0 (a .n)) (seeking-from (a .ray) (a .octant) (a .stack .now) (a .walk) (omega (arith, i .if1 .left)))
+    ∙ one-turn (a .n) (walkerOf (a .ray) (a .octant) (a .walk) (a .stack .now)) m N
 
 pub turn-spec : {M : Type 1} → statement M
 turn-spec = tie.close (tie.spec report-requires returns near-ends-requires seek-requires returns-2)
