@@ -26,13 +26,13 @@ pub seeking-from : (ray : Ray) (octant : ℕ) (stack : List ℕ) (v : Walk) → 
     → walkerOf ray octant (seeking (v .tests) (v .positions .base) (v .current .base) (v .current .bits) (v .depth)) stack ≡ walkerOf ray octant v stack
 seeking-from ray octant stack v e =
     ap (λ (bits : ℕ). walkerOf ray octant
-      (record {
-        tests = v .tests;
-        positions = record { base = v .positions .base; bits = bits };
-        current = v .current;
-        depth = v .depth;
-      })
-      stack)
+    (record {
+      tests = v .tests;
+      positions = record { base = v .positions .base; bits = bits };
+      current = v .current;
+      depth = v .depth;
+    })
+    stack)
     (sym e)
 
 -- ---- by the tests that the code makes

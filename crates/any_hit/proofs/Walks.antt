@@ -31,13 +31,13 @@ use Rattle.advance.specs.declared.Walk.{Walk}
 use Rattle.advance.specs.declared.Answer.{Answer}
 use Rattle.advance.specs.declared.Answer.the-variants as A
 use Rattle.advance.specs.Turn.{answerOf, walkerOf, begun}
+use Rattle.advance.proofs.Answer.{the-type}
 use Rattle.query.specs.Walk.{Sized}
 use Rattle.query.proofs.Begins.{steady, leads-begun}
 use Rattle.query.proofs.Leads.{Steady, Sought, leads-past, leads-on, seek-sought}
 use Rattle.any_hit.specs.declared.State.{State}
 use Rattle.any_hit.specs.declared.State.the-variants.{Done, Paused, Refused}
 use Rattle.any_hit.specs.Gather.{metIn, stateOf, outcome, Walking, Counted, Stands}
-use Rattle.any_hit.proofs.State.{the-type}
 use Rattle.any_hit.proofs.Written.{met-next, met-front, met-over, met-kept}
 use Rattle.any_hit.proofs.Few.{seek-few}
 
@@ -127,12 +127,13 @@ module _ {bytes : List ℕ} {n : ℕ} {ray : Ray} (sized : Sized bytes n) (fit :
       )
       go (A.Refused j) (g, l) = ap (λ (o : OutcomeWords Beam (List ℕ)). o .ended) (sym g)
 
-  -- it ends there, or it is paused
-  pub walk-stands : (s : State) (u : WalkerWords Beam) → After s u → OneOf (0 ∷ 2 ∷ []) (tagOf the-type s) → (most : ℕ)
-      → Stands bytes n ray s most u count before found
-  walk-stands Done u h t most = h
-  walk-stands Paused u h t most = absurd (⊎-elim (λ e. omega arith) (λ e. omega arith) t)
-  walk-stands (Refused k) u h t most = h
+  -- with positions in hand it goes on
+  pub walk-goes : (a : Answer) (u : WalkerWords Beam) → After (stateOf a) u → OneOf (0 ∷ 1 ∷ []) (tagOf the-type a) → After Paused u
+  unfolding stateOf
+  walk-goes (A.Tested v) u h t = h
+  walk-goes (A.Position p) u h t = h
+  walk-goes A.Done u h t = absurd (⊎-elim (λ e. omega arith) (λ e. omega arith) t)
+  walk-goes (A.Refused k) u h t = absurd (⊎-elim (λ e. omega arith) (λ e. omega arith) t)
 
   -- ---- a position in hand
 

@@ -5,15 +5,17 @@ ghost use Prim.Native.Nat.{_+_, _≤_};
 ghost use lib.ListN.{length, take, set};
 ghost use Rattle.lists.specs.Splice.{splice};
 ghost use Rattle.ray.specs.Ray.{rayOf, octantOf};
+ghost use Rattle.slot.specs.Parts.{endsOf};
 ghost use Rattle.advance.specs.Turn.{walkerOf};
 ghost use Rattle.walk_record.specs.Beam.{beamOf, forgedBeam};
 ghost use Rattle.query.specs.Walk.{Sized};
 ghost use Rattle.any_hit.specs.AnyHit.{answerOf, fitted, walkOf, listOf, anyHitOf, listAfter};
-ghost use Rattle.any_hit.specs.Gather.{Walking, Counted, Gathers, stateOf, listWith};
+ghost use Rattle.any_hit.specs.Gather.{Walking, Counted, Gathers, listWith};
 use advance::Answer;
 use advance::Walk;
 use ray::Ray;
 use ray::Vec3;
+use slot::Ends;
 
 // As many more tests as there may be nodes.
 const ALL: u32 = 0xffff_ffff;
@@ -44,17 +46,6 @@ struct Gathered {
     count: u32,
 }
 
-// Where a walk stands after a search for positions.
-fn state_of(answer: Answer) -> State
-    ensures { λ r. ⌜ r ≡ stateOf answer ⌝ }
-{
-    match answer {
-        Answer::Done => State::Done,
-        Answer::Refused(k) => State::Refused(k),
-        _ => State::Paused,
-    }
-}
-
 // Writes a position at this place, if the list is that long.
 fn note(list: &mut [u32], at: usize, p: u32)
     ensures { λ _. ⌜ now (list .exit) ≡ set (now (list .entry)) at p ⌝ }
@@ -69,7 +60,7 @@ fn gather(
     record: &[u8],
     n: usize,
     ray: Ray,
-    e: slot::Ends,
+    e: Ends,
     octant: u32,
     start: Walk,
     noted: u32,
@@ -78,16 +69,32 @@ fn gather(
     found: &mut [u32],
 ) -> Gathered
     requires { ⌜ Sized (now «record») n × Walking (now «record») n ray (walkerOf ray octant start (now stack)) noted (now found) (now found) ⌝ }
-    requires { ⌜ (start .positions .bits ≡ 0) × (noted ≤ most + 24) ⌝ }
+    requires { ⌜ (e ≡ endsOf (ray .direction)) × (start .positions .bits ≡ 0) × (noted ≤ most + 24) ⌝ }
     ensures { λ r. ⌜ Gathers (now («record» .entry)) n ray octant most (now (found .entry)) r (now (stack .exit)) (now (found .exit)) ⌝ }
 {
     let mut walk = start;
     let mut count = noted;
     while count <= most {
-        let turn = advance::seek(walk.tests, walk.positions.base, walk.current.base, walk.current.bits, walk.depth, ALL, ray, e, octant, stack, record, n);
-        let next = advance::walk_after(turn);
+        let tests = walk.tests;
+        let held = walk.positions.base;
+        let current = walk.current;
+        let depth = walk.depth;
+        let turn = advance::seek(
+            tests,
+            held,
+            current.base,
+            current.bits,
+            depth,
+            ALL,
+            ray,
+            e,
+            octant,
+            stack,
+            record,
+            n,
+        );
         let reply = turn.answer;
-        walk = next;
+        walk = advance::walk_after(turn);
         match reply {
             Answer::Done => {
                 let state = State::Done;
@@ -222,7 +229,18 @@ fn walk_whole(record: &[u8], n: usize, ray: Ray, list: &mut [u32]) -> AnyHit
     let mut stack = [0u64; 32];
     let mut found = [0u32; 64];
     let e = slot::near_ends(ray.direction);
-    let first = gather(record, n, ray, e, octant, start, 0, 40, &mut stack, &mut found);
+    let first = gather(
+        record,
+        n,
+        ray,
+        e,
+        octant,
+        start,
+        0,
+        40,
+        &mut stack,
+        &mut found,
+    );
     let state = first.state;
     match state {
         State::Done => deliver(&found, first.count, first.walk.tests, list),

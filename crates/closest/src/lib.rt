@@ -132,9 +132,9 @@ fn walk_closest(bytes: &[u8], indices: &[u32], panes: &[f32], start: Ray) -> Clo
                 Met::Faulty(cause) => return refused_closest(cause),
             }
         }
-        let turn = advance::seek(walk.tests, walk.positions.base, walk.current.base, walk.current.bits, walk.depth, MOST, ray, e, octant, &mut stack, bytes, n);
+        let turn = advance::seek(walk, MOST, ray, e, octant, &mut stack, bytes, n);
         let reply = turn.answer;
-        let next = advance::walk_after(turn);
+        let next = turn.walk;
         match reply {
             Answer::Tested(_) => walk = next,
             Answer::Done => {
@@ -210,9 +210,9 @@ fn walk_miss(bytes: &[u8], indices: &[u32], panes: &[f32], ray: Ray) -> MissFoun
                 Met::Faulty(cause) => return refused_miss(cause),
             }
         }
-        let turn = advance::seek(walk.tests, walk.positions.base, walk.current.base, walk.current.bits, walk.depth, MOST, ray, e, octant, &mut stack, bytes, n);
+        let turn = advance::seek(walk, MOST, ray, e, octant, &mut stack, bytes, n);
         let reply = turn.answer;
-        let next = advance::walk_after(turn);
+        let next = turn.walk;
         match reply {
             Answer::Tested(_) => walk = next,
             Answer::Done => {

@@ -19,12 +19,16 @@ returns c =
 begin-requires : tie.Need-begin-requires
 begin-requires c κs = search needs
 
+near-ends-requires : tie.Need-near-ends-requires
+near-ends-requires c κs = search needs
+
 slice-aggregate-gather : tie.Need-slice-aggregate-gather
 slice-aggregate-gather c = search needs
 
 gather-requires : tie.Need-gather-requires
 gather-requires c κs =
-    let b = c .before .before in
+    let e = c .before .before in
+    let b = e .before in
     let i = b .before .before .before in
     let s = i .before in
     let a = s .args in
@@ -32,7 +36,7 @@ gather-requires c κs =
     let r = b .begin in
     let fit = bytes-fit _ (λ j. i .shared-slice-known .given j .fits) in
     let w = walk-begins (a .«record» .now) (a .n) (a .ray) (a .list .now) fit (p .1) (a .octant) (p .2) (r .result) (r .ensures) in
-    ((p .0, w), (ap (λ (v : Walk). v .positions .bits) (r .ensures), omega arith))
+    ((p .0, w), (e .near-ends .ensures, ap (λ (v : Walk). v .positions .bits) (r .ensures), omega arith))
 
 same-length : tie.Need-same-length
 same-length c = search needs
@@ -41,13 +45,13 @@ returns-2 : tie.Need-returns-2
 unfolding answerOf
 returns-2 c =
     let k = c .before .before .before in
-    let i = k .before .before .before .before in
+    let i = k .before .before .before .before .before in
     let s = i .before .before .before in
     let a = s .args in
     let g = k .gather .result in
-    let l = k .gather .last .1 .1 .1 .1 .1 .1 .1 in
+    let l = k .gather .last .1 .1 .1 .1 .1 .1 .1 .1 in
     ends-again (a .«record» .now) (a .n) (a .ray) (a .list .now) (s .pre .1) (i .if1 .left) (s .pre .0 .0)
     (g .state) 0xffff_0000 (walkerOf (a .ray) (a .octant) (g .walk) (l .0)) (g .count) (l .1 .0) (omega arith) (k .gather .ensures .1)
 
 pub walk-again-spec : {M : Type 1} → statement M
-walk-again-spec = tie.close (tie.spec returns begin-requires slice-aggregate-gather gather-requires same-length returns-2)
+walk-again-spec = tie.close (tie.spec returns begin-requires near-ends-requires slice-aggregate-gather gather-requires same-length returns-2)

@@ -19,19 +19,22 @@ use Rattle.any_hit.proofs.walk_on.Tie as tie
 -- ---- after the walk has gone on
 
 module _ (c : tie.After-gather) where
+  abbrev copied : tie.After-copy
+  copied = c .before .before .before .before .before .before
+
   abbrev s : tie.Start
-  s = c .before .before .before .before .before .before .before .before .before .before .before .before
+  s = copied .before .before .before .before .before .before .before
 
   -- the walker then, and the positions kept aside
   abbrev w : WalkerWords Beam
-  w = walkerOf (s .args .ray) (s .args .octant) (c .gather .result .walk) (c .gather .last .1 .1 .1 .1 .1 .1 .1 .0)
+  w = walkerOf (s .args .ray) (s .args .octant) (c .gather .result .walk) (c .gather .last .1 .1 .1 .1 .1 .1 .1 .1 .0)
 
   abbrev kept : List ℕ
-  kept = c .gather .last .1 .1 .1 .1 .1 .1 .1 .1 .0
+  kept = c .gather .last .1 .1 .1 .1 .1 .1 .1 .1 .1 .0
 
   -- and the list that they were written to
   abbrev moved : List ℕ
-  moved = c .before .before .before .before .before .copy .last .1 .1 .0
+  moved = copied .copy .last .1 .1 .0
 
   -- where it stands
   abbrev At : State → Type 0
@@ -56,16 +59,20 @@ slice-aggregate-copy c = search needs
 copy-requires : tie.Need-copy-requires
 copy-requires c κs = search needs
 
+near-ends-requires : tie.Need-near-ends-requires
+near-ends-requires c κs = search needs
+
 slice-aggregate-gather : tie.Need-slice-aggregate-gather
 slice-aggregate-gather c = search needs
 
 gather-requires : tie.Need-gather-requires
 gather-requires c κs =
-    let k = c .before .before .before .before in
+    let e = c .before .before in
+    let k = e .before .before .before in
     let s = k .before .before .before .before .before .before .before in
     let p = s .pre .1 .1 in (
       (s .pre .0 .0, walk-moved (s .pre .1 .0) (p .1) (replicate 1024 0) (p .2) _ (k .copy .ensures)),
-      (p .0, omega (arith, p .2)),
+      (e .near-ends .ensures, p .0, omega (arith, p .2)),
     )
 
 enum-known-state : tie.Need-enum-known-state
@@ -117,7 +124,7 @@ returns-3 c =
     let k = d .before .before .before .before in
     let a = s k .args in
     let h : k .gather .result .count ≤ length (kept k) =
-    omega (arith, e .if1 .left, k .gather .kept .1 .1 .1 .1 .1 .1 .1 .1 .0, k .before .before .before .before .before .copy .kept .1 .1 .0) in
+    omega (arith, e .if1 .left, k .gather .kept .1 .1 .1 .1 .1 .1 .1 .1 .1 .0, copied k .copy .kept .1 .1 .0) in
     let q = ends-kept (a .«record» .now) (a .n) (a .ray) (a .list .now) (done d .0) (moved k) (kept k) (done d .1) h in
     (r .deliver .ensures .0 ∙ q .0, r .deliver .ensures .1 ∙ q .1)
 
@@ -128,6 +135,7 @@ walk-on-spec =
     cast-copy
     slice-aggregate-copy
     copy-requires
+    near-ends-requires
     slice-aggregate-gather
     gather-requires
     enum-known-state

@@ -21,14 +21,15 @@ use Rattle.any_hit.proofs.walk_whole.Tie as tie
 
 module _ (c : tie.After-gather) where
   abbrev s : tie.Start
-  s = c .before .before .before .before .before .before .before
+  s = c .before .before .before .before .before .before .before .before
 
   -- the walker then, and the positions kept aside
   abbrev w : WalkerWords Beam
-  w = walkerOf (s .args .ray) (c .before .before .before .before .octant .result) (c .gather .result .walk) (c .gather .last .1 .1 .1 .1 .1 .1 .1 .0)
+  w = walkerOf (s .args .ray) (c .before .before .before .before .before .octant .result) (c .gather .result .walk)
+      (c .gather .last .1 .1 .1 .1 .1 .1 .1 .1 .0)
 
   abbrev kept : List ℕ
-  kept = c .gather .last .1 .1 .1 .1 .1 .1 .1 .1 .0
+  kept = c .gather .last .1 .1 .1 .1 .1 .1 .1 .1 .1 .0
 
   -- where it stands
   abbrev At : State → Type 0
@@ -45,6 +46,9 @@ octant-requires c κs = search needs
 begin-requires : tie.Need-begin-requires
 begin-requires c κs = search needs
 
+near-ends-requires : tie.Need-near-ends-requires
+near-ends-requires c κs = search needs
+
 slice-aggregate-gather : tie.Need-slice-aggregate-gather
 slice-aggregate-gather c = search needs
 
@@ -53,7 +57,8 @@ slice-aggregate-gather-2 c = search needs
 
 gather-requires : tie.Need-gather-requires
 gather-requires c κs =
-    let b = c .before .before in
+    let e = c .before .before in
+    let b = e .before in
     let i = b .before .before .before in
     let s = i .before in
     let a = s .args in
@@ -61,7 +66,7 @@ gather-requires c κs =
     let r = b .begin in
     let fit = bytes-fit _ (λ j. i .shared-slice-known .given j .fits) in
     let w = walk-begins (a .«record» .now) (a .n) (a .ray) (replicate 64 0) fit (s .pre .1) (o .result) (o .ensures) (r .result) (r .ensures) in
-    ((s .pre .0, w), (ap (λ (v : Walk). v .positions .bits) (r .ensures), omega arith))
+    ((s .pre .0, w), (e .near-ends .ensures, ap (λ (v : Walk). v .positions .bits) (r .ensures), omega arith))
 
 enum-told : tie.Need-enum-told
 enum-told c = search needs
@@ -90,8 +95,8 @@ walk-on-requires c κs =
     let k = t .before .before .before .before in
     let p = stands k (t .enum-told2 .given .1) in
     let h = k .gather .ensures .0 in
-    let e = k .gather .kept .1 .1 .1 .1 .1 .1 .1 .1 .0 in
-    let o = k .before .before .before .before .octant in
+    let e = k .gather .kept .1 .1 .1 .1 .1 .1 .1 .1 .1 .0 in
+    let o = k .before .before .before .before .before .octant in
     ((s k .pre .0, s k .pre .1, o .ensures), (walk-kept (p .2), (p .1, omega (arith, h, e), omega (arith, h))))
 
 same-length : tie.Need-same-length
@@ -104,7 +109,7 @@ returns c =
     let k = t .before .before .before .before in
     let p = stands k (t .enum-told .given .1) in
     let a = s k .args in
-    let h : k .gather .result .count ≤ length (kept k) = omega (arith, k .gather .ensures .0, k .gather .kept .1 .1 .1 .1 .1 .1 .1 .1 .0) in
+    let h : k .gather .result .count ≤ length (kept k) = omega (arith, k .gather .ensures .0, k .gather .kept .1 .1 .1 .1 .1 .1 .1 .1 .1 .0) in
     let q = ends-kept (a .«record» .now) (a .n) (a .ray) (a .list .now) (p .0) (replicate 64 0) (kept k) (p .1) h in
     (d .deliver .ensures .0 ∙ q .0, d .deliver .ensures .1 ∙ q .1)
 
@@ -127,6 +132,7 @@ walk-whole-spec =
     (tie.spec
     octant-requires
     begin-requires
+    near-ends-requires
     slice-aggregate-gather
     slice-aggregate-gather-2
     gather-requires
