@@ -1,7 +1,7 @@
 -- The distance of an accepted box from an accepted ray is a number, the same whatever reach the ray has; and such distances stand in a strict order.
 use mathlib.Core.Bool.{Bool, true, false, not, _&&_, cond}
 use mathlib.Core.List.{List}
-use mathlib.Core.Path.{_≡_, refl, sym, ap, subst}
+use mathlib.Core.Path.{_≡_, refl, sym, ap, _∙_, subst}
 use Prim.Native.Nat.{ℕ, _/_, _<_}
 use lib.Dec.{T, lit<, lit≤}
 use lib.Ieee.{Float, inf, lt, le, eq, isNan}
@@ -13,18 +13,20 @@ use Rattle.float.proofs.Magnitude.{sub-within, mul-within}
 use Rattle.float.proofs.Order.{lt-through, lt-self, lt-between}
 use Rattle.ray.specs.declared.Ray.{Ray}
 use Rattle.ray.specs.declared.Vec3.{Vec3}
-use Rattle.ray.specs.Ray.{rayOf, acceptedRay}
+use Rattle.ray.specs.Ray.{rayOf, counts, acceptedRay}
 use Rattle.ray.proofs.Bounds.{inverse-within}
 use Rattle.ray.proofs.Bounds as R
+use Rattle.ray.proofs.Counts.{counts-is}
 use Rattle.aabb.specs.declared.Aabb.{Aabb}
 use Rattle.aabb.specs.Aabb.{planeDistance, slabNear, boxNear, boxFar, entryDistance, acceptedBox}
 use Rattle.aabb.proofs.Bounds as B
+use Rattle.packed.specs.Packed.{boxIn}
 use Rattle.hits.proofs.Terms.{max-no-nan, min-no-nan, within-no-nan}
 use Rattle.walk.specs.Queries.{distance}
 use Rattle.walk.proofs.Nearest.{Order}
 use Rattle.walk.proofs.Noted.{Reaching}
 use Rattle.walk_record.specs.Beam.{Beam, reaching, toldBeam}
-use Rattle.closest.specs.Panes.{paneBox, paneMet, paneOf, nearer}
+use Rattle.closest.specs.Panes.{paneMet, paneOf, nearer}
 
 -- no NaN
 abbrev pub Number : Float → Type 0
@@ -80,8 +82,8 @@ distance-number b o d near far p q =
 
 module _ (indices : List ℕ) (panes : List Float) where
   -- a pane that is there and has an accepted box is met at its distance
-  pub met-there : (k : ℕ) (r : Ray) → k < length panes / 6 → acceptedBox (paneBox panes k) ≡ true
-      → paneMet panes k r ≡ distance (entryDistance (paneBox panes k) r)
+  pub met-there : (k : ℕ) (r : Ray) → k < length panes / 6 → acceptedBox (boxIn panes k) ≡ true
+      → paneMet panes k r ≡ distance (entryDistance (boxIn panes k) r)
   unfolding paneMet
   met-there k r h a = rw (lt-ltb k (length panes / 6) h, a)
 
@@ -93,7 +95,7 @@ module _ (indices : List ℕ) (panes : List Float) where
   reach-pane p t b false = refl
 
   told-reach : (t : Float) (b : Beam) → lt t (b .ray .tmax) ≡ true → toldBeam t b .ray .tmax ≡ t
-  told-reach t b e = ap (λ (c : Bool). cond c (reaching t (b .ray)) (b .ray) .tmax) e
+  told-reach t b e = ap (λ (c : Bool). cond c (reaching t (b .ray)) (b .ray) .tmax) (counts-is (b .ray) t ∙ e)
 
   pub panes-reached : Reaching toldBeam (paneOf indices panes) nearer lt (λ b. b .ray .tmax)
-  panes-reached = record { nearer-is = λ t b. refl; told-reach = told-reach; told-pane = λ p t b. reach-pane p t b (lt t (b .ray .tmax)) }
+  panes-reached = record { nearer-is = λ t b. counts-is (b .ray) t; told-reach = told-reach; told-pane = λ p t b. reach-pane p t b (counts (b .ray) t) }

@@ -9,15 +9,16 @@ use borrow.Author.Tests.{lt-ltb, le-ltb}
 use Rattle.ray.specs.declared.Ray.{Ray}
 use Rattle.aabb.specs.declared.Aabb.{Aabb}
 use Rattle.aabb.specs.Aabb.{acceptedBox, entryDistance}
+use Rattle.packed.specs.Packed.{boxIn}
 use Rattle.walk.specs.Queries.{distance, faulty}
-use Rattle.closest.specs.Panes.{paneBox, paneMet}
+use Rattle.closest.specs.Panes.{paneMet}
 
 module _ (panes : List Float) (k : ℕ) (r : Ray) where
   pub met-nowhere : length panes / 6 ≤ k → faulty 10 ≡ paneMet panes k r
   unfolding paneMet
   met-nowhere h = rw (le-ltb k (length panes / 6) h)
 
-  module _ (there : k < length panes / 6) (b : Aabb) (e : b ≡ paneBox panes k) where
+  module _ (there : k < length panes / 6) (b : Aabb) (e : b ≡ boxIn panes k) where
     pub met-faulty : acceptedBox b ≡ false → faulty 6 ≡ paneMet panes k r
     unfolding paneMet
     met-faulty h = rw (lt-ltb k (length panes / 6) there, rw e at h)

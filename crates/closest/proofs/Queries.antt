@@ -3,9 +3,10 @@ use mathlib.Core.Bool.{Bool, true, false, cond}
 use mathlib.Core.List.{List, []}
 use mathlib.Core.Path.{_≡_, refl, sym, ap, _∙_, subst}
 use Prim.Native.Nat.{ℕ, _≤_, _<_}
-use lib.Ieee.{Float, lt}
+use lib.Ieee.{Float}
 use lib.ListN.{length, getD}
 use Rattle.ray.specs.declared.Ray.{Ray}
+use Rattle.ray.specs.Ray.{counts}
 use Rattle.walk.specs.Step as S
 use Rattle.walk.specs.Queries.{Reaction, Pane, distance, faulty, Found, none, hit, fault, closest, miss, lower, lowerAt, blockAt}
 use Rattle.record_shape.specs.Record.{nodeCount}
@@ -73,14 +74,14 @@ module _ (indices : List ℕ) (panes : List Float) (p : ℕ) (b : Beam) (x : Fou
   unfolding paneOf paneOfMet
   found-faulty k q = sym e ∙ ap paneOfMet q
 
-  closest-at : (t : Float) → met ≡ At t → (c : Bool) → lt t (b .ray .tmax) ≡ c → closest (paneOf indices panes) nearer p b x ≡ lower (paneOf indices panes) nearer c p t x
+  closest-at : (t : Float) → met ≡ At t → (c : Bool) → counts (b .ray) t ≡ c → closest (paneOf indices panes) nearer p b x ≡ lower (paneOf indices panes) nearer c p t x
   closest-at t q c h =
       ap (λ (y : Pane Float). lowerAt (paneOf indices panes) nearer y p b x) (found-at t q) ∙ ap (λ (d : Bool). lower (paneOf indices panes) nearer d p t x) h
 
   closest-faulty : (k : ℕ) → met ≡ Faulty k → closest (paneOf indices panes) nearer p b x ≡ record { noted = fault k; tells = []; stop = true }
   closest-faulty k q = ap (λ (y : Pane Float). lowerAt (paneOf indices panes) nearer y p b x) (found-faulty k q)
 
-  miss-at : (t : Float) → met ≡ At t → (c : Bool) → lt t (b .ray .tmax) ≡ c → miss (paneOf indices panes) nearer p b x ≡ record { noted = cond c (hit p t) x; tells = []; stop = c }
+  miss-at : (t : Float) → met ≡ At t → (c : Bool) → counts (b .ray) t ≡ c → miss (paneOf indices panes) nearer p b x ≡ record { noted = cond c (hit p t) x; tells = []; stop = c }
   miss-at t q c h =
       ap (λ (y : Pane Float). blockAt (paneOf indices panes) nearer y p b x) (found-at t q)
       ∙ ap (λ (d : Bool). record { noted = cond d (hit p t) x; tells = []; stop = d }) h
@@ -139,8 +140,8 @@ module _ {indices : List ℕ} {panes : List Float} {bytes : List ℕ} {goal : Ou
     unfolding closestFound
     closest-fails k f = ends-stopped refusedClosest closestFound (stops P (closest-faulty indices panes p (record { ray = ray; octant = octant }) x met (P .pane) k f))
 
-    -- a distance below the reach is noted and becomes the reach
-    pub closest-lowers : (d : Float) → met ≡ At d → lt d (ray .tmax) ≡ true
+    -- a distance that counts is noted and becomes the reach
+    pub closest-lowers : (d : Float) → met ≡ At d → counts ray d ≡ true
         → Goes (nodeCount bytes) (nodeWordsAt bytes beams) (length indices) (closest (paneOf indices panes) nearer) goal (walkerOf ray octant v stack)
         (walkerOf (reaching d ray) octant (reported P) stack) (hit p d)
     closest-lowers d f h =
@@ -149,7 +150,7 @@ module _ {indices : List ℕ} {panes : List Float} {bytes : List ℕ} {goal : Ou
         (goes P (closest-at indices panes p (record { ray = ray; octant = octant }) x met (P .pane) d f true h))
 
     -- any other changes nothing
-    pub closest-passes : (d : Float) → met ≡ At d → lt d (ray .tmax) ≡ false
+    pub closest-passes : (d : Float) → met ≡ At d → counts ray d ≡ false
         → Goes (nodeCount bytes) (nodeWordsAt bytes beams) (length indices) (closest (paneOf indices panes) nearer) goal (walkerOf ray octant v stack) (walkerOf ray octant (reported P) stack) x
     closest-passes d f h = goes P (closest-at indices panes p (record { ray = ray; octant = octant }) x met (P .pane) d f false h)
 
@@ -159,13 +160,13 @@ module _ {indices : List ℕ} {panes : List Float} {bytes : List ℕ} {goal : Ou
     unfolding missFound
     miss-fails k f = ends-stopped refusedMiss missFound (stops P (miss-faulty indices panes p (record { ray = ray; octant = octant }) x met (P .pane) k f))
 
-    -- a distance below the reach ends it
-    pub miss-blocks : (d : Float) → met ≡ At d → lt d (ray .tmax) ≡ true → record { answer = blocked; tests = v .tests } ≡ walked refusedMiss missFound goal (goal .ended)
+    -- a distance that counts ends it
+    pub miss-blocks : (d : Float) → met ≡ At d → counts ray d ≡ true → record { answer = blocked; tests = v .tests } ≡ walked refusedMiss missFound goal (goal .ended)
     unfolding missFound
     miss-blocks d f h = ends-stopped refusedMiss missFound (stops P (miss-at indices panes p (record { ray = ray; octant = octant }) x met (P .pane) d f true h))
 
     -- any other changes nothing
-    pub miss-passes : (d : Float) → met ≡ At d → lt d (ray .tmax) ≡ false
+    pub miss-passes : (d : Float) → met ≡ At d → counts ray d ≡ false
         → Goes (nodeCount bytes) (nodeWordsAt bytes beams) (length indices) (miss (paneOf indices panes) nearer) goal (walkerOf ray octant v stack) (walkerOf ray octant (reported P) stack) x
     miss-passes d f h = goes P (miss-at indices panes p (record { ray = ray; octant = octant }) x met (P .pane) d f false h)
 

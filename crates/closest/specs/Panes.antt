@@ -2,14 +2,14 @@
 -- its index word names.
 use mathlib.Core.Bool.{Bool, cond}
 use mathlib.Core.List.{List}
-use Prim.Native.Nat.{ℕ, zero, suc, _+_, _*_, _/_, _%_}
+use Prim.Native.Nat.{ℕ, zero, suc, _/_, _%_}
 use lib.Dec.{eqb, ltb}
 use lib.ListN.{length, getD}
-use lib.Ieee.{Float, nan, lt}
-use Rattle.ray.specs.declared.Vec3.{Vec3}
+use lib.Ieee.{Float}
 use Rattle.ray.specs.declared.Ray.{Ray}
-use Rattle.aabb.specs.declared.Aabb.{Aabb}
+use Rattle.ray.specs.Ray.{counts}
 use Rattle.aabb.specs.Aabb.{acceptedBox, entryDistance}
+use Rattle.packed.specs.Packed.{boxIn}
 use Rattle.walk.specs.Step as S
 use Rattle.walk.specs.Queries.{Pane, distance, faulty, Found, none, hit, fault, closest, miss}
 use Rattle.walk.specs.WordQueries.{OutcomeWords}
@@ -27,28 +27,20 @@ use Rattle.closest.specs.declared.Met.the-variants as P
 
 -- ---- panes
 
--- x, y, z, from a place on
-abbrev pub cornerAt : List Float → ℕ → Vec3
-cornerAt panes at = record { x = getD panes at nan; y = getD panes (at + 1) nan; z = getD panes (at + 2) nan }
-
--- pane k: min x, y, z, then max x, y, z
-unfoldable pub paneBox : List Float → ℕ → Aabb
-paneBox panes k = record { min = cornerAt panes (k * 6); max = cornerAt panes (k * 6 + 3) }
-
 -- pane k as a ray meets it: one that is not there is cause 10, and one whose box is not accepted is cause 6
 unfoldable pub paneMet : List Float → ℕ → Ray → Pane Float
-unfolding paneBox
+unfolding boxIn
 paneMet panes k r =
-    cond (ltb k (length panes / 6)) (cond (acceptedBox (paneBox panes k)) (distance (entryDistance (paneBox panes k) r)) (faulty 6)) (faulty 10)
+    cond (ltb k (length panes / 6)) (cond (acceptedBox (boxIn panes k)) (distance (entryDistance (boxIn panes k) r)) (faulty 6)) (faulty 10)
 
 -- the pane of a position
 unfoldable pub paneOf : List ℕ → List Float → ℕ → Beam → Pane Float
 unfolding paneMet
 paneOf indices panes p b = paneMet panes (getD indices p 0) (b .ray)
 
--- a distance below the reach
+-- a distance that counts for a walk's ray
 abbrev pub nearer : Float → Beam → Bool
-nearer t b = lt t (b .ray .tmax)
+nearer t b = counts (b .ray) t
 
 -- ---- answers
 

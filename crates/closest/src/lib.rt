@@ -1,13 +1,12 @@
 // Closest and miss over a record and its panes (cwbvh/mod.rs, ray_traverse and ray_traverse_miss).
 ghost use mathlib.Core.Path.{_≡_};
 ghost use mathlib.Core.Bool.{false};
-ghost use Prim.Native.Nat.{_+_, _*_, _≤_, _<_};
+ghost use Prim.Native.Nat.{_<_};
 ghost use lib.ListN.{length, getD};
 ghost use Rattle.ray.specs.Ray.{rayOf};
 ghost use Rattle.walk_record.specs.Beam.{beamOf, forgedBeam};
 ghost use Rattle.query.specs.Walk.{Sized};
-ghost use Rattle.closest.specs.Panes.{cornerAt, paneBox, paneMet, paneOfMet, closestWalked, missWalked, closestOf, missOf, closestResult, missResult};
-use aabb::Aabb;
+ghost use Rattle.closest.specs.Panes.{paneMet, paneOfMet, closestWalked, missWalked, closestOf, missOf, closestResult, missResult};
 use advance::Answer;
 use advance::Walk;
 use ray::Ray;
@@ -48,36 +47,14 @@ enum Met {
     Faulty(u32),
 }
 
-// Three floats, from a place on.
-fn corner_at(panes: &[f32], at: usize) -> Vec3
-    requires { ⌜ at + 3 ≤ length (now panes) ⌝ }
-    ensures { λ r. ⌜ r ≡ cornerAt (now (panes .entry)) at ⌝ }
-{
-    Vec3 {
-        x: panes[at],
-        y: panes[at + 1],
-        z: panes[at + 2],
-    }
-}
-
-// The box of pane k.
-fn pane_box(panes: &[f32], k: usize) -> Aabb
-    requires { ⌜ k * 6 + 6 ≤ length (now panes) ⌝ }
-    ensures { λ r. ⌜ r ≡ paneBox (now (panes .entry)) k ⌝ }
-{
-    let min = corner_at(panes, k * 6);
-    let max = corner_at(panes, k * 6 + 3);
-    Aabb { min, max }
-}
-
 // Pane k as a ray meets it: whether it is there comes before whether its box is accepted.
 fn pane_met(panes: &[f32], k: usize, ray: Ray) -> Met
     ensures { λ r. ⌜ paneOfMet r ≡ paneMet (now (panes .entry)) k ray ⌝ }
 {
-    if k >= panes.len() / 6 {
+    if k >= panes.len() / packed::BOX {
         return Met::Faulty(10);
     }
-    let bounds = pane_box(panes, k);
+    let bounds = packed::box_at(panes, k);
     if !bounds.accepted() {
         return Met::Faulty(6);
     }
@@ -124,7 +101,7 @@ fn walk_closest(bytes: &[u8], indices: &[u32], panes: &[f32], start: Ray) -> Clo
             walk = Walk { positions, ..walk };
             match met {
                 Met::At(t) => {
-                    if t < ray.tmax {
+                    if ray.counts(t) {
                         answer = ClosestHit::Hit(p as u32, t);
                         ray = Ray { tmax: t, ..ray };
                     }
@@ -160,7 +137,7 @@ pub fn closest(
     ensures { λ r. ⌜ closestResult r ≡ closestOf (now («record» .entry)) (now (indices .entry)) (now (panes .entry)) (rayOf origin direction tmin tmax) ⌝ }
 {
     let ray = Ray::new(origin, direction, tmin, tmax);
-    let fits = panes.len() % 6 == 0;
+    let fits = panes.len() % packed::BOX == 0;
     let cause = query::entry_cause(fits, record.len(), indices.len(), ray);
     if cause > 0 {
         return refused_closest(cause);
@@ -202,7 +179,7 @@ fn walk_miss(bytes: &[u8], indices: &[u32], panes: &[f32], ray: Ray) -> MissFoun
             walk = Walk { positions, ..walk };
             match met {
                 Met::At(distance) => {
-                    if distance < ray.tmax {
+                    if ray.counts(distance) {
                         answer = Occlusion::Blocked;
                         break 'walk;
                     }
@@ -240,7 +217,7 @@ pub fn miss(
     ensures { λ r. ⌜ missResult r ≡ missOf (now («record» .entry)) (now (indices .entry)) (now (panes .entry)) (rayOf origin direction tmin tmax) ⌝ }
 {
     let ray = Ray::new(origin, direction, tmin, tmax);
-    let fits = panes.len() % 6 == 0;
+    let fits = panes.len() % packed::BOX == 0;
     let cause = query::entry_cause(fits, record.len(), indices.len(), ray);
     if cause > 0 {
         return refused_miss(cause);

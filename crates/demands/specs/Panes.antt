@@ -14,18 +14,19 @@ use Rattle.walk.specs.Calls.{All, reported}
 use Rattle.walk.specs.Queries.{distance, none, closest, miss}
 use Rattle.walk.specs.Reports.{testedNodes, upTo, NoneBelow, Nearest, Blocks}
 use Rattle.walk_record.specs.Walk.{Passed}
-use Rattle.closest.specs.Panes.{paneBox, paneMet, paneOf, nearer, hitAt, noHit, missed, blocked, closestOf, missOf}
+use Rattle.packed.specs.Packed.{boxIn}
+use Rattle.closest.specs.Panes.{paneMet, paneOf, nearer, hitAt, noHit, missed, blocked, closestOf, missOf}
 use Rattle.demands.specs.Runs.{answersMade}
 
 -- Panes of six floats each, every one with an accepted box, and every index word the number of one.
 pub record Panes (indices : List ℕ) (panes : List Float) : Type 0 where
   pub whole : length panes % 6 ≡ 0
-  pub accepted : (k : ℕ) → k < length panes / 6 → acceptedBox (paneBox panes k) ≡ true
+  pub accepted : (k : ℕ) → k < length panes / 6 → acceptedBox (boxIn panes k) ≡ true
   pub named : (p : ℕ) → p < length indices → getD indices p 0 < length panes / 6
 
 -- the distance at which a ray enters a position's pane
 abbrev pub distanceOf : List ℕ → List Float → Ray → ℕ → Float
-distanceOf indices panes ray p = entryDistance (paneBox panes (getD indices p 0)) ray
+distanceOf indices panes ray p = entryDistance (boxIn panes (getD indices p 0)) ray
 
 module _ (bytes indices : List ℕ) (panes : List Float) (ray : Ray) where
   -- the answers of the steps that closest and miss make, and the positions that these report, in order

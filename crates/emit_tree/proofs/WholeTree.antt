@@ -30,7 +30,7 @@ unfolding block
 block-size e = length-node (nodeOf e)
 
 both : (indices : List ℕ) (es : List Entry) (z : Written)
-    → (writeAll (writeEntry indices) z es .bytes ≡ writeAll (put block block-size) (z .bytes) es) × (writeAll (writeEntry indices) z es .list ≡ writeAll (writePositions (λ p. getD indices p 0)) (z .list) es)
+    → (writeAll (writeEntry indices) z es .bytes ≡ writeAll (put 80 block) (z .bytes) es) × (writeAll (writeEntry indices) z es .list ≡ writeAll (writePositions (λ p. getD indices p 0)) (z .list) es)
 unfolding writeEntry block
 both indices [] z = (refl, refl)
 both indices (e ∷ es) z = both indices es (writeEntry indices e z)
@@ -60,7 +60,7 @@ whole-done ws ds indices ordered bytes list bytes₁ list₁ x h g =
     let c = e ∙ ap (λ (b : _). convertNode (writeEntry indices) b (slotsAt ws ordered (h .at .limit) 127 0) 0 0 0 0 (stateOf bytes list (record { nodes = 1; positions = 0 }))) (sym (box-is ws 127 0)) ∙ converted (writeEntry indices) t z in
     let w = both indices (layout t) z in
     record {
-      bytes-are = ap (λ (s : State Written). s .written .bytes) c ∙ w .0 ∙ written block block-size t bytes (h .record-room);
+      bytes-are = ap (λ (s : State Written). s .written .bytes) c ∙ w .0 ∙ written 80 block block-size t bytes (h .record-room);
       list-is =
           ap (λ (s : State Written). s .written .list) c ∙ w .1 ∙ positions-all (λ p. getD indices p 0) t list (h .list-room)
           ∙ ap (λ (n : ℕ). map (λ p. getD indices p 0) (indexList t) ++ drop n list) (sym (zero-add _ ∙ length-map (indexList t) (λ p. getD indices p 0) ∙ index-length t));

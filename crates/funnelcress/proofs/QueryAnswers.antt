@@ -12,7 +12,7 @@ use Rattle.ray.specs.Ray.{rayOf}
 use Rattle.query.specs.Entry.{entryCause}
 use Rattle.any_hit.specs.AnyHit.{Answer, refused, anyHitOf, listAfter}
 use Rattle.closest.specs.Panes.{Result, ClosestAnswer, refusedClosest, MissAnswer, refusedMiss, paneCause, closestOf, missOf}
-use Rattle.funnelcress.specs.Lists.{rayAt}
+use Rattle.packed.specs.Packed.{rayIn}
 use Rattle.funnelcress.specs.Queries.{ofEight, anyHitBy, listBy, shortCause, closestIn, closestBy, distanceIn, missBy}
 use Rattle.funnelcress.specs.Queries.{anyHitNumber, closestNumber, missNumber}
 
@@ -21,8 +21,8 @@ module _ (ray : List Float) where
   abbrev again : Ray → Ray
   again r = rayOf (r .origin) (r .direction) (r .tmin) (r .tmax)
 
-  same-ray : (r : Ray) → r ≡ rayAt ray → again r ≡ rayAt ray
-  unfolding rayAt rayOf
+  same-ray : (r : Ray) → r ≡ rayIn ray 0 → again r ≡ rayIn ray 0
+  unfolding rayIn rayOf
   same-ray r e = rw e
 
   fit : {A : Type 0} (x y : A) → length ray ≡ 8 → y ≡ ofEight ray x y
@@ -34,23 +34,23 @@ module _ (ray : List Float) where
   module _ (bytes : List ℕ) (n : ℕ) where
     pub any-hit-unfit : (number room : ℕ) → number ≡ 0x2_0000_0000 + 1 → (length ray ≡ 8 → ⊥) → number ≡ anyHitNumber (anyHitBy bytes n ray room)
     unfolding anyHitBy anyHitNumber
-    any-hit-unfit number room e h = e ∙ ap anyHitNumber (unfit (refused 1) (anyHitOf bytes n (rayAt ray) room) h)
+    any-hit-unfit number room e h = e ∙ ap anyHitNumber (unfit (refused 1) (anyHitOf bytes n (rayIn ray 0) room) h)
 
     pub list-unfit : (list : List ℕ) → (length ray ≡ 8 → ⊥) → list ≡ listBy bytes n ray list
     unfolding listBy
-    list-unfit list h = unfit list (listAfter bytes n (rayAt ray) list) h
+    list-unfit list h = unfit list (listAfter bytes n (rayIn ray 0) list) h
 
-    pub any-hit-fit : (r : Ray) → length ray ≡ 8 → r ≡ rayAt ray
+    pub any-hit-fit : (r : Ray) → length ray ≡ 8 → r ≡ rayIn ray 0
         → (number : ℕ) (a : Answer) (room : ℕ) → number ≡ anyHitNumber a → a ≡ anyHitOf bytes n (again r) room
         → number ≡ anyHitNumber (anyHitBy bytes n ray room)
     unfolding anyHitBy
     any-hit-fit r g e number a room i j =
-        i ∙ ap anyHitNumber (j ∙ ap (λ (x : Ray). anyHitOf bytes n x room) (same-ray r e) ∙ fit (refused 1) (anyHitOf bytes n (rayAt ray) room) g)
+        i ∙ ap anyHitNumber (j ∙ ap (λ (x : Ray). anyHitOf bytes n x room) (same-ray r e) ∙ fit (refused 1) (anyHitOf bytes n (rayIn ray 0) room) g)
 
-    pub list-fit : (r : Ray) → length ray ≡ 8 → r ≡ rayAt ray → (after list : List ℕ) → after ≡ listAfter bytes n (again r) list
+    pub list-fit : (r : Ray) → length ray ≡ 8 → r ≡ rayIn ray 0 → (after list : List ℕ) → after ≡ listAfter bytes n (again r) list
         → after ≡ listBy bytes n ray list
     unfolding listBy
-    list-fit r g e after list j = j ∙ ap (λ (x : Ray). listAfter bytes n x list) (same-ray r e) ∙ fit list (listAfter bytes n (rayAt ray) list) g
+    list-fit r g e after list j = j ∙ ap (λ (x : Ray). listAfter bytes n x list) (same-ray r e) ∙ fit list (listAfter bytes n (rayIn ray 0) list) g
 
   module _ (bytes indices : List ℕ) (panes : List Float) where
     -- ---- closest
@@ -70,22 +70,22 @@ module _ (ray : List Float) where
         closes number out out (record { answer = refusedClosest 1; tests = 0 }) e refl (unfit _ (closestIn (length out) bytes indices panes ray) h)
 
     -- no float is lent
-    pub closest-short : (r : Ray) → length ray ≡ 8 → r ≡ rayAt ray → (number cause k : ℕ) (out : List Float) → length out ≡ 0
+    pub closest-short : (r : Ray) → length ray ≡ 8 → r ≡ rayIn ray 0 → (number cause k : ℕ) (out : List Float) → length out ≡ 0
         → cause ≡ entryCause (eqb (length panes % 6) 0) (length bytes) (length indices) r
         → k ≡ shortCause cause → number ≡ 0x2_0000_0000 + k → Closes number out out
     unfolding closestBy closestNumber distanceIn closestIn
     closest-short r g e number cause k out z c s i =
-        let u : k ≡ shortCause (paneCause bytes indices panes (rayAt ray)) = s ∙ ap shortCause (c ∙ ap (paneCause bytes indices panes) e) in
+        let u : k ≡ shortCause (paneCause bytes indices panes (rayIn ray 0)) = s ∙ ap shortCause (c ∙ ap (paneCause bytes indices panes) e) in
         closes number out out (record { answer = refusedClosest k; tests = 0 }) i refl
         (ap (λ (j : ℕ). record { answer = refusedClosest j; tests = 0 }) u ∙ ap (λ (j : ℕ). closestIn j bytes indices panes ray) (sym z)
         ∙ fit _ (closestIn (length out) bytes indices panes ray) g)
 
-    some : (room : ℕ) → (room ≡ 0 → ⊥) → closestOf bytes indices panes (rayAt ray) ≡ closestIn room bytes indices panes ray
+    some : (room : ℕ) → (room ≡ 0 → ⊥) → closestOf bytes indices panes (rayIn ray 0) ≡ closestIn room bytes indices panes ray
     unfolding closestIn
     some zero h = absurd (h refl)
     some (suc room) h = refl
 
-    pub closest-fit : (r : Ray) → length ray ≡ 8 → r ≡ rayAt ray
+    pub closest-fit : (r : Ray) → length ray ≡ 8 → r ≡ rayIn ray 0
         → (number : ℕ) (after out : List Float) (a : Result ClosestAnswer) → (length out ≡ 0 → ⊥) → a ≡ closestOf bytes indices panes (again r)
         → number ≡ closestNumber a → after ≡ distanceIn (a .answer) out → Closes number after out
     unfolding closestBy
@@ -97,9 +97,9 @@ module _ (ray : List Float) where
 
     pub miss-unfit : (number : ℕ) → number ≡ 0x2_0000_0000 + 1 → (length ray ≡ 8 → ⊥) → number ≡ missNumber (missBy bytes indices panes ray)
     unfolding missBy missNumber
-    miss-unfit number e h = e ∙ ap missNumber (unfit (record { answer = refusedMiss 1; tests = 0 }) (missOf bytes indices panes (rayAt ray)) h)
+    miss-unfit number e h = e ∙ ap missNumber (unfit (record { answer = refusedMiss 1; tests = 0 }) (missOf bytes indices panes (rayIn ray 0)) h)
 
-    pub miss-fit : (r : Ray) → length ray ≡ 8 → r ≡ rayAt ray
+    pub miss-fit : (r : Ray) → length ray ≡ 8 → r ≡ rayIn ray 0
         → (number : ℕ) (a : Result MissAnswer) → number ≡ missNumber a → a ≡ missOf bytes indices panes (again r)
         → number ≡ missNumber (missBy bytes indices panes ray)
     unfolding missBy
@@ -107,4 +107,4 @@ module _ (ray : List Float) where
         i
         ∙ ap missNumber
         (j ∙ ap (missOf bytes indices panes) (same-ray r e)
-        ∙ fit (record { answer = refusedMiss 1; tests = 0 }) (missOf bytes indices panes (rayAt ray)) g)
+        ∙ fit (record { answer = refusedMiss 1; tests = 0 }) (missOf bytes indices panes (rayIn ray 0)) g)

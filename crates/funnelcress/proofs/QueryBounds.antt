@@ -24,7 +24,7 @@ use Rattle.query.specs.Entry.{entryCause}
 use Rattle.query.proofs.Entry.{entered}
 use Rattle.any_hit.specs.AnyHit as H
 use Rattle.closest.specs.Panes as P
-use Rattle.funnelcress.specs.Lists.{rayAt}
+use Rattle.packed.specs.Packed.{boxIn, rayIn}
 use Rattle.funnelcress.specs.Queries.{anyHitBy, shortCause, closestIn, closestBy, missBy, AnyHitFits, ClosestFits, MissFits}
 use Rattle.funnelcress.proofs.Bounds.{Below, query-few}
 
@@ -124,10 +124,10 @@ Faults (faulty k) = k ≤ 11
 module _ (indices : List ℕ) (panes : List Float) where
   pane-faults : (p : ℕ) (b : Beam) → Faults (P.paneOf indices panes p b)
   unfolding P.paneOf P.paneMet
-  pane-faults p b = go (ltb (getD indices p 0) (length panes / 6)) (acceptedBox (P.paneBox panes (getD indices p 0)))
+  pane-faults p b = go (ltb (getD indices p 0) (length panes / 6)) (acceptedBox (boxIn panes (getD indices p 0)))
     where
       go : (there accepted : Bool)
-          → Faults (cond there (cond accepted (distance (entryDistance (P.paneBox panes (getD indices p 0)) (b .ray))) (faulty 6)) (faulty 10))
+          → Faults (cond there (cond accepted (distance (entryDistance (boxIn panes (getD indices p 0)) (b .ray))) (faulty 6)) (faulty 10))
       go false accepted = omega arith
       go true false = omega arith
       go true true = tt
@@ -178,8 +178,8 @@ module _ (bytes indices : List ℕ) (panes : List Float) (r : Ray) where
 pub any-hit-number-fits : (bytes : List ℕ) (n : ℕ) (ray : List Float) (room : ℕ) → AnyHitFits (anyHitBy bytes n ray room)
 unfolding AnyHitFits anyHitBy
 any-hit-number-fits bytes n ray room =
-    cond-elim AnyHitFits (eqb (length ray) 8) (H.anyHitOf bytes n (rayAt ray) room) (H.refused 1)
-    (λ _. any-hit-fits bytes n (rayAt ray) room) (λ _. omega arith)
+    cond-elim AnyHitFits (eqb (length ray) 8) (H.anyHitOf bytes n (rayIn ray 0) room) (H.refused 1)
+    (λ _. any-hit-fits bytes n (rayIn ray 0) room) (λ _. omega arith)
 
 short-most : (cause : ℕ) → shortCause cause ≤ 11
 unfolding shortCause
@@ -189,8 +189,8 @@ short-most (suc k) = cond-elim (λ (j : ℕ). j ≤ 11) (ltb (suc k) 4) (suc k) 
 module _ (bytes indices : List ℕ) (panes ray : List Float) where
   closest-in-fits : (room : ℕ) → ClosestFits (closestIn room bytes indices panes ray)
   unfolding ClosestFits closestIn
-  closest-in-fits zero = (refl, short-most (P.paneCause bytes indices panes (rayAt ray)))
-  closest-in-fits (suc room) = closest-fits bytes indices panes (rayAt ray)
+  closest-in-fits zero = (refl, short-most (P.paneCause bytes indices panes (rayIn ray 0)))
+  closest-in-fits (suc room) = closest-fits bytes indices panes (rayIn ray 0)
 
   pub closest-number-fits : (room : ℕ) → ClosestFits (closestBy room bytes indices panes ray)
   unfolding ClosestFits closestBy
@@ -201,5 +201,5 @@ module _ (bytes indices : List ℕ) (panes ray : List Float) where
   pub miss-number-fits : MissFits (missBy bytes indices panes ray)
   unfolding MissFits missBy
   miss-number-fits =
-      cond-elim MissFits (eqb (length ray) 8) (P.missOf bytes indices panes (rayAt ray)) (record { answer = P.refusedMiss 1; tests = 0 })
-      (λ _. miss-fits bytes indices panes (rayAt ray)) (λ _. (refl, omega arith))
+      cond-elim MissFits (eqb (length ray) 8) (P.missOf bytes indices panes (rayIn ray 0)) (record { answer = P.refusedMiss 1; tests = 0 })
+      (λ _. miss-fits bytes indices panes (rayIn ray 0)) (λ _. (refl, omega arith))

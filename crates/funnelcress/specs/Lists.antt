@@ -1,27 +1,12 @@
 -- Lists of boxes and of answers, as they are lent from C or Rust. A box is six floats, a ray eight: origin, direction, tmin, tmax.
-use Prim.Native.Nat.{ℕ, zero, suc, _+_, _*_, _/_, _%_}
+use Prim.Native.Nat.{ℕ, zero, suc, _/_, _%_}
 use mathlib.Core.Bool.{cond}
 use mathlib.Core.List.{List, [], _∷_, _++_}
 use lib.Dec.{eqb, leb}
-use lib.ListN.{length, drop, getD}
-use lib.Ieee.{Float, nan}
-use Rattle.ray.specs.declared.Vec3.{Vec3}
-use Rattle.ray.specs.declared.Ray.{Ray}
-use Rattle.ray.specs.Ray.{rayOf}
-use Rattle.aabb.specs.declared.Aabb.{Aabb}
+use lib.ListN.{length, drop}
+use lib.Ieee.{Float}
 use Rattle.aabb.specs.Aabb.{halfArea, entryDistance}
-
--- three floats, from a place on
-unfoldable pub vecAt : List Float → ℕ → Vec3
-vecAt s k = record { x = getD s k nan; y = getD s (k + 1) nan; z = getD s (k + 2) nan }
-
--- box k of a list
-unfoldable pub boxAt : List Float → ℕ → Aabb
-boxAt s k = record { min = vecAt s (k * 6); max = vecAt s (k * 6 + 3) }
-
--- a ray's eight floats
-unfoldable pub rayAt : List Float → Ray
-rayAt s = rayOf (vecAt s 0) (vecAt s 3) (getD s 6 nan) (getD s 7 nan)
+use Rattle.packed.specs.Packed.{boxIn, rayIn}
 
 -- f 0, f 1, .., f (k − 1)
 unfoldable pub firsts : (ℕ → Float) → ℕ → List Float
@@ -42,10 +27,10 @@ unfoldable pub answered : ℕ → (ℕ → Float) → List Float → List Float 
 answered number f boxes out = cond (eqb number 0) (filled f (length boxes / 6) out) out
 
 abbrev pub areaAt : List Float → ℕ → Float
-areaAt boxes k = halfArea (boxAt boxes k)
+areaAt boxes k = halfArea (boxIn boxes k)
 
 abbrev pub entryAt : List Float → List Float → ℕ → Float
-entryAt boxes ray k = entryDistance (boxAt boxes k) (rayAt ray)
+entryAt boxes ray k = entryDistance (boxIn boxes k) (rayIn ray 0)
 
 -- the same, with 1 also for a ray of another length
 unfoldable pub rayRefusal : List Float → List Float → List Float → ℕ

@@ -9,7 +9,7 @@ use lib.Ieee.{Float}
 use Rattle.any_hit.specs.AnyHit.{Answer, listed, refused, lacking, anyHitOf, listAfter}
 use Rattle.closest.specs.Panes.{Result, ClosestAnswer, hitAt, noHit, refusedClosest, MissAnswer, missed, blocked, refusedMiss}
 use Rattle.closest.specs.Panes.{paneCause, closestOf, missOf}
-use Rattle.funnelcress.specs.Lists.{rayAt}
+use Rattle.packed.specs.Packed.{rayIn}
 
 -- a ray is eight floats; a list of another length is refused 1, before anything else
 abbrev pub ofEight : {A : Type 0} → List Float → A → A → A
@@ -18,11 +18,11 @@ ofEight ray unfit fit = cond (eqb (length ray) 8) fit unfit
 -- ---- the answers
 
 unfoldable pub anyHitBy : List ℕ → ℕ → List Float → ℕ → Answer
-anyHitBy bytes n ray room = ofEight ray (refused 1) (anyHitOf bytes n (rayAt ray) room)
+anyHitBy bytes n ray room = ofEight ray (refused 1) (anyHitOf bytes n (rayIn ray 0) room)
 
 -- the list at the end
 unfoldable pub listBy : List ℕ → ℕ → List Float → List ℕ → List ℕ
-listBy bytes n ray list = ofEight ray list (listAfter bytes n (rayAt ray) list)
+listBy bytes n ray list = ofEight ray list (listAfter bytes n (rayIn ray 0) list)
 
 -- what refuses closest where no float is lent for a distance, by the cause that refuses it else (0 for none): 1 or 2 come first, all else after 4
 unfoldable pub shortCause : ℕ → ℕ
@@ -32,8 +32,8 @@ shortCause (suc k) = cond (ltb (suc k) 4) (suc k) 4
 -- with so many floats lent for a distance
 unfoldable pub closestIn : ℕ → (bytes indices : List ℕ) → (panes ray : List Float) → Result ClosestAnswer
 unfolding shortCause
-closestIn zero bytes indices panes ray = record { answer = refusedClosest (shortCause (paneCause bytes indices panes (rayAt ray))); tests = 0 }
-closestIn (suc room) bytes indices panes ray = closestOf bytes indices panes (rayAt ray)
+closestIn zero bytes indices panes ray = record { answer = refusedClosest (shortCause (paneCause bytes indices panes (rayIn ray 0))); tests = 0 }
+closestIn (suc room) bytes indices panes ray = closestOf bytes indices panes (rayIn ray 0)
 
 unfoldable pub closestBy : ℕ → (bytes indices : List ℕ) → (panes ray : List Float) → Result ClosestAnswer
 unfolding closestIn
@@ -46,7 +46,7 @@ distanceIn noHit out = out
 distanceIn (refusedClosest number) out = out
 
 unfoldable pub missBy : (bytes indices : List ℕ) → (panes ray : List Float) → Result MissAnswer
-missBy bytes indices panes ray = ofEight ray (record { answer = refusedMiss 1; tests = 0 }) (missOf bytes indices panes (rayAt ray))
+missBy bytes indices panes ray = ofEight ray (record { answer = refusedMiss 1; tests = 0 }) (missOf bytes indices panes (rayIn ray 0))
 
 -- ---- their numbers: node tests times 2^48, the kind of answer times 2^32, and what the answer holds; a refusal's is the record check's
 

@@ -4,6 +4,7 @@ ghost use mathlib.Core.Path.{_≡_};
 ghost use Prim.Native.Nat.{_+_, _*_, _/_, _≤_, _<_};
 ghost use lib.ListN.{length};
 ghost use Rattle.aabb.specs.Aabb.{entryDistance};
+ghost use Rattle.packed.specs.Packed.{boxIn};
 ghost use Rattle.record_shape.specs.Check.{checkOf, wordsAfter};
 ghost use Rattle.validate.specs.Validity.{answerOf};
 ghost use Rattle.bvh2_to_cwbvh.specs.Answer.{answerOf as conversionAnswer};
@@ -13,8 +14,7 @@ ghost use Rattle.any_hit.specs.AnyHit.{answerOf as anyHitAnswer};
 ghost use Rattle.closest.specs.Panes.{closestAnswer, closestResult, missResult};
 ghost use Rattle.funnelcress.specs.Queries.{anyHitBy, listBy, closestBy, distanceIn, missBy, shortCause};
 ghost use Rattle.funnelcress.specs.Queries.{numberOf, anyHitNumber, closestNumber, missNumber, AnyHitFits, ClosestFits, MissFits};
-ghost use Rattle.funnelcress.specs.Lists.{vecAt, boxAt, rayAt, filled, areaAt, entryAt, refusal, rayRefusal, answered};
-use aabb::Aabb;
+ghost use Rattle.funnelcress.specs.Lists.{filled, areaAt, entryAt, refusal, rayRefusal, answered};
 use any_hit::AnyHit;
 use bvh2_to_cwbvh::Conversion;
 use closest::ClosestFound;
@@ -22,47 +22,16 @@ use closest::ClosestHit;
 use closest::MissFound;
 use closest::Occlusion;
 use ray::Ray;
-use ray::Vec3;
 use validate::Validity;
-
-// Three floats, from a place on.
-fn vec_at(s: &[f32], at: usize) -> Vec3
-    requires { ⌜ at + 3 ≤ length (now s) ⌝ }
-    ensures { λ r. ⌜ r ≡ vecAt (now (s .entry)) at ⌝ }
-{
-    Vec3 {
-        x: s[at],
-        y: s[at + 1],
-        z: s[at + 2],
-    }
-}
-
-// Box k of a list.
-fn box_at(s: &[f32], k: usize) -> Aabb
-    requires { ⌜ k * 6 + 6 ≤ length (now s) ⌝ }
-    ensures { λ r. ⌜ r ≡ boxAt (now (s .entry)) k ⌝ }
-{
-    let min = vec_at(s, k * 6);
-    let max = vec_at(s, k * 6 + 3);
-    Aabb { min, max }
-}
-
-// A ray of eight floats.
-fn ray_at(s: &[f32]) -> Ray
-    requires { ⌜ 8 ≤ length (now s) ⌝ }
-    ensures { λ r. ⌜ r ≡ rayAt (now (s .entry)) ⌝ }
-{
-    Ray::new(vec_at(s, 0), vec_at(s, 3), s[6], s[7])
-}
 
 // What refuses a list of boxes with room for an answer to each.
 fn list_refusal(boxes: &[f32], out: &[f32]) -> u32
     ensures { λ r. ⌜ r ≡ refusal (now (boxes .entry)) (now (out .entry)) ⌝ }
 {
-    if boxes.len() % 6 != 0 {
+    if boxes.len() % packed::BOX != 0 {
         return 1;
     }
-    if boxes.len() / 6 > out.len() {
+    if boxes.len() / packed::BOX > out.len() {
         return 4;
     }
     0
@@ -72,22 +41,22 @@ fn fill_areas(boxes: &[f32], out: &mut [f32])
     requires { ⌜ length (now boxes) / 6 ≤ length (now out) ⌝ }
     ensures { λ _. ⌜ now (out .exit) ≡ filled (areaAt (now (boxes .entry))) (length (now (boxes .entry)) / 6) (now (out .entry)) ⌝ }
 {
-    let count = boxes.len() / 6;
+    let count = boxes.len() / packed::BOX;
     let mut i: usize = 0;
     while i < count {
-        out[i] = box_at(boxes, i).half_area();
+        out[i] = packed::box_at(boxes, i).half_area();
         i += 1;
     }
 }
 
 fn fill_entries(boxes: &[f32], r: Ray, out: &mut [f32])
     requires { ⌜ length (now boxes) / 6 ≤ length (now out) ⌝ }
-    ensures { λ _. ⌜ now (out .exit) ≡ filled (λ k. entryDistance (boxAt (now (boxes .entry)) k) r) (length (now (boxes .entry)) / 6) (now (out .entry)) ⌝ }
+    ensures { λ _. ⌜ now (out .exit) ≡ filled (λ k. entryDistance (boxIn (now (boxes .entry)) k) r) (length (now (boxes .entry)) / 6) (now (out .entry)) ⌝ }
 {
-    let count = boxes.len() / 6;
+    let count = boxes.len() / packed::BOX;
     let mut i: usize = 0;
     while i < count {
-        out[i] = box_at(boxes, i).intersect_ray(r);
+        out[i] = packed::box_at(boxes, i).intersect_ray(r);
         i += 1;
     }
 }
@@ -111,12 +80,12 @@ pub extern "C" fn funnelcress_entry_distances(boxes: &[f32], ray: &[f32], out: &
     ensures { λ r. ⌜ r ≡ rayRefusal (now (boxes .entry)) (now (ray .entry)) (now (out .entry)) ⌝ }
     ensures { λ r. ⌜ now (out .exit) ≡ answered r (entryAt (now (boxes .entry)) (now (ray .entry))) (now (boxes .entry)) (now (out .entry)) ⌝ }
 {
-    if ray.len() != 8 {
+    if ray.len() != packed::RAY {
         return 1;
     }
     let number = list_refusal(boxes, out);
     if number == 0 {
-        fill_entries(boxes, ray_at(ray), out);
+        fill_entries(boxes, packed::ray_at(ray, 0), out);
     }
     number
 }
@@ -234,10 +203,10 @@ pub extern "C" fn funnelcress_any_hit(record: &[u8], n: usize, ray: &[f32], list
     ensures { λ r. ⌜ r ≡ anyHitNumber (anyHitBy (now («record» .entry)) n (now (ray .entry)) (length (now (list .entry)))) ⌝ }
     ensures { λ _. ⌜ now (list .exit) ≡ listBy (now («record» .entry)) n (now (ray .entry)) (now (list .entry)) ⌝ }
 {
-    if ray.len() != 8 {
+    if ray.len() != packed::RAY {
         return refusal_number(1);
     }
-    let r = ray_at(ray);
+    let r = packed::ray_at(ray, 0);
     any_hit_number(any_hit::any_hit(record, n, r.origin, r.direction, r.tmin, r.tmax, list))
 }
 
@@ -286,12 +255,12 @@ pub extern "C" fn funnelcress_closest(
     ensures { λ _. ⌜ now (out .exit) ≡ distanceIn (closestBy (length (now (out .entry))) (now («record» .entry)) (now (indices .entry))
         (now (panes .entry)) (now (ray .entry)) .answer) (now (out .entry)) ⌝ }
 {
-    if ray.len() != 8 {
+    if ray.len() != packed::RAY {
         return refusal_number(1);
     }
-    let r = ray_at(ray);
+    let r = packed::ray_at(ray, 0);
     if out.len() == 0 {
-        let fits = panes.len() % 6 == 0;
+        let fits = panes.len() % packed::BOX == 0;
         let cause = query::entry_cause(fits, record.len(), indices.len(), r);
         return refusal_number(short_cause(cause));
     }
@@ -332,10 +301,10 @@ pub extern "C" fn funnelcress_miss(
 ) -> u64
     ensures { λ r. ⌜ r ≡ missNumber (missBy (now («record» .entry)) (now (indices .entry)) (now (panes .entry)) (now (ray .entry))) ⌝ }
 {
-    if ray.len() != 8 {
+    if ray.len() != packed::RAY {
         return refusal_number(1);
     }
-    let r = ray_at(ray);
+    let r = packed::ray_at(ray, 0);
     miss_number(closest::miss(
         record,
         indices,

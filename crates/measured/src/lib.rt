@@ -12,17 +12,6 @@ use ray::Vec3;
 use traverse::Answer;
 use traverse::Walker;
 
-// Three floats, from a place on.
-fn vec_at(s: &[f32], at: usize) -> Vec3
-    requires { ⌜ at + 3 ≤ length (now s) ⌝ }
-{
-    Vec3 {
-        x: s[at],
-        y: s[at + 1],
-        z: s[at + 2],
-    }
-}
-
 fn fill_masks(record: &[u8], ray: Ray, octant: u32, m: usize, out: &mut [u32])
     requires { ⌜ (octant < 8) × (80 * m ≤ length (now «record»)) × (m ≤ length (now out)) ⌝ }
 {
@@ -38,15 +27,14 @@ fn fill_masks(record: &[u8], ray: Ray, octant: u32, m: usize, out: &mut [u32])
 #[no_mangle]
 pub extern "C" fn measured_hit_masks(record: &[u8], ray: &[f32], out: &mut [u32]) -> usize {
     let m = record.len() / 80;
-    if ray.len() != 8 {
+    if ray.len() != packed::RAY {
         return 0;
     }
     if m > out.len() {
         return 0;
     }
-    let direction = vec_at(ray, 3);
-    let r = Ray::new(vec_at(ray, 0), direction, ray[6], ray[7]);
-    fill_masks(record, r, ray::octant(direction), m, out);
+    let r = packed::ray_at(ray, 0);
+    fill_masks(record, r, ray::octant(r.direction), m, out);
     m
 }
 
@@ -79,10 +67,11 @@ fn walked(record: &[u8], n: usize, start: Walker) -> u64 {
 // The same for a ray of eight floats, from its walker just begun.
 #[no_mangle]
 pub extern "C" fn measured_steps(record: &[u8], n: usize, ray: &[f32]) -> u64 {
-    if ray.len() != 8 {
+    if ray.len() != packed::RAY {
         return REFUSED;
     }
-    let started = Walker::new(vec_at(ray, 0), vec_at(ray, 3), ray[6], ray[7]);
+    let r = packed::ray_at(ray, 0);
+    let started = Walker::new(r.origin, r.direction, r.tmin, r.tmax);
     if started.refused != 0 {
         return REFUSED;
     }

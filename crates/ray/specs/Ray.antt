@@ -34,6 +34,10 @@ rayOf o d near far = record {
   tmax = far;
 }
 
+-- a distance counts for a ray: it is below the ray's reach, so no NaN does
+unfoldable pub counts : Ray → Float → Bool
+counts r t = lt t (r .tmax)
+
 -- each component finite and within ±2 ^ 40
 unfoldable pub boundedVec : Vec3 → Bool
 boundedVec v = inBounds (v .x) && inBounds (v .y) && inBounds (v .z)

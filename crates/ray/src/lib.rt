@@ -1,7 +1,7 @@
 // Rays (ray.rs): the safe inverse of a direction, the octant, and which rays are accepted.
 ghost use mathlib.Core.Path.{_≡_};
 ghost use mathlib.Core.Bool.{cond};
-ghost use Rattle.ray.specs.Ray.{belowZero, safeInverse, octantOf, rayOf, acceptedRay, boundedVec};
+ghost use Rattle.ray.specs.Ray.{belowZero, safeInverse, octantOf, rayOf, counts, acceptedRay, boundedVec};
 
 // Three floats, in the place of the Rust's Vec3A.
 pub struct Vec3 {
@@ -78,6 +78,13 @@ impl Ray {
             tmin,
             tmax,
         }
+    }
+
+    // Whether a distance counts: it is below the reach. NaN counts for no ray.
+    pub fn counts(self, distance: f32) -> bool
+        ensures { λ r. ⌜ r ≡ counts self distance ⌝ }
+    {
+        distance < self.tmax
     }
 
     // Whether no cause of refusal 9 holds of the ray.

@@ -1,8 +1,9 @@
--- Blocks of one length, one behind the other: how long they are, and what stands in each.
+-- Blocks of one length, one behind the other: how long they are, what stands in each, and which one holds a place.
 use mathlib.Core.Path.{_≡_, sym, ap, _∙_}
 use mathlib.Core.Logic.{_⊎_, inl, inr}
 use mathlib.Core.List.{List, _++_}
-use Prim.Native.Nat.{ℕ, zero, suc, _+_, _*_, _<_}
+use Prim.Native.Nat.{ℕ, zero, suc, _+_, _-_, _*_, _≤_, _<_}
+use native.Mathlib.Decide.{decLt}
 use native.Mathlib.Nat.{mul-zero, mul-suc, eq-or-lt-of-le, le-of-suc-le-suc, mul-le-mul-left}
 use native.Mathlib.Omega.{arith}
 use lib.ListN.{length, getD, length-append, List·getD-append}
@@ -29,3 +30,40 @@ module _ {A : Type 0} (size : ℕ) (f : ℕ → List A) (each : (i : ℕ) → le
           ap (λ (x : ℕ). getD (joined k f ++ f k) x z) (omega (arith, joined-length k, ap (λ (x : ℕ). size * x) e))
           ∙ getD-append-add (joined k f) (f k) j z ∙ ap (λ (x : ℕ). getD (f x) j z) (sym e)
       pick rest (inr g) = List·getD-append (joined k f) (f k) z (size * v + j) (omega (arith, joined-length k, before g)) ∙ rest g l
+
+module _ (size : ℕ) where
+  -- place i lies before or behind block v
+  abbrev pub Beside : ℕ → ℕ → Type 0
+  Beside i v = (i < size * v) ⊎ (size * v + size ≤ i)
+
+  -- no place lies in two blocks
+  pub beside-other : (u v j : ℕ) → j < size → ¬ (u ≡ v) → Beside (size * v + j) u
+  beside-other u v j l n = pick (decLt u v)
+    where
+      pick : Dec (u < v) → Beside (size * v + j) u
+      pick (yes h) = inr (omega (arith, mul-le-mul-left size h, mul-suc size u))
+      pick (no h) = let g : v < u = omega arith in inl (omega (arith, mul-le-mul-left size g, mul-suc size v))
+
+  -- the block that holds place i of m blocks, and how far in
+  pub record Place (m i : ℕ) : Type 0 where
+    pub block : ℕ
+    pub offset : ℕ
+    pub below : block < m
+    pub within : offset < size
+    pub place-is : size * block + offset ≡ i
+
+  pub place : (m i : ℕ) → i < size * m → Place m i
+  place zero i h = absurd (omega (arith, mul-zero size))
+  place (suc m) i h = pick (place m i) (decLt i (size * m))
+    where
+      pick : (i < size * m → Place m i) → Dec (i < size * m) → Place (suc m) i
+      pick rest (yes g) =
+          let p = rest g in
+          record { block = p .block; offset = p .offset; below = omega (arith, p .below); within = p .within; place-is = p .place-is }
+      pick rest (no g) = record {
+        block = m;
+        offset = i - size * m;
+        below = omega arith;
+        within = omega (arith, mul-suc size m);
+        place-is = omega arith;
+      }

@@ -12,8 +12,9 @@ use Rattle.lists.specs.Below.{allBelow}
 use Rattle.lists.specs.Counts.{same, count}
 use Rattle.float.specs.Compare.{minOf, maxOf, unsignedZero, inBounds}
 use Rattle.float.specs.PowerOfTwo.{scaleOf, nextPower}
-use Rattle.ray.specs.Ray.{safeInverse, octantOf, rayOf, boundedVec, acceptedRay}
+use Rattle.ray.specs.Ray.{safeInverse, octantOf, rayOf, counts, boundedVec, acceptedRay}
 use Rattle.aabb.specs.Aabb.{slabNear, slabFar, boxNear, boxFar, entryDistance, halfArea, centerOf, inOrder, acceptedBox}
+use Rattle.packed.specs.Packed.{vecIn, boxIn}
 use Rattle.quantization.specs.Exponent.{extentScale, exponentOf}
 use Rattle.quantization.specs.Ends.{clampedByte, reciprocalOf, onGrid, childMin, childMax}
 use Rattle.bvh2.specs.Tree.{boxOf, leaves, positions, labels}
@@ -37,7 +38,7 @@ use Rattle.walk.specs.WordStep.{stepWords, advanceWords, reportWords, visitWord
 use Rattle.walk.specs.WordQueries.{queryWords}
 use Rattle.walk_record.specs.Walk.{queryAt}
 use Rattle.query.specs.Entry.{entryCause}
-use Rattle.closest.specs.Panes.{paneBox, paneMet, paneOf, hitAt, noHit, refusedClosest, missed, blocked, refusedMiss}
+use Rattle.closest.specs.Panes.{paneMet, paneOf, hitAt, noHit, refusedClosest, missed, blocked, refusedMiss}
 use Rattle.closest.specs.Panes.{closestFound, missFound, walked, entered, closestWalk, missWalk, closestOf, missOf}
 use Rattle.text.specs.Text.{chars, digits, decimal, hexDigit, hex}
 use Rattle.show.specs.Input.{inputWords}
@@ -59,7 +60,7 @@ closest :
     × (closestOf bytesT indicesT (replicate 6 (number 0) ++ (number 1 ∷ replicate 5 (number 0))) ahead ≡ closestIs (refusedClosest 6) 0)
     × (closestOf bytesT indicesT (replicate 9 (number 0)) ahead ≡ closestIs (refusedClosest 1) 0)
     × (closestOf bytesT indicesT panesT (rayAlong (number 0) nan) ≡ closestIs (refusedClosest 9) 0)
-unfolding closestOf closestWalk closestFound walked entered entryCause paneOf paneMet paneBox queryAt queryWords stepWords advanceWords reportWords
+unfolding closestOf closestWalk closestFound walked entered entryCause paneOf paneMet counts boxIn vecIn queryAt queryWords stepWords advanceWords reportWords
     visitWords popWords rayOf octantOf hitMask slotHit hitBits orOf passes nearOf farOf maxOf minOf planeAt adjustedInverse adjustedOrigin nearLimit
     scaleOf nodeFrom leAt sumOf slotFrom slotOffset nodeRule headOk childrenOk slotsOk slotOk leafTop pointOk exponentOk inBounds onesBelow field
     childIndex topOf pushed leadingZeros safeInverse boundedVec acceptedRay acceptedBox inOrder entryDistance boxNear boxFar slabNear slabFar
@@ -71,7 +72,7 @@ miss :
     × (missOf bytesT indicesT panesT (rayAlong (number 0) (number 1)) ≡ missIs missed 1)
     × (missOf [] [] [] ahead ≡ missIs missed 0)
     × (missOf bytesT (0 ∷ 2 ∷ []) panesT ahead ≡ missIs (refusedMiss 10) 0)
-unfolding missOf missWalk missFound walked entered entryCause paneOf paneMet paneBox queryAt queryWords stepWords advanceWords reportWords
+unfolding missOf missWalk missFound walked entered entryCause paneOf paneMet counts boxIn vecIn queryAt queryWords stepWords advanceWords reportWords
     visitWords popWords rayOf octantOf hitMask slotHit hitBits orOf passes nearOf farOf maxOf minOf planeAt adjustedInverse adjustedOrigin nearLimit
     scaleOf nodeFrom leAt sumOf slotFrom slotOffset nodeRule headOk childrenOk slotsOk slotOk leafTop pointOk exponentOk inBounds onesBelow field
     childIndex topOf pushed leadingZeros safeInverse boundedVec acceptedRay acceptedBox inOrder entryDistance boxNear boxFar slabNear slabFar

@@ -15,9 +15,10 @@ use Rattle.lists.specs.Below.{allBelow}
 use Rattle.lists.specs.Counts.{same, count}
 use Rattle.float.specs.Compare.{minOf, maxOf, unsignedZero, inBounds}
 use Rattle.float.specs.PowerOfTwo.{scaleOf, nextPower}
-use Rattle.ray.specs.Ray.{safeInverse, octantOf, rayOf, boundedVec, acceptedRay}
+use Rattle.ray.specs.Ray.{safeInverse, octantOf, rayOf, counts, boundedVec, acceptedRay}
 use Rattle.aabb.specs.Aabb.{halfArea, centerOf, acceptedBox}
 use Rattle.aabb.specs.Aabb as aabb
+use Rattle.packed.specs.Packed.{vecIn, boxIn}
 use Rattle.quantization.specs.Exponent.{extentScale, exponentOf}
 use Rattle.quantization.specs.Ends.{clampedByte, reciprocalOf, onGrid, childMin, childMax}
 use Rattle.bvh2.specs.Tree.{boxOf, positions, leaves, labels}
@@ -37,7 +38,7 @@ use Rattle.walk.specs.WordStep.{stepWords, advanceWords, reportWords, visitWord
 use Rattle.walk.specs.WordQueries.{queryWords}
 use Rattle.walk_record.specs.Walk.{queryAt, anyHitAt}
 use Rattle.query.specs.Entry.{entryCause}
-use Rattle.closest.specs.Panes.{paneBox, paneMet, paneOf, hitAt, noHit, closestFound, closestWalk, closestOf}
+use Rattle.closest.specs.Panes.{paneMet, paneOf, hitAt, noHit, closestFound, closestWalk, closestOf}
 use Rattle.closest.specs.Panes as panes
 use Rattle.any_hit.specs.AnyHit.{listed, fitted, walked, walkOf, anyHitOf, listFor, listAfter}
 use Rattle.wide.specs.Shape.{nodeAt}
@@ -125,7 +126,7 @@ closest :
     (closestOf bytesT indicesT panesT ahead ≡ record { answer = hitAt 0 (number 1); tests = 1 })
     × (closestOf bytesT indicesT panesT beside ≡ record { answer = noHit; tests = 1 })
     × (closestOf [] [] [] ahead ≡ record { answer = noHit; tests = 0 })
-unfolding closestOf closestWalk closestFound panes.walked panes.entered entryCause paneOf paneMet paneBox queryAt queryWords stepWords advanceWords
+unfolding closestOf closestWalk closestFound panes.walked panes.entered entryCause paneOf paneMet counts boxIn vecIn queryAt queryWords stepWords advanceWords
     reportWords visitWords popWords rayOf octantOf hitMask slotHit hitBits orOf passes nearOf farOf maxOf minOf planeAt adjustedInverse
     adjustedOrigin nearLimit scaleOf nodeFrom leAt sumOf slotFrom slotOffset nodeRule headOk childrenOk slotsOk slotOk leafTop pointOk exponentOk
     inBounds onesBelow field childIndex topOf pushed leadingZeros safeInverse boundedVec acceptedRay acceptedBox aabb.inOrder aabb.entryDistance

@@ -6,8 +6,9 @@ use Prim.Native.Nat.{ℕ, _%_}
 use native.Mathlib.Omega.{arith}
 use lib.Dec.{eqb, leb, ltb, T}
 use lib.ListN.{length}
-use lib.Ieee.{Float, lt}
+use lib.Ieee.{Float}
 use borrow.Author.Tests.{leb-true, eqb-true, ltb-false}
+use Rattle.ray.specs.Ray.{counts}
 use Rattle.slot.specs.declared.Ends.{Ends}
 use Rattle.slot.specs.Parts.{endsOf}
 use Rattle.record_shape.specs.Record.{nodeCount}
@@ -33,10 +34,10 @@ module _ (w : WalkerWords Beam) (t : Float) where
     stack = w .stack;
   }
 
-  pub told-nearer : lt t (w .ray .ray .tmax) ≡ true → told true ≡ toldWalker t w
+  pub told-nearer : counts (w .ray .ray) t ≡ true → told true ≡ toldWalker t w
   told-nearer e = sym (ap told e)
 
-  pub told-farther : lt t (w .ray .ray .tmax) ≡ false → told false ≡ toldWalker t w
+  pub told-farther : counts (w .ray .ray) t ≡ false → told false ≡ toldWalker t w
   told-farther e = sym (ap told e)
 
 -- ---- a step

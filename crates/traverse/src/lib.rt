@@ -275,12 +275,12 @@ impl Walker {
         Stepped { walker, answer }
     }
 
-    // Tells the walker a distance: one below its reach becomes the reach, any other does nothing, NaN too.
+    // Tells the walker a distance: one that counts for its ray becomes the reach, any other does nothing, NaN too.
     pub fn tell(self, distance: f32) -> Walker
         ensures { λ r. ⌜ wordsOf r ≡ toldWalker distance (wordsOf self) ⌝ }
     {
         let ray = self.ray;
-        if distance < ray.tmax {
+        if ray.counts(distance) {
             let nearer = Ray {
                 tmax: distance,
                 ..ray

@@ -11,6 +11,7 @@ use Rattle.ray.specs.declared.Vec3.{Vec3}
 use Rattle.ray.specs.Ray.{safeInverse, octantOf, rayOf, boundedVec, acceptedRay}
 use Rattle.ray.proofs.Bounds.{accepted, inverse-within}
 use Rattle.ray.proofs.Bounds
+use Rattle.ray.proofs.Counts.{counts-below}
 use Rattle.float.specs.Magnitude.{Within}
 use Rattle.float.proofs.Magnitude.{atmost-no-nan}
 use Rattle.walk.proofs.Cases.{and-true, not-false-true}
@@ -43,7 +44,7 @@ reach-accepted t b true n f =
     rw (h .0, h .1, n refl, c .1, a .1)
 
 told-accepted : (t : Float) (b : Beam) → forgedBeam b ≡ false → forgedBeam (toldBeam t b) ≡ false
-told-accepted t b = reach-accepted t b _ (below-no-nan t (b .ray .tmax))
+told-accepted t b = reach-accepted t b _ (λ e. below-no-nan t (b .ray .tmax) (counts-below (b .ray) t e))
 
 pub beam-laws : RayLaws beams
 beam-laws = record { octant-lt = octant-lt; octant-told = λ t b. refl; admits-told = λ t b. refl; told-accepted = told-accepted }

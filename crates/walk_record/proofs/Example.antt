@@ -15,7 +15,7 @@ use Rattle.words.specs.Le.{leAt, sumOf}
 use Rattle.words.specs.Ones.{onesBelow}
 use Rattle.words.specs.Ors.{orOf}
 use Rattle.faststack.specs.Stack.{pushed, topOf}
-use Rattle.ray.specs.Ray.{safeInverse, octantOf, rayOf, boundedVec, acceptedRay}
+use Rattle.ray.specs.Ray.{safeInverse, octantOf, rayOf, counts, boundedVec, acceptedRay}
 use Rattle.node.specs.Node.{slotOffset, slotFrom, nodeFrom, childIndex}
 use Rattle.rule.specs.Rule.{pointOk, exponentOk, headOk, childrenOk, leafTop, slotOk, slotsOk, nodeRule}
 use Rattle.slot.specs.Slot.{nearLimit, adjustedInverse, adjustedOrigin, planeAt, nearOf, farOf, passes}
@@ -103,7 +103,7 @@ pub record Examples : Type 0 where
   pub forged : runAt three beams (step 4 ∷ []) (freshWords (record { ray = along .ray; octant = 3 })) .answers ≡ refused 10 ∷ []
 
 pub examples : Examples
-unfolding anyHitAt queryAt runAt queryWords runWords stepWords advanceWords reportWords visitWords popWords rayOf octantOf hitMask slotHit hitBits orOf passes nearOf farOf maxOf minOf planeAt adjustedInverse adjustedOrigin nearLimit scaleOf nodeFrom leAt sumOf slotFrom slotOffset nodeRule headOk childrenOk slotsOk slotOk leafTop pointOk exponentOk inBounds onesBelow field childIndex topOf pushed leadingZeros safeInverse boundedVec acceptedRay round ofBits ofInt add sub mul div lt le eq isNan
+unfolding anyHitAt queryAt runAt queryWords runWords stepWords advanceWords reportWords visitWords popWords rayOf counts octantOf hitMask slotHit hitBits orOf passes nearOf farOf maxOf minOf planeAt adjustedInverse adjustedOrigin nearLimit scaleOf nodeFrom leAt sumOf slotFrom slotOffset nodeRule headOk childrenOk slotsOk slotOk leafTop pointOk exponentOk inBounds onesBelow field childIndex topOf pushed leadingZeros safeInverse boundedVec acceptedRay round ofBits ofInt add sub mul div lt le eq isNan
 examples = record {
   octant-7 = refl;
   octant-3 = refl;

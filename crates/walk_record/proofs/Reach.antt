@@ -5,9 +5,11 @@ use mathlib.Core.List.{List}
 use mathlib.Core.Path.{_≡_, refl}
 use Prim.Native.Nat.{ℕ}
 use lib.ListN.{getD}
-use lib.Ieee.{Float, lt}
+use lib.Ieee.{Float}
 use Rattle.float.proofs.Order.{le-of-lt}
 use Rattle.ray.specs.declared.Ray.{Ray}
+use Rattle.ray.specs.Ray.{counts}
+use Rattle.ray.proofs.Counts.{counts-below}
 use Rattle.node.specs.Node.{nodeAt, noSlot}
 use Rattle.slot.specs.Mask.{passesSlot}
 use Rattle.hits.proofs.Reach.{LowerReach, lower-reach-passes-fewer}
@@ -42,15 +44,15 @@ module _ (bytes : List ℕ) (r s : Ray) (lower : LowerReach r s) where
 
 -- ---- telling
 
--- a distance below the reach lowers it
-told-lower : (t : Float) (r : Ray) → lt t (r .tmax) ≡ true → LowerReach (reaching t r) r
-told-lower t r h = record { origin = refl; direction = refl; inverse = refl; tmin = refl; reach = le-of-lt t (r .tmax) h }
+-- a distance that counts lowers the reach
+told-lower : (t : Float) (r : Ray) → counts r t ≡ true → LowerReach (reaching t r) r
+told-lower t r h = record { origin = refl; direction = refl; inverse = refl; tmin = refl; reach = le-of-lt t (r .tmax) (counts-below r t h) }
 
 -- so that what a higher reach keeps held before the telling
 told-held : (P : Ray → Type 0) → ((r s : Ray) → LowerReach r s → P r → P s) → (t : Float) (b : Beam) → P (toldBeam t b .ray) → P (b .ray)
-told-held P keeps t b = go (lt t (b .ray .tmax)) refl
+told-held P keeps t b = go (counts (b .ray) t) refl
   where
-    go : (c : Bool) → lt t (b .ray .tmax) ≡ c → P (cond c (reaching t (b .ray)) (b .ray)) → P (b .ray)
+    go : (c : Bool) → counts (b .ray) t ≡ c → P (cond c (reaching t (b .ray)) (b .ray)) → P (b .ray)
     go true e = keeps (reaching t (b .ray)) (b .ray) (told-lower t (b .ray) e)
     go false e = λ q. q
 

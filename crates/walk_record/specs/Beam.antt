@@ -2,9 +2,9 @@
 use mathlib.Core.Bool.{Bool, true, false, not, _&&_, cond}
 use Prim.Native.Nat.{ℕ}
 use lib.Dec.{eqb}
-use lib.Ieee.{Float, lt, eq}
+use lib.Ieee.{Float, eq}
 use Rattle.ray.specs.declared.Ray.{Ray}
-use Rattle.ray.specs.Ray.{safeInverse, octantOf, acceptedRay}
+use Rattle.ray.specs.Ray.{safeInverse, octantOf, counts, acceptedRay}
 use Rattle.slot.specs.Mask.{passesSlot}
 use Rattle.walk_record.specs.Record.{Rays}
 
@@ -29,9 +29,9 @@ forgedBeam b = not (acceptedRay (b .ray) && ownInverse (b .ray) && eqb (b .octan
 abbrev pub reaching : Float → Ray → Ray
 reaching t r = record { origin = r .origin; direction = r .direction; inverse = r .inverse; tmin = r .tmin; tmax = t }
 
--- a distance below the reach becomes the reach; any other, a NaN too, does nothing
+-- a distance that counts becomes the reach; any other does nothing
 abbrev pub toldBeam : Float → Beam → Beam
-toldBeam t b = record { ray = cond (lt t (b .ray .tmax)) (reaching t (b .ray)) (b .ray); octant = b .octant }
+toldBeam t b = record { ray = cond (counts (b .ray) t) (reaching t (b .ray)) (b .ray); octant = b .octant }
 
 -- slots are passed by their boxes alone, and no position is passed over or absent
 abbrev pub beams : Rays Beam Float

@@ -1,4 +1,4 @@
-use mathlib.Core.Path.{_≡_, refl, ap, _∙_}
+use mathlib.Core.Path.{_≡_, refl, sym, ap, _∙_}
 use Prim.Native.Nat.{ℕ, _≤_}
 use native.Mathlib.Omega.{arith}
 use borrow.Author.Needs.{needs}
@@ -131,26 +131,29 @@ rest-of-requires c κs = c .before .before .before .before .if1 .taken
 enum-known-met : tie.Need-enum-known-met Inv-loop2 μ-loop2 Inv-loop μ-loop
 enum-known-met c = search needs
 
+counts-requires : tie.Need-counts-requires Inv-loop2 μ-loop2 Inv-loop μ-loop
+counts-requires c κs = search needs
+
 cast-t28 : tie.Need-cast-t28 Inv-loop2 μ-loop2 Inv-loop μ-loop
 cast-t28 c = omega (arith, c .before .before .before .before .before .before .before .before .if2 .left, c .before .before .before .before .before .before .before .before .before .before .before .before .before .before .before .before .before .before .before .before .before .pre .0 .positions)
 
 loop2-less : tie.Need-loop2-less Inv-loop2 μ-loop2 Inv-loop μ-loop
-loop2-less c = closest-lowers (at (c .before .before .before .before .before .before .before .before .before)) (c .before .before .before .before .before .before .met .given .0 .0) (c .before .before .before .before .before .before .met .given .1) (c .before .before .before .if3 .taken) .less
+loop2-less c = closest-lowers (at (c .before .before .before .before .before .before .before .before .before)) (c .before .before .before .before .before .before .met .given .0 .0) (c .before .before .before .before .before .before .met .given .1) (sym (c .before .before .before .before .counts .ensures) ∙ c .before .before .before .if3 .taken) .less
 
 loop2-again : tie.Need-loop2-again Inv-loop2 μ-loop2 Inv-loop μ-loop
 loop2-again c =
     let l = c .before .before .before .before .before .before .before .before .before .before .before .before .before .before .before .before in
-    let g = closest-lowers (at (c .before .before .before .before .before .before .before .before .before)) (c .before .before .before .before .before .before .met .given .0 .0) (c .before .before .before .before .before .before .met .given .1) (c .before .before .before .if3 .taken) in
-    (tt, l .loop2 .inv .1, omega (arith, g .less, l .loop2 .inv .2), λ goal h. closest-lowers (atAny (c .before .before .before .before .before .before .before .before .before) goal h) (c .before .before .before .before .before .before .met .given .0 .0) (c .before .before .before .before .before .before .met .given .1) (c .before .before .before .if3 .taken) .leads)
+    let g = closest-lowers (at (c .before .before .before .before .before .before .before .before .before)) (c .before .before .before .before .before .before .met .given .0 .0) (c .before .before .before .before .before .before .met .given .1) (sym (c .before .before .before .before .counts .ensures) ∙ c .before .before .before .if3 .taken) in
+    (tt, l .loop2 .inv .1, omega (arith, g .less, l .loop2 .inv .2), λ goal h. closest-lowers (atAny (c .before .before .before .before .before .before .before .before .before) goal h) (c .before .before .before .before .before .before .met .given .0 .0) (c .before .before .before .before .before .before .met .given .1) (sym (c .before .before .before .before .counts .ensures) ∙ c .before .before .before .if3 .taken) .leads)
 
 loop2-less-2 : tie.Need-loop2-less-2 Inv-loop2 μ-loop2 Inv-loop μ-loop
-loop2-less-2 c = closest-passes (at (c .before .before .before .before .before .before)) (c .before .before .before .met .given .0 .0) (c .before .before .before .met .given .1) (c .if3 .left) .less
+loop2-less-2 c = closest-passes (at (c .before .before .before .before .before .before)) (c .before .before .before .met .given .0 .0) (c .before .before .before .met .given .1) (sym (c .before .counts .ensures) ∙ c .if3 .left) .less
 
 loop2-again-2 : tie.Need-loop2-again-2 Inv-loop2 μ-loop2 Inv-loop μ-loop
 loop2-again-2 c =
     let l = c .before .before .before .before .before .before .before .before .before .before .before .before .before in
-    let g = closest-passes (at (c .before .before .before .before .before .before)) (c .before .before .before .met .given .0 .0) (c .before .before .before .met .given .1) (c .if3 .left) in
-    (l .loop2 .inv .0, l .loop2 .inv .1, omega (arith, g .less, l .loop2 .inv .2), λ goal h. closest-passes (atAny (c .before .before .before .before .before .before) goal h) (c .before .before .before .met .given .0 .0) (c .before .before .before .met .given .1) (c .if3 .left) .leads)
+    let g = closest-passes (at (c .before .before .before .before .before .before)) (c .before .before .before .met .given .0 .0) (c .before .before .before .met .given .1) (sym (c .before .counts .ensures) ∙ c .if3 .left) in
+    (l .loop2 .inv .0, l .loop2 .inv .1, omega (arith, g .less, l .loop2 .inv .2), λ goal h. closest-passes (atAny (c .before .before .before .before .before .before) goal h) (c .before .before .before .met .given .0 .0) (c .before .before .before .met .given .1) (sym (c .before .counts .ensures) ∙ c .if3 .left) .leads)
 
 enum-known-met-2 : tie.Need-enum-known-met-2 Inv-loop2 μ-loop2 Inv-loop μ-loop
 enum-known-met-2 c = search needs
@@ -230,6 +233,7 @@ walk-closest-spec =
     position-met-requires
     rest-of-requires
     enum-known-met
+    counts-requires
     cast-t28
     loop2-less
     loop2-again

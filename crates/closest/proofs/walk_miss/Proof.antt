@@ -1,4 +1,4 @@
-use mathlib.Core.Path.{_≡_, refl, ap, _∙_}
+use mathlib.Core.Path.{_≡_, refl, sym, ap, _∙_}
 use Prim.Native.Nat.{ℕ, _≤_}
 use native.Mathlib.Omega.{arith}
 use borrow.Author.Needs.{needs}
@@ -116,13 +116,16 @@ rest-of-requires c κs = c .before .before .before .before .if1 .taken
 enum-known-met : tie.Need-enum-known-met Inv-loop μ-loop Inv-walk μ-walk
 enum-known-met c = search needs
 
+counts-requires : tie.Need-counts-requires Inv-loop μ-loop Inv-walk μ-walk
+counts-requires c κs = search needs
+
 loop-less : tie.Need-loop-less Inv-loop μ-loop Inv-walk μ-walk
-loop-less c = miss-passes (at (c .before .before .before .before .before .before)) (c .before .before .before .met .given .0 .0) (c .before .before .before .met .given .1) (c .if3 .left) .less
+loop-less c = miss-passes (at (c .before .before .before .before .before .before)) (c .before .before .before .met .given .0 .0) (c .before .before .before .met .given .1) (sym (c .before .counts .ensures) ∙ c .if3 .left) .less
 
 loop-again : tie.Need-loop-again Inv-loop μ-loop Inv-walk μ-walk
 loop-again c =
     let l = c .before .before .before .before .before .before .before .before .before .before .before .before .before in
-    let g = miss-passes (at (c .before .before .before .before .before .before)) (c .before .before .before .met .given .0 .0) (c .before .before .before .met .given .1) (c .if3 .left) in
+    let g = miss-passes (at (c .before .before .before .before .before .before)) (c .before .before .before .met .given .0 .0) (c .before .before .before .met .given .1) (sym (c .before .counts .ensures) ∙ c .if3 .left) in
     (l .loop .inv .0, omega (arith, g .less, l .loop .inv .1), g .leads)
 
 enum-known-met-2 : tie.Need-enum-known-met-2 Inv-loop μ-loop Inv-walk μ-walk
@@ -179,7 +182,7 @@ returns-4 c = absurd (search-no-position (after (c .before .before .before .befo
 
 returns-5 : tie.Need-returns-5 Inv-loop μ-loop Inv-walk μ-walk
 unfolding missAnswer
-returns-5 c = miss-blocks (at (c .before .before .before .before .before .before)) (c .before .before .before .met .given .0 .0) (c .before .before .before .met .given .1) (c .if3 .taken)
+returns-5 c = miss-blocks (at (c .before .before .before .before .before .before)) (c .before .before .before .met .given .0 .0) (c .before .before .before .met .given .1) (sym (c .before .counts .ensures) ∙ c .if3 .taken)
 
 returns-6 : tie.Need-returns-6 Inv-loop μ-loop Inv-walk μ-walk
 unfolding missAnswer missFound
@@ -206,6 +209,7 @@ walk-miss-spec =
     position-met-requires
     rest-of-requires
     enum-known-met
+    counts-requires
     loop-less
     loop-again
     enum-known-met-2

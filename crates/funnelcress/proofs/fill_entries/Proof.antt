@@ -4,13 +4,13 @@ use mathlib.Core.Path.{ap, _∙_}
 use native.Mathlib.Omega.{arith}
 use borrow.Author.Needs.{needs}
 use Rattle.aabb.specs.Aabb.{entryDistance}
-use Rattle.funnelcress.specs.Lists.{boxAt}
+use Rattle.packed.specs.Packed.{boxIn}
 use Rattle.funnelcress.proofs.Filled.{Filling, filling-none, filling-turn, filling-all}
 use Rattle.funnelcress.proofs.fill_entries.Statement.{statement}
 use Rattle.funnelcress.proofs.fill_entries.Tie as tie
 
 abbrev Inv-loop : tie.InvT-loop
-Inv-loop boxes r out₀ count i₀ out i = (i ≤ count) × Filling (λ k. entryDistance (boxAt boxes k) r) i out₀ out
+Inv-loop boxes r out₀ count i₀ out i = (i ≤ count) × Filling (λ k. entryDistance (boxIn boxes k) r) i out₀ out
 
 abbrev μ-loop : tie.MeasureT-loop
 μ-loop boxes r out₀ count i₀ out i = count - i

@@ -1,13 +1,26 @@
+use mathlib.Core.Path.{sym, _∙_}
+use borrow.Author.Needs.{needs}
 use Rattle.traverse.specs.Walker.{wordsOf}
 use Rattle.traverse.proofs.Steps.{told-nearer, told-farther}
 use Rattle.traverse.proofs.Walker.tell.Statement.{statement}
 use Rattle.traverse.proofs.Walker.tell.Tie as tie
 
+counts-requires : tie.Need-counts-requires
+counts-requires c κs = search needs
+
 returns : tie.Need-returns
-returns c = let a = c .before .before .before .before .before .before .before .before .args in told-nearer (wordsOf (a .self)) (a .distance) (c .before .before .before .before .before .if1 .taken)
+returns c =
+    let i = c .before .before .before in
+    let t = i .before .before in
+    let k = t .before in
+    let a = k .before .before .args in
+    told-nearer (wordsOf (a .self)) (a .distance) (sym (k .counts .ensures) ∙ t .if1 .taken)
 
 returns-2 : tie.Need-returns-2
-returns-2 c = let a = c .before .before .before .args in told-farther (wordsOf (a .self)) (a .distance) (c .if1 .left)
+returns-2 c =
+    let k = c .before in
+    let a = k .before .before .args in
+    told-farther (wordsOf (a .self)) (a .distance) (sym (k .counts .ensures) ∙ c .if1 .left)
 
 pub tell-spec : {M : Type 1} → statement M
-tell-spec = tie.close (tie.spec returns returns-2)
+tell-spec = tie.close (tie.spec counts-requires returns returns-2)

@@ -1,8 +1,8 @@
 use mathlib.Core.Path.{refl}
-use Rattle.funnelcress.specs.Lists.{vecAt}
+use Rattle.packed.specs.Packed.{vecIn}
 use borrow.Author.Needs.{needs}
-use Rattle.funnelcress.proofs.vec_at.Statement.{statement}
-use Rattle.funnelcress.proofs.vec_at.Tie as tie
+use Rattle.packed.proofs.vec_at.Statement.{statement}
+use Rattle.packed.proofs.vec_at.Tie as tie
 
 mul-t3 : tie.Need-mul-t3
 mul-t3 c = search needs
@@ -29,7 +29,7 @@ shared-slice-read-t13 : tie.Need-shared-slice-read-t13
 shared-slice-read-t13 c = search needs
 
 returns : tie.Need-returns
-unfolding vecAt
+unfolding vecIn
 returns c = refl
 
 pub vec-at-spec : {M : Type 1} → statement M
