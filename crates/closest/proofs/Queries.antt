@@ -2,6 +2,7 @@
 use mathlib.Core.Bool.{Bool, true, false, cond}
 use mathlib.Core.List.{List, []}
 use mathlib.Core.Path.{_≡_, refl, sym, ap, _∙_, subst}
+use native.Mathlib.Omega.{arith}
 use Prim.Native.Nat.{ℕ, _≤_, _<_}
 use lib.Ieee.{Float}
 use lib.ListN.{length, getD}
@@ -21,7 +22,8 @@ use Rattle.advance.specs.declared.Walk.{Walk}
 use Rattle.advance.specs.declared.Turn.{Turn}
 use Rattle.advance.specs.declared.Answer.{Answer}
 use Rattle.advance.specs.declared.Answer.the-variants.{Tested, Position, Done, Refused as AnswerRefused}
-use Rattle.advance.specs.Turn.{groupOf, walkerOf, answerOf, turned}
+use Rattle.advance.specs.Turn.{groupOf, walkerOf, seeking, answerOf, turned}
+use Rattle.advance.proofs.Seeks.{seeking-from}
 use Rattle.query.specs.Walk.{Sized}
 use Rattle.query.proofs.Leads.{Leads, Goes, Sought, leads-past, leads-stops, leads-on, seek-sought}
 use Rattle.query.proofs.Begins.{steady}
@@ -171,6 +173,16 @@ module _ {indices : List ℕ} {panes : List Float} {bytes : List ℕ} {goal : Ou
     miss-passes d f h = goes P (miss-at indices panes p (record { ray = ray; octant = octant }) x met (P .pane) d f false h)
 
 -- ---- after a search
+
+-- A search by the numbers of walk v, which has no position in hand, is one from v; u is the walk that it gave, read number by number.
+pub searched : (m : ℕ) (N : NodeWords Beam Float) (most n : ℕ) (ray : Ray) (octant : ℕ) (v : Walk) (stack : List ℕ) → v .positions .bits ≤ 0
+    → (u : Walk) (t : Turn) → u ≡ t .walk → (stack₁ : List ℕ)
+    → turned ray octant t stack₁ ≡ seekWords m N most n
+    (walkerOf ray octant (seeking (v .tests) (v .positions .base) (v .current .base) (v .current .bits) (v .depth)) stack)
+    → turned ray octant (record { answer = t .answer; walk = u }) stack₁ ≡ seekWords m N most n (walkerOf ray octant v stack)
+searched m N most n ray octant v stack held u t e stack₁ h =
+    ap (λ (w : Walk). turned ray octant (record { answer = t .answer; walk = w }) stack₁) e ∙ h
+    ∙ ap (seekWords m N most n) (seeking-from ray octant stack v (omega (arith, held)))
 
 -- a search from walk v, which has no position in hand, gave t and a stack
 pub record AfterSearch (bytes indices : List ℕ) (react : ℕ → Beam → Found Float → Reaction Float (Found Float)) (goal : OutcomeWords Beam (Found Float))

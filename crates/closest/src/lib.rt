@@ -109,9 +109,26 @@ fn walk_closest(bytes: &[u8], indices: &[u32], panes: &[f32], start: Ray) -> Clo
                 Met::Faulty(cause) => return refused_closest(cause),
             }
         }
-        let turn = advance::seek(walk, MOST, ray, e, octant, &mut stack, bytes, n);
+        let tests = walk.tests;
+        let base = walk.positions.base;
+        let current = walk.current;
+        let depth = walk.depth;
+        let turn = advance::seek(
+            tests,
+            base,
+            current.base,
+            current.bits,
+            depth,
+            MOST,
+            ray,
+            e,
+            octant,
+            &mut stack,
+            bytes,
+            n,
+        );
         let reply = turn.answer;
-        let next = turn.walk;
+        let next = advance::walk_after(turn);
         match reply {
             Answer::Tested(_) => walk = next,
             Answer::Done => {
@@ -187,9 +204,26 @@ fn walk_miss(bytes: &[u8], indices: &[u32], panes: &[f32], ray: Ray) -> MissFoun
                 Met::Faulty(cause) => return refused_miss(cause),
             }
         }
-        let turn = advance::seek(walk, MOST, ray, e, octant, &mut stack, bytes, n);
+        let tests = walk.tests;
+        let base = walk.positions.base;
+        let current = walk.current;
+        let depth = walk.depth;
+        let turn = advance::seek(
+            tests,
+            base,
+            current.base,
+            current.bits,
+            depth,
+            MOST,
+            ray,
+            e,
+            octant,
+            &mut stack,
+            bytes,
+            n,
+        );
         let reply = turn.answer;
-        let next = turn.walk;
+        let next = advance::walk_after(turn);
         match reply {
             Answer::Tested(_) => walk = next,
             Answer::Done => {

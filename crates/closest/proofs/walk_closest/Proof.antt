@@ -16,7 +16,7 @@ use Rattle.advance.specs.Turn.{walkerOf}
 use Rattle.query.proofs.Leads.{Leads}
 use Rattle.query.proofs.Begins.{walkable, leads-begun}
 use Rattle.closest.specs.Panes.{paneOf, nearer, refusedClosest, closestFound, closestWalk, closestAnswer, closestResult}
-use Rattle.closest.proofs.Queries.{ends-done, ends-refused, foundBy, Held, closest-held, AtPosition, AfterSearch, closest-fails, closest-lowers, closest-passes, search-tested, search-done, search-refused, search-no-position, position-past}
+use Rattle.closest.proofs.Queries.{ends-done, ends-refused, foundBy, Held, closest-held, AtPosition, AfterSearch, closest-fails, closest-lowers, closest-passes, search-tested, search-done, search-refused, search-no-position, position-past, searched}
 use Rattle.closest.proofs.walk_closest.Statement.{statement}
 use Rattle.closest.proofs.walk_closest.Tie as tie
 
@@ -72,17 +72,35 @@ at : (c : tie.After-rest-of Inv-loop2 μ-loop2 Inv-loop μ-loop) → let l = c .
 at c = atAny c _ (c .before .before .before .before .before .before .before .before .loop .inv .3)
 
 -- after a search
-after : (c : tie.After-stack2 Inv-loop2 μ-loop2 Inv-loop μ-loop) → let l = c .before .before .before .before .before in let a = c .before .before .before .before .before .before .before .before .before .before .before .before .before .args in
-    AfterSearch (a .bytes .now) (a .indices .now) (closest (paneOf (a .indices .now) (a .panes .now)) nearer) (closestWalk (a .bytes .now) (a .indices .now) (a .panes .now) (a .start))
-    (l .loop2 .ray) (c .before .before .before .before .before .before .before .before .before .octant .result) (l .loop2 .walk) (c .before .before .before .before .before .before .loop .stack) (foundBy (l .loop2 .answer)) (c .before .seek .result) (c .before .seek .last .1 .1 .1 .1 .1 .0)
-after c = record {
-  sized = c .before .before .before .before .before .before .before .before .before .before .before .before .before .pre .0;
-  fit = fits (c .before .before .before .before .before .before .before .before .before .before .before .before);
-  leads = leads (c .before .before .before .before .before);
-  none = c .before .before .before .if1 .left;
-  most = 0xffff_ffff;
-  search = c .before .seek .ensures;
-}
+module _ (c : tie.After-walk-after Inv-loop2 μ-loop2 Inv-loop μ-loop) where
+  abbrev q : tie.After-seek Inv-loop2 μ-loop2 Inv-loop μ-loop
+  q = c .before .before
+
+  -- the heads of the position loop and of the walk's, and where the function began
+  abbrev l : tie.At-loop2 Inv-loop2 μ-loop2 Inv-loop μ-loop
+  l = q .before .before .before .before .before
+
+  abbrev h : tie.At-loop Inv-loop2 μ-loop2 Inv-loop μ-loop
+  h = l .before
+
+  abbrev s : tie.Start Inv-loop2 μ-loop2 Inv-loop μ-loop
+  s = h .before .before .before .before .before .before .before
+
+  after : let a = s .args in
+      AfterSearch (a .bytes .now) (a .indices .now) (closest (paneOf (a .indices .now) (a .panes .now)) nearer) (closestWalk (a .bytes .now) (a .indices .now) (a .panes .now) (a .start))
+      (l .loop2 .ray) (h .before .before .before .octant .result) (l .loop2 .walk) (h .loop .stack) (foundBy (l .loop2 .answer))
+      (record { answer = q .seek .result .answer; walk = c .walk-after .result }) (q .seek .last .1 .1 .1 .1 .1 .1 .1 .1 .1 .0)
+  after = let a = s .args in record {
+    sized = s .pre .0;
+    fit = fits (h .before .before .before .before .before .before);
+    leads = leads l;
+    none = q .before .before .before .if1 .left;
+    most = 0xffff_ffff;
+    search =
+        searched (nodeCount (a .bytes .now)) (nodeWordsAt (a .bytes .now) beams) 0xffff_ffff (length (a .indices .now)) (l .loop2 .ray)
+        (h .before .before .before .octant .result) (l .loop2 .walk) (h .loop .stack) (q .before .before .before .if1 .left)
+        (c .walk-after .result) (q .seek .result) (c .walk-after .ensures) _ (q .seek .ensures);
+  }
 
 octant-requires : tie.Need-octant-requires Inv-loop2 μ-loop2 Inv-loop μ-loop
 octant-requires c κs = search needs
@@ -134,8 +152,8 @@ enum-known-met c = search needs
 counts-requires : tie.Need-counts-requires Inv-loop2 μ-loop2 Inv-loop μ-loop
 counts-requires c κs = search needs
 
-cast-t28 : tie.Need-cast-t28 Inv-loop2 μ-loop2 Inv-loop μ-loop
-cast-t28 c = omega (arith, c .before .before .before .before .before .before .before .before .if2 .left, c .before .before .before .before .before .before .before .before .before .before .before .before .before .before .before .before .before .before .before .before .before .pre .0 .positions)
+cast-t32 : tie.Need-cast-t32 Inv-loop2 μ-loop2 Inv-loop μ-loop
+cast-t32 c = omega (arith, c .before .before .before .before .before .before .before .before .if2 .left, c .before .before .before .before .before .before .before .before .before .before .before .before .before .before .before .before .before .before .before .before .before .pre .0 .positions)
 
 loop2-less : tie.Need-loop2-less Inv-loop2 μ-loop2 Inv-loop μ-loop
 loop2-less c = closest-lowers (at (c .before .before .before .before .before .before .before .before .before)) (c .before .before .before .before .before .before .met .given .0 .0) (c .before .before .before .before .before .before .met .given .1) (sym (c .before .before .before .before .counts .ensures) ∙ c .before .before .before .if3 .taken) .less
@@ -170,21 +188,32 @@ slice-aggregate-seek c = search needs
 
 seek-requires : tie.Need-seek-requires Inv-loop2 μ-loop2 Inv-loop μ-loop
 seek-requires c κs =
-    let s = c .before .before .before .before .before .before .before .before .before .before .before in
-    let l = c .before .before .before in
-    let w = walkable (s .args .bytes .now) (length (s .args .indices .now)) (s .pre .0) (walkerOf (l .loop2 .ray) (c .before .before .before .before .before .before .before .octant .result) (l .loop2 .walk) (c .before .before .before .before .loop .stack)) (leads l .way) (c .before .before .before .before .before .before .near-ends .result) (l .loop2 .inv .1) in
-    (w, omega (arith, c .before .if1 .left))
+    let l = c .before .before .before .before in
+    let h = l .before in
+    let s = h .before .before .before .before .before .before .before in
+    walkable (s .args .bytes .now) (length (s .args .indices .now)) (s .pre .0)
+    (walkerOf (l .loop2 .ray) (h .before .before .before .octant .result) (l .loop2 .walk) (h .loop .stack)) (leads l .way)
+    (h .before .before .near-ends .result) (l .loop2 .inv .1)
+
+walk-after-requires : tie.Need-walk-after-requires Inv-loop2 μ-loop2 Inv-loop μ-loop
+walk-after-requires c κs = search needs
 
 enum-told : tie.Need-enum-told Inv-loop2 μ-loop2 Inv-loop μ-loop
 enum-told c = search needs
 
 loop-less : tie.Need-loop-less Inv-loop2 μ-loop2 Inv-loop μ-loop
-loop-less c = omega (arith, search-tested (after (c .before .before .before)) _ (c .enum-told .given .1) .less, c .before .before .before .before .before .before .before .before .loop2 .inv .2)
+loop-less c =
+    let w = c .before .before in
+    omega (arith, search-tested (after w) _ (c .enum-told .given .1) .less, l w .loop2 .inv .2)
 
 loop-again : tie.Need-loop-again Inv-loop2 μ-loop2 Inv-loop μ-loop
 loop-again c =
-    let l = c .before .before .before .before .before .before .before .before in
-    (l .loop2 .inv .0, c .before .before .before .before .seek .kept .1 .1 .1 .1 .1 .0 ∙ c .before .before .before .before .before .before .before .before .before .loop .inv .1, l .loop2 .inv .1, search-tested (after (c .before .before .before)) _ (c .enum-told .given .1) .leads)
+    let w = c .before .before in (
+      l w .loop2 .inv .0,
+      q w .seek .kept .1 .1 .1 .1 .1 .1 .1 .1 .1 .0 ∙ h w .loop .inv .1,
+      l w .loop2 .inv .1,
+      search-tested (after w) _ (c .enum-told .given .1) .leads,
+    )
 
 enum-told-2 : tie.Need-enum-told-2 Inv-loop2 μ-loop2 Inv-loop μ-loop
 enum-told-2 c = search needs
@@ -192,8 +221,9 @@ enum-told-2 c = search needs
 returns-3 : tie.Need-returns-3 Inv-loop2 μ-loop2 Inv-loop μ-loop
 unfolding closestAnswer
 returns-3 c =
-    let l = c .before .before .before .before .before .before .before .before in
-    closest-held (l .loop2 .answer) (c .before .before .before .before .seek .result .walk .tests) (l .loop2 .inv .0) ∙ ends-done refusedClosest closestFound (search-done (after (c .before .before .before)) (c .enum-told2 .given .1))
+    let w = c .before .before in
+    closest-held (l w .loop2 .answer) (w .walk-after .result .tests) (l w .loop2 .inv .0)
+    ∙ ends-done refusedClosest closestFound (search-done (after w) (c .enum-told2 .given .1))
 
 enum-known-reply : tie.Need-enum-known-reply Inv-loop2 μ-loop2 Inv-loop μ-loop
 enum-known-reply c = search needs
@@ -203,7 +233,7 @@ refused-closest-requires-3 c κs = search needs
 
 returns-4 : tie.Need-returns-4 Inv-loop2 μ-loop2 Inv-loop μ-loop
 unfolding closestAnswer
-returns-4 c = ap closestResult (c .refused-closest3 .ensures) ∙ ends-refused refusedClosest closestFound (search-refused (after (c .before .before .before .before .before)) (c .before .before .reply .given .0 .0) (c .before .before .reply .given .1))
+returns-4 c = ap closestResult (c .refused-closest3 .ensures) ∙ ends-refused refusedClosest closestFound (search-refused (after (c .before .before .before .before)) (c .before .before .reply .given .0 .0) (c .before .before .reply .given .1))
 
 enum-told-3 : tie.Need-enum-told-3 Inv-loop2 μ-loop2 Inv-loop μ-loop
 enum-told-3 c = search needs
@@ -212,7 +242,7 @@ refused-closest-requires-4 : tie.Need-refused-closest-requires-4 Inv-loop2 μ-lo
 refused-closest-requires-4 c κs = search needs
 
 returns-5 : tie.Need-returns-5 Inv-loop2 μ-loop2 Inv-loop μ-loop
-returns-5 c = absurd (search-no-position (after (c .before .before .before .before)) _ (c .before .enum-told3 .given .1))
+returns-5 c = absurd (search-no-position (after (c .before .before .before)) _ (c .before .enum-told3 .given .1))
 
 pub walk-closest-spec : {M : Type 1} → statement M
 walk-closest-spec =
@@ -234,7 +264,7 @@ walk-closest-spec =
     rest-of-requires
     enum-known-met
     counts-requires
-    cast-t28
+    cast-t32
     loop2-less
     loop2-again
     loop2-less-2
@@ -244,6 +274,7 @@ walk-closest-spec =
     returns-2
     slice-aggregate-seek
     seek-requires
+    walk-after-requires
     enum-told
     loop-less
     loop-again

@@ -16,7 +16,7 @@ use Rattle.query.proofs.Begins.{walkable, leads-begun}
 use Rattle.closest.specs.declared.Occlusion.{Occlusion}
 use Rattle.closest.specs.declared.Occlusion.the-variants.{Missed}
 use Rattle.closest.specs.Panes.{paneOf, nearer, refusedMiss, missFound, missWalk, missAnswer, missResult}
-use Rattle.closest.proofs.Queries.{ends-done, ends-refused, AtPosition, AfterSearch, miss-fails, miss-blocks, miss-passes, search-tested, search-done, search-refused, search-no-position, position-past}
+use Rattle.closest.proofs.Queries.{ends-done, ends-refused, AtPosition, AfterSearch, miss-fails, miss-blocks, miss-passes, search-tested, search-done, search-refused, search-no-position, position-past, searched}
 use Rattle.closest.proofs.walk_miss.Statement.{statement}
 use Rattle.closest.proofs.walk_miss.Tie as tie
 
@@ -57,17 +57,35 @@ at c = record {
 }
 
 -- after a search
-after : (c : tie.After-stack2 Inv-loop μ-loop Inv-walk μ-walk) → let l = c .before .before .before .before .before in let a = c .before .before .before .before .before .before .before .before .before .before .before .before .before .args in
-    AfterSearch (a .bytes .now) (a .indices .now) (miss (paneOf (a .indices .now) (a .panes .now)) nearer) (missWalk (a .bytes .now) (a .indices .now) (a .panes .now) (a .ray))
-    (a .ray) (c .before .before .before .before .before .before .before .before .before .octant .result) (l .loop .walk) (c .before .before .before .before .before .before .walk .stack) none (c .before .seek .result) (c .before .seek .last .1 .1 .1 .1 .1 .0)
-after c = record {
-  sized = c .before .before .before .before .before .before .before .before .before .before .before .before .before .pre .0;
-  fit = fits (c .before .before .before .before .before .before .before .before .before .before .before .before);
-  leads = c .before .before .before .before .before .loop .inv .2;
-  none = c .before .before .before .if1 .left;
-  most = 0xffff_ffff;
-  search = c .before .seek .ensures;
-}
+module _ (c : tie.After-walk-after Inv-loop μ-loop Inv-walk μ-walk) where
+  abbrev q : tie.After-seek Inv-loop μ-loop Inv-walk μ-walk
+  q = c .before .before
+
+  -- the heads of the position loop and of the walk's, and where the function began
+  abbrev l : tie.At-loop Inv-loop μ-loop Inv-walk μ-walk
+  l = q .before .before .before .before .before
+
+  abbrev h : tie.At-walk Inv-loop μ-loop Inv-walk μ-walk
+  h = l .before
+
+  abbrev s : tie.Start Inv-loop μ-loop Inv-walk μ-walk
+  s = h .before .before .before .before .before .before .before
+
+  after : let a = s .args in
+      AfterSearch (a .bytes .now) (a .indices .now) (miss (paneOf (a .indices .now) (a .panes .now)) nearer) (missWalk (a .bytes .now) (a .indices .now) (a .panes .now) (a .ray))
+      (a .ray) (h .before .before .before .octant .result) (l .loop .walk) (h .walk .stack) none
+      (record { answer = q .seek .result .answer; walk = c .walk-after .result }) (q .seek .last .1 .1 .1 .1 .1 .1 .1 .1 .1 .0)
+  after = let a = s .args in record {
+    sized = s .pre .0;
+    fit = fits (h .before .before .before .before .before .before);
+    leads = l .loop .inv .2;
+    none = q .before .before .before .if1 .left;
+    most = 0xffff_ffff;
+    search =
+        searched (nodeCount (a .bytes .now)) (nodeWordsAt (a .bytes .now) beams) 0xffff_ffff (length (a .indices .now)) (a .ray)
+        (h .before .before .before .octant .result) (l .loop .walk) (h .walk .stack) (q .before .before .before .if1 .left)
+        (c .walk-after .result) (q .seek .result) (c .walk-after .ensures) _ (q .seek .ensures);
+  }
 
 octant-requires : tie.Need-octant-requires Inv-loop μ-loop Inv-walk μ-walk
 octant-requires c κs = search needs
@@ -143,20 +161,32 @@ slice-aggregate-seek c = search needs
 
 seek-requires : tie.Need-seek-requires Inv-loop μ-loop Inv-walk μ-walk
 seek-requires c κs =
-    let s = c .before .before .before .before .before .before .before .before .before .before .before in
-    let l = c .before .before .before in
-    let w = walkable (s .args .bytes .now) (length (s .args .indices .now)) (s .pre .0) (walkerOf (s .args .ray) (c .before .before .before .before .before .before .before .octant .result) (l .loop .walk) (c .before .before .before .before .walk .stack)) (l .loop .inv .2 .way) (c .before .before .before .before .before .before .near-ends .result) (c .before .before .before .before .walk .inv .2) in
-    (w, omega (arith, c .before .if1 .left))
+    let l = c .before .before .before .before in
+    let h = l .before in
+    let s = h .before .before .before .before .before .before .before in
+    walkable (s .args .bytes .now) (length (s .args .indices .now)) (s .pre .0)
+    (walkerOf (s .args .ray) (h .before .before .before .octant .result) (l .loop .walk) (h .walk .stack)) (l .loop .inv .2 .way)
+    (h .before .before .near-ends .result) (h .walk .inv .2)
+
+walk-after-requires : tie.Need-walk-after-requires Inv-loop μ-loop Inv-walk μ-walk
+walk-after-requires c κs = search needs
 
 enum-told : tie.Need-enum-told Inv-loop μ-loop Inv-walk μ-walk
 enum-told c = search needs
 
 walk-less : tie.Need-walk-less Inv-loop μ-loop Inv-walk μ-walk
-walk-less c = omega (arith, search-tested (after (c .before .before .before)) _ (c .enum-told .given .1) .less, c .before .before .before .before .before .before .before .before .loop .inv .1)
+walk-less c =
+    let w = c .before .before in
+    omega (arith, search-tested (after w) _ (c .enum-told .given .1) .less, l w .loop .inv .1)
 
 walk-again : tie.Need-walk-again Inv-loop μ-loop Inv-walk μ-walk
 walk-again c =
-    (c .before .before .before .before .before .before .before .before .loop .inv .0, c .before .before .before .before .seek .kept .1 .1 .1 .1 .1 .0 ∙ c .before .before .before .before .before .before .before .before .before .walk .inv .1, c .before .before .before .before .before .before .before .before .before .walk .inv .2, search-tested (after (c .before .before .before)) _ (c .enum-told .given .1) .leads)
+    let w = c .before .before in (
+      l w .loop .inv .0,
+      q w .seek .kept .1 .1 .1 .1 .1 .1 .1 .1 .1 .0 ∙ h w .walk .inv .1,
+      h w .walk .inv .2,
+      search-tested (after w) _ (c .enum-told .given .1) .leads,
+    )
 
 enum-told-2 : tie.Need-enum-told-2 Inv-loop μ-loop Inv-walk μ-walk
 enum-told-2 c = search needs
@@ -169,7 +199,7 @@ refused-miss-requires-3 c κs = search needs
 
 returns-3 : tie.Need-returns-3 Inv-loop μ-loop Inv-walk μ-walk
 unfolding missAnswer
-returns-3 c = ap missResult (c .refused-miss3 .ensures) ∙ ends-refused refusedMiss missFound (search-refused (after (c .before .before .before .before .before)) (c .before .before .reply .given .0 .0) (c .before .before .reply .given .1))
+returns-3 c = ap missResult (c .refused-miss3 .ensures) ∙ ends-refused refusedMiss missFound (search-refused (after (c .before .before .before .before)) (c .before .before .reply .given .0 .0) (c .before .before .reply .given .1))
 
 enum-told-3 : tie.Need-enum-told-3 Inv-loop μ-loop Inv-walk μ-walk
 enum-told-3 c = search needs
@@ -178,7 +208,7 @@ refused-miss-requires-4 : tie.Need-refused-miss-requires-4 Inv-loop μ-loop Inv-
 refused-miss-requires-4 c κs = search needs
 
 returns-4 : tie.Need-returns-4 Inv-loop μ-loop Inv-walk μ-walk
-returns-4 c = absurd (search-no-position (after (c .before .before .before .before)) _ (c .before .enum-told3 .given .1))
+returns-4 c = absurd (search-no-position (after (c .before .before .before)) _ (c .before .enum-told3 .given .1))
 
 returns-5 : tie.Need-returns-5 Inv-loop μ-loop Inv-walk μ-walk
 unfolding missAnswer
@@ -187,8 +217,9 @@ returns-5 c = miss-blocks (at (c .before .before .before .before .before .before
 returns-6 : tie.Need-returns-6 Inv-loop μ-loop Inv-walk μ-walk
 unfolding missAnswer missFound
 returns-6 c =
-    let l = c .before .before .before .before .before .before .before .before in
-    ap (λ (a : Occlusion). record { answer = missAnswer a; tests = c .before .before .before .before .seek .result .walk .tests }) (l .loop .inv .0) ∙ ends-done refusedMiss missFound (search-done (after (c .before .before .before)) (c .enum-told2 .given .1))
+    let w = c .before .before in
+    ap (λ (o : Occlusion). record { answer = missAnswer o; tests = w .walk-after .result .tests }) (l w .loop .inv .0)
+    ∙ ends-done refusedMiss missFound (search-done (after w) (c .enum-told2 .given .1))
 
 pub walk-miss-spec : {M : Type 1} → statement M
 walk-miss-spec =
@@ -217,6 +248,7 @@ walk-miss-spec =
     returns-2
     slice-aggregate-seek
     seek-requires
+    walk-after-requires
     enum-told
     walk-less
     walk-again
