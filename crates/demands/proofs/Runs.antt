@@ -10,7 +10,7 @@ use lib.Ieee.{Float}
 use Rattle.ray.specs.declared.Vec3.{Vec3}
 use Rattle.ray.specs.declared.Ray.{Ray}
 use Rattle.ray.specs.Ray.{rayOf, acceptedRay}
-use Rattle.record_shape.specs.Record.{nodeCount, shapeAt}
+use Rattle.record_shape.specs.Record.{nodeCount, nodesAt}
 use Rattle.walk.specs.Tests.{Tests}
 use Rattle.walk.specs.Step.{Walker, Answer, fresh}
 use Rattle.walk.specs.Calls.{All, Run, runOps, reported}
@@ -23,11 +23,11 @@ use Rattle.walk.proofs.Ends.{query-run, any-hit-run}
 use Rattle.walk.proofs.Reports.{run-tests, query-notes, reports-exist, miss-reports}
 use Rattle.walk.proofs.WordRuns.{decodedRun, calls-decoded}
 use Rattle.walk.proofs.WordQueries.{fresh-query}
-use Rattle.walk.proofs.Masks.{masks-decode}
 use Rattle.walk_record.specs.Beam.{Beam, beamOf, beams}
-use Rattle.walk_record.specs.Record.{slotsAt, maskAt, nodeWordsAt}
+use Rattle.walk_record.specs.Record.{slotsAt, nodeWordsAt}
 use Rattle.walk_record.specs.Walk.{runAt, queryAt, anyHitAt}
-use Rattle.walk_record.proofs.Laws.{mask-laws, bytes-fit}
+use Rattle.walk_record.proofs.Laws.{bytes-fit}
+use Rattle.walk_record.proofs.Steps as S
 use Rattle.walk_record.proofs.Beam.{beam-laws, begun-accepted}
 use Rattle.traverse.specs.Walker.{started}
 use Rattle.traverse.specs.Calls.{runBytes}
@@ -59,8 +59,7 @@ module _ (bytes : List ℕ) (whole : length bytes % 80 ≡ 0) (are-bytes : (i : 
   T = testsOf (slotsAt bytes beams n)
 
   decodes : Decodes m N passed below
-  unfolding shapeAt
-  decodes = masks-decode (slotsAt bytes beams n) (maskAt bytes beams) (mask-laws bytes beams beam-laws n (bytes-fit bytes are-bytes))
+  decodes = S.decodes (nodesAt bytes) beams beam-laws (bytes-fit bytes are-bytes) n
 
   module _ {a : Type 0} (react : ℕ → Beam → a → Reaction Float a) (x : a) where
     run-is : decodedRun m N passed below decodes (runBytes bytes (callsMade bytes n ray react x) (started ray .walker))

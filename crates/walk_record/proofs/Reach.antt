@@ -10,17 +10,18 @@ use Rattle.float.proofs.Order.{le-of-lt}
 use Rattle.ray.specs.declared.Ray.{Ray}
 use Rattle.node.specs.Node.{nodeAt, noSlot}
 use Rattle.slot.specs.Mask.{passesSlot}
+use Rattle.record_shape.specs.Record.{Nodes, nodesAt}
 use Rattle.hits.proofs.Reach.{LowerReach, lower-reach-passes-fewer}
 use Rattle.walk_record.specs.Beam.{Beam, reaching, toldBeam}
 use Rattle.walk_record.specs.Walk.{ReachedBy, first, child, PassedBy, boxTest, Reached, Passed}
 
 -- a test of slots that passes no more than another reaches no more nodes, and passes no more positions
-module _ (bytes : List ℕ) (a b : ℕ → ℕ → Bool) (fewer : (v j : ℕ) → a v j ≡ true → b v j ≡ true) where
-  pub fewer-reached : (v : ℕ) → ReachedBy bytes a v → ReachedBy bytes b v
+module _ (N : Nodes) (a b : ℕ → ℕ → Bool) (fewer : (v j : ℕ) → a v j ≡ true → b v j ≡ true) where
+  pub fewer-reached : (v : ℕ) → ReachedBy N a v → ReachedBy N b v
   fewer-reached v (first e h) = first e h
   fewer-reached v (child {v = u} j q l i p e) = child j (fewer-reached u q) l i (fewer u j p) e
 
-  pub fewer-passed : (admits : ℕ → Bool) (n p : ℕ) → PassedBy bytes n a admits p → PassedBy bytes n b admits p
+  pub fewer-passed : (admits : ℕ → Bool) (n p : ℕ) → PassedBy N n a admits p → PassedBy N n b admits p
   fewer-passed admits n p q = record {
     node = q .node;
     reached = fewer-reached (q .node) (q .reached);
@@ -35,10 +36,10 @@ module _ (bytes : List ℕ) (r s : Ray) (lower : LowerReach r s) where
   passed-slot v j = lower-reach-passes-fewer (nodeAt bytes v) (getD (nodeAt bytes v .slots) j noSlot) r s lower
 
   pub lower-reach-reaches-fewer : (v : ℕ) → Reached bytes r v → Reached bytes s v
-  lower-reach-reaches-fewer = fewer-reached bytes (boxTest bytes r) (boxTest bytes s) passed-slot
+  lower-reach-reaches-fewer = fewer-reached (nodesAt bytes) (boxTest bytes r) (boxTest bytes s) passed-slot
 
   pub lower-reach-meets-fewer : (n p : ℕ) → Passed bytes n r p → Passed bytes n s p
-  lower-reach-meets-fewer = fewer-passed bytes (boxTest bytes r) (boxTest bytes s) passed-slot (λ p. true)
+  lower-reach-meets-fewer = fewer-passed (nodesAt bytes) (boxTest bytes r) (boxTest bytes s) passed-slot (λ p. true)
 
 -- ---- telling
 
