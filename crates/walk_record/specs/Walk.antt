@@ -1,20 +1,16 @@
 -- Steps, lists of calls and queries over a record's nodes and over its bytes, and what a ray reaches and passes there (01, "Walking").
-use mathlib.Core.Bool.{Bool, true}
 use mathlib.Core.List.{List, []}
-use mathlib.Core.Path.{_≡_}
-use Prim.Native.Nat.{ℕ, _<_}
-use Rattle.soundness.specs.Shape.{Holds}
+use Prim.Native.Nat.{ℕ}
 use Rattle.ray.specs.declared.Ray.{Ray}
-use Rattle.node.specs.Node.{nodeAt, innerBit, childIndex}
-use Rattle.slot.specs.Mask.{passesSlot}
-use Rattle.record_shape.specs.Record.{Nodes, nodesAt, shapeIn}
+use Rattle.record_shape.specs.Record.{Nodes, nodesAt}
 use Rattle.walk.specs.Calls.{Op}
 use Rattle.walk.specs.Listing.{listing}
 use Rattle.walk.specs.Queries.{Reaction, stepsFor, append}
-use Rattle.walk.specs.Slots.{testsOf}
+use Rattle.walk.specs.Slots.{testsOf, ReachedBySlots, PassedBySlots}
 use Rattle.walk.specs.WordStep.{WalkerWords, SteppedWords, RunWords, freshWords, stepWords, runWords}
 use Rattle.walk.specs.WordQueries.{OutcomeWords, queryWords}
-use Rattle.walk_record.specs.Record.{Rays, slotsIn, nodeWordsIn}
+use Rattle.walk_record.specs.Record.{Rays, slotsIn, nodeWordsIn, slotsAt}
+use Rattle.walk_record.specs.Beam.{beamOf, beams}
 
 module _ {s d : Type 0} (N : Nodes) (R : Rays s d) where
   -- one step of a walker, the record taken to have n positions
@@ -62,31 +58,10 @@ module _ {s d : Type 0} (bytes : List ℕ) (R : Rays s d) where
   abbrev pub listingAt : ℕ → s → List ℕ
   listingAt n r = listingIn (nodesAt bytes) R n r
 
--- ---- in the words of the demand, for any test of slots and of positions
+-- ---- what a ray reaches and passes there, by boxes alone
 
--- Node 0 is reached, and with a node each child in a slot that passes.
-pub data ReachedBy (N : Nodes) (test : ℕ → ℕ → Bool) : ℕ → Type 0 where
-  first : {v : ℕ} → v ≡ 0 → 0 < N .count → ReachedBy N test v
-  child : {v c : ℕ} (j : ℕ) → ReachedBy N test v → j < 8 → innerBit (N .node v .imask) j ≡ 1 → test v j ≡ true
-      → c ≡ childIndex (N .node v .«child_base_idx») (N .node v .imask) j → ReachedBy N test c
-
--- p is passed: it stands in a slot that passes, in a reached node, and passes itself.
-pub record PassedBy (N : Nodes) (n : ℕ) (test : ℕ → ℕ → Bool) (admits : ℕ → Bool) (p : ℕ) : Type 0 where
-  pub node : ℕ
-  pub reached : ReachedBy N test node
-  pub slot : ℕ
-  pub holds : Holds (shapeIn N n) node slot p
-  pub passes : test node slot ≡ true
-  pub admitted : admits p ≡ true
-
--- ---- by boxes alone
-
--- the ray passes slot j of node v
-abbrev pub boxTest : List ℕ → Ray → ℕ → ℕ → Bool
-boxTest bytes ray v j = passesSlot (nodeAt bytes v) ray j
-
-abbrev pub Reached : List ℕ → Ray → ℕ → Type 0
-Reached bytes ray = ReachedBy (nodesAt bytes) (boxTest bytes ray)
+abbrev pub Reached : List ℕ → ℕ → Ray → ℕ → Type 0
+Reached bytes n ray = ReachedBySlots (slotsAt bytes beams n) (beamOf ray)
 
 abbrev pub Passed : List ℕ → ℕ → Ray → ℕ → Type 0
-Passed bytes n ray = PassedBy (nodesAt bytes) n (boxTest bytes ray) (λ p. true)
+Passed bytes n ray = PassedBySlots (slotsAt bytes beams n) (beamOf ray)
