@@ -1,14 +1,14 @@
--- The children that a node's bytes show: child nodes and leaves.
-use mathlib.Core.List.{List}
+-- The children that a node shows: child nodes and leaves.
 use mathlib.Core.Path.{_≡_, refl, sym, ap, _∙_}
 use Prim.Native.Nat.{ℕ, zero, suc, _+_, _/_, _%_, _^_, _<_, _≤_, min}
 use native.Mathlib.Omega.{arith}
 use Rattle.lists.specs.Sums.{sum}
 use Rattle.lists.proofs.Sums.{sum-cong, sum-add}
 use Rattle.words.specs.Ones.{onesBelow}
-use Rattle.node.specs.Node.{nodeAt, innerBit, codeCount}
+use Rattle.node.specs.declared.Node.{Node}
+use Rattle.node.specs.Node.{innerBit, codeCount}
 use Rattle.rule.specs.Rule.{LeafTop, one, two, three, SlotRule, empty, child, leaf}
-use Rattle.record_shape.specs.Record.{metaAt, leafCount, shapeAt, RuleAt}
+use Rattle.record_shape.specs.Record.{Nodes, metaAt, leafCount, shapeIn, RuleIn}
 use Rattle.demands.specs.Children.{childCount, leafChildren}
 
 sum-most : (f : ℕ → ℕ) (k : ℕ) → ((j : ℕ) → f j ≤ 1) → sum f k ≤ k
@@ -16,9 +16,9 @@ unfolding sum
 sum-most f zero h = omega arith
 sum-most f (suc k) h = omega (arith, sum-most f k h, h k)
 
-pub at-most-eight : (bytes : List ℕ) (v : ℕ) → childCount bytes v ≤ 8
+pub at-most-eight : (v : Node) → childCount v ≤ 8
 unfolding childCount
-at-most-eight bytes v = sum-most _ 8 (λ s. omega arith)
+at-most-eight v = sum-most _ 8 (λ s. omega arith)
 
 -- ---- by the node rule
 some : (top : ℕ) → LeafTop top → (0 < top) × (0 < onesBelow 3 top)
@@ -45,10 +45,10 @@ ones-sum zero m = refl
 ones-sum (suc k) m = ap (λ (x : ℕ). x + m / 2 ^ k % 2) (ones-sum k m)
 
 -- a node's children are its child nodes and its leaves
-pub children-are : (bytes : List ℕ) (n v : ℕ) → RuleAt bytes n v → childCount bytes v ≡ shapeAt bytes n .children v + leafChildren (shapeAt bytes n) v
-unfolding childCount leafChildren shapeAt
-children-are bytes n v r =
-    let p = nodeAt bytes v in
+pub children-are : (N : Nodes) (n v : ℕ) → RuleIn N n v → childCount (N .node v) ≡ shapeIn N n .children v + leafChildren (shapeIn N n) v
+unfolding childCount leafChildren shapeIn
+children-are N n v r =
+    let p = N .node v in
     let f : ℕ → ℕ = λ s. min 1 (leafCount (innerBit (p .imask) s) (metaAt p s)) in
     sum-cong (λ s. min 1 (metaAt p s)) (λ s. innerBit (p .imask) s + f s) 8 (λ s l. slot-child (metaAt p s) (innerBit (p .imask) s) s (p .«primitive_base_idx») n (r .slots s l))
     ∙ sum-add (λ s. innerBit (p .imask) s) f 8

@@ -9,11 +9,12 @@ use native.Mathlib.Omega.{arith}
 use lib.ListN.{getD}
 use Rattle.lists.specs.Counts.{count}
 use Rattle.lists.proofs.Perms.{counts-perm}
-use Rattle.soundness.specs.Shape.{Child, Holds}
+use Rattle.soundness.specs.Shape.{Shape, Child, Holds}
 use Rattle.soundness.specs.Sound.{OneParent, OneHolder}
 use Rattle.wide.specs.Layout.{wordsAt}
 use Rattle.wide.proofs.Index.{indices-rearranged}
-use Rattle.record_shape.specs.Record.{nodeCount, shapeAt, SoundRecord, DeepestLevel}
+use Rattle.node.specs.Node.{nodeAt}
+use Rattle.record_shape.specs.Record.{nodeCount, nodesAt, shapeIn, shapeAt, SoundRecord, DeepestLevel}
 use Rattle.record_shape.specs.Check.{sound, checkOf}
 use Rattle.record_shape.proofs.Tree.{node-parent, first-parent, position-holder, holds-below}
 use Rattle.bvh2_to_cwbvh.specs.Conversion.{refused, nodesOf}
@@ -53,6 +54,10 @@ converts-within-levels c h none = go (decLt 31 (deepestLevel c))
     go (no l) = converts c h (omega arith)
 
 module _ (c : Call) (m d : ℕ) (answers : Answers c m d) where
+  -- the shape of the record that the call left
+  abbrev shape : Shape
+  shape = shapeAt (recordAt c m) (leafCount c)
+
   -- A call that is answered was convertible, and its record and its index list are the defined ones.
   pub was-convertible : Convertible c
   was-convertible = A.answered (c .words) (c .indices) (c .limit) (c .ordered) (c .decisions) (c .costs) (c .bytes) (c .list) m d answers .none
@@ -67,12 +72,12 @@ module _ (c : Call) (m d : ℕ) (answers : Answers c m d) where
 
   -- ---- positions
   -- Output positions are the numbers below the count of leaves. The leaf ranges take each of them exactly once,
-  pub leaf-ranges-take-each-once : (x : ℕ) → x < leafCount c → OneHolder (shapeAt (recordAt c m) (leafCount c)) x
-  leaf-ranges-take-each-once = position-holder (recordAt c m) (leafCount c) (good-record .sound)
+  pub leaf-ranges-take-each-once : (x : ℕ) → x < leafCount c → OneHolder shape x
+  leaf-ranges-take-each-once = position-holder (nodesAt (recordAt c m)) (leafCount c) (good-record .sound)
 
   -- and no other.
-  pub leaf-ranges-take-no-other : (i s x : ℕ) → Holds (shapeAt (recordAt c m) (leafCount c)) i s x → x < leafCount c
-  leaf-ranges-take-no-other = holds-below (recordAt c m) (leafCount c) (good-record .sound)
+  pub leaf-ranges-take-no-other : (i s x : ℕ) → Holds shape i s x → x < leafCount c
+  leaf-ranges-take-no-other = holds-below (nodesAt (recordAt c m)) (leafCount c) (good-record .sound)
 
   -- ---- the index list
   -- The index list is the tree leaves' indices rearranged,
@@ -97,22 +102,22 @@ module _ (c : Call) (m d : ℕ) (answers : Answers c m d) where
 
   -- ---- parents and children
   -- Every node but the first has exactly one parent,
-  pub one-parent : (v : ℕ) → 0 < v → v < nodeCount (recordAt c m) → OneParent (shapeAt (recordAt c m) (leafCount c)) v
-  one-parent = node-parent (recordAt c m) (leafCount c) (good-record .sound)
+  pub one-parent : (v : ℕ) → 0 < v → v < nodeCount (recordAt c m) → OneParent shape v
+  one-parent = node-parent (nodesAt (recordAt c m)) (leafCount c) (good-record .sound)
 
   -- and the first has none.
-  pub first-has-no-parent : (p : ℕ) → Child (shapeAt (recordAt c m) (leafCount c)) p 0 → ⊥
-  first-has-no-parent = first-parent (recordAt c m) (leafCount c) (good-record .sound)
+  pub first-has-no-parent : (p : ℕ) → Child shape p 0 → ⊥
+  first-has-no-parent = first-parent (nodesAt (recordAt c m)) (leafCount c) (good-record .sound)
 
   -- No node has over eight children.
-  pub eight-children : (v : ℕ) → v < nodeCount (recordAt c m) → childCount (recordAt c m) v ≤ 8
-  eight-children v l = at-most-eight (recordAt c m) v
+  pub eight-children : (v : ℕ) → v < nodeCount (recordAt c m) → childCount (nodeAt (recordAt c m) v) ≤ 8
+  eight-children v l = at-most-eight (nodeAt (recordAt c m) v)
 
   -- Its children are the nodes of its child range and the slots with a leaf range.
   pub children-nodes-and-leaves : (v : ℕ) → v < nodeCount (recordAt c m)
-      → childCount (recordAt c m) v ≡ shapeAt (recordAt c m) (leafCount c) .children v + leafChildren (shapeAt (recordAt c m) (leafCount c)) v
-  unfolding shapeAt
-  children-nodes-and-leaves v l = children-are (recordAt c m) (leafCount c) v (good-record .sound .rule v l)
+      → childCount (nodeAt (recordAt c m) v) ≡ shape .children v + leafChildren shape v
+  unfolding shapeIn
+  children-nodes-and-leaves v l = children-are (nodesAt (recordAt c m)) (leafCount c) v (good-record .sound .rule v l)
 
   -- ---- soundness
   -- The record is sound with conversion's deepest level,

@@ -7,14 +7,14 @@ use Prim.Native.Nat.{ℕ, _%_}
 use native.Mathlib.Omega.{arith}
 use lib.Dec.{eqb}
 use lib.ListN.{length}
-use Rattle.record_shape.specs.Record.{nodeCount}
+use Rattle.record_shape.specs.Record.{nodeCount, nodesAt}
 use Rattle.walk.specs.Step.{Answer, done, refused, sizesFit}
 use Rattle.walk.specs.Calls.{All}
 use Rattle.walk.specs.WordStep.{WalkerWords, SteppedWords, stayWords, forgedWords}
 use Rattle.walk.proofs.WordKept.{Finished, Leaves, tell-finished}
 use Rattle.walk_record.specs.Beam.{Beam, beams}
 use Rattle.walk_record.specs.Record.{nodeWordsAt}
-use Rattle.walk_record.specs.Walk.{stepAt}
+use Rattle.walk_record.specs.Walk.{stepIn}
 use Rattle.walk_record.proofs.Steps.{step-leaves, step-finished}
 use Rattle.traverse.specs.Walker.{stepBytes, toldWalker}
 use Rattle.traverse.specs.Calls.{RecordOp, stepOn, tells, runEach}
@@ -28,7 +28,7 @@ record Rests (r : SteppedWords Beam) : Type 0 where
 module _ (bytes : List ℕ) (n : ℕ) (w : WalkerWords Beam) where
   -- a step, by the test of the record's length
   abbrev by : Bool → SteppedWords Beam
-  by a = elim a [ false ↦ stayWords w (refused 1) | true ↦ stepAt bytes beams n w ]
+  by a = elim a [ false ↦ stayWords w (refused 1) | true ↦ stepIn (nodesAt bytes) beams n w ]
 
   step-rests : Finished w → Rests (stepBytes bytes n w)
   unfolding stepBytes
@@ -41,7 +41,9 @@ module _ (bytes : List ℕ) (n : ℕ) (w : WalkerWords Beam) where
 
       go : (a : Bool) → Rests (by a)
       go false = record { finished = f; quiet = tt }
-      go true = rw (step-finished bytes beams n w f) (two (sizesFit (nodeCount bytes) n) (forgedWords (nodeCount bytes) (nodeWordsAt bytes beams) w))
+      go true =
+          rw (step-finished (nodesAt bytes) beams n w f)
+          (two (sizesFit (nodeCount bytes) n) (forgedWords (nodeCount bytes) (nodeWordsAt bytes beams) w))
 
   -- a step that says done leaves nothing to do
   done-finished : stepBytes bytes n w .answer ≡ done → Finished (stepBytes bytes n w .walker)
@@ -51,7 +53,8 @@ module _ (bytes : List ℕ) (n : ℕ) (w : WalkerWords Beam) where
       go : (a : Bool) → by a .answer ≡ done → Finished (by a .walker)
       go false e = absurd (let z : _≡_ {A = ℕ} 0 1 = cc in omega arith)
       go true e =
-          subst (λ (x : Answer). Leaves (nodeCount bytes) (nodeWordsAt bytes beams) n w x (by true .walker)) e (step-leaves bytes beams n w) .0
+          subst (λ (x : Answer). Leaves (nodeCount bytes) (nodeWordsAt bytes beams) n w x (by true .walker)) e
+          (step-leaves (nodesAt bytes) beams n w) .0
 
 rest-done : (l : List RecordOp) (w : WalkerWords Beam) → Finished w → All DoneOrRefused (runEach l w .answers)
 unfolding runEach

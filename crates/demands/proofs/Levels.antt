@@ -4,7 +4,7 @@ use mathlib.Core.Path.{subst}
 use Prim.Native.Nat.{ℕ, _<_}
 use native.Mathlib.Omega.{arith}
 use Rattle.soundness.specs.Sound.{OneLevel}
-use Rattle.record_shape.specs.Record.{nodeCount, shapeAt, DeepestLevel}
+use Rattle.record_shape.specs.Record.{nodeCount, shapeIn, shapeAt, DeepestLevel}
 use Rattle.demands.specs.Call.{Call, leafCount, definedRecord, definedList, deepestLevel, Convertible}
 use Rattle.demands.specs.Refusals.{LevelOver}
 use Rattle.demands.proofs.Answered.{defined, leaf-count}
@@ -26,7 +26,7 @@ module _ (c : Call) (h : Convertible c) where
 
   -- so one of them is over 31 exactly if that is
   pub over-deepest : LevelOver c ↔ (31 < deepestLevel c)
-  unfolding shapeAt
+  unfolding shapeIn
   over-deepest = (to, from)
     where
       to : LevelOver c → 31 < deepestLevel c

@@ -8,6 +8,7 @@ pub mod Children
 pub mod Limit
 pub mod Demands
 pub mod Refusals
+pub mod Rays
 pub mod Listed
 pub mod SoundWalks
 pub mod Walks

@@ -1,27 +1,21 @@
 -- Closest and miss over the record and the index list that a converted call left, for every accepted ray and panes without a fault that the tree's
 -- index words name.
-use mathlib.Core.Bool.{true}
 use mathlib.Core.List.{List, Perm}
-use mathlib.Core.Path.{_≡_, sym, subst}
+use mathlib.Core.Path.{sym, subst}
 use Prim.Native.Nat.{ℕ, _/_, _<_}
 use lib.Ieee.{Float}
 use lib.ListN.{length}
 use Rattle.lists.proofs.Perms.{perm-length}
 use Rattle.ray.specs.declared.Ray.{Ray}
-use Rattle.ray.specs.declared.Vec3.{Vec3}
-use Rattle.ray.specs.Ray.{rayOf, acceptedRay}
 use Rattle.demands.specs.Call.{Call, Answers, recordAt, listAt}
-use Rattle.demands.specs.Walks.{Good}
+use Rattle.demands.specs.Walks.{Good, AcceptedRay}
 use Rattle.demands.specs.Panes.{Panes, ClosestAnswers, MissAnswers}
 use Rattle.demands.proofs.Words.{words-rearranged}
 use Rattle.demands.proofs.Demands.{good-record, index-list-rearranges-words}
 use Rattle.demands.proofs.SoundPanes as S
 
-module _ (c : Call) (m d : ℕ) (answers : Answers c m d) (panes : List Float) (fine : Panes (c .indices) panes) (origin direction : Vec3)
-    (tmin tmax : Float) (accepted : acceptedRay (rayOf origin direction tmin tmax) ≡ true) where
-  abbrev ray : Ray
-  ray = rayOf origin direction tmin tmax
-
+module _ (c : Call) (m d : ℕ) (answers : Answers c m d) (panes : List Float) (fine : Panes (c .indices) panes) (ray : Ray)
+    (accepted : AcceptedRay ray) where
   rearranged : Perm (listAt c) (c .indices)
   rearranged = index-list-rearranges-words c m d answers
 
@@ -39,8 +33,8 @@ module _ (c : Call) (m d : ℕ) (answers : Answers c m d) (panes : List Float) (
   -- Closest is not refused. It hits the nearest of the positions reported that is below the reach, the first met of equal ones; without one it has
   -- no hit.
   pub closest-answers : ClosestAnswers (recordAt c m) (listAt c) panes ray
-  closest-answers = S.closest-answers (recordAt c m) (listAt c) panes d list-good list-panes origin direction tmin tmax accepted
+  closest-answers = S.closest-answers list-good list-panes accepted
 
   -- Miss is not refused. It is blocked by the first position reported that is below the reach, and so exactly if closest has a hit.
   pub miss-answers : MissAnswers (recordAt c m) (listAt c) panes ray
-  miss-answers = S.miss-answers (recordAt c m) (listAt c) panes d list-good list-panes origin direction tmin tmax accepted
+  miss-answers = S.miss-answers list-good list-panes accepted

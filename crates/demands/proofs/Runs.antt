@@ -1,44 +1,37 @@
 -- Each query is the run of steps and tellings that it makes, from the walker that `Walker::new` promises, on any record of whole nodes: its walker is
 -- what the run leaves, its tests are the nodes that the run tests, and what it has noted are its reactions to the positions that the run reports.
-use mathlib.Core.Bool.{Bool, true}
+use mathlib.Core.Bool.{Bool}
 use mathlib.Core.List.{List, []}
 use mathlib.Core.Path.{_≡_, sym, ap, subst, _∙_}
 use Prim.Native.Nat.{ℕ, _%_, _<_}
 use native.Mathlib.Nat.{zero-add}
 use lib.ListN.{length, getD}
 use lib.Ieee.{Float}
-use Rattle.ray.specs.declared.Vec3.{Vec3}
 use Rattle.ray.specs.declared.Ray.{Ray}
-use Rattle.ray.specs.Ray.{rayOf, acceptedRay}
-use Rattle.record_shape.specs.Record.{nodeCount, shapeAt}
+use Rattle.record_shape.specs.Record.{nodeCount, nodesAt}
 use Rattle.walk.specs.Tests.{Tests}
 use Rattle.walk.specs.Step.{Walker, Answer, fresh}
 use Rattle.walk.specs.Calls.{All, Run, runOps, reported}
 use Rattle.walk.specs.Queries.{Reaction, Outcome, query, stepsFor, append, Pane, none, closest, miss}
 use Rattle.walk.specs.Reports.{testedNodes, Notes, upTo}
-use Rattle.walk.specs.Slots.{positionsOf, childrenOf, testsOf}
-use Rattle.walk.specs.WordStep.{NodeWords, Decodes, decoded}
+use Rattle.walk.specs.Slots.{testsOf}
+use Rattle.walk.specs.WordStep.{NodeWords, decoded, decodedRun}
 use Rattle.walk.specs.WordQueries.{decodedOutcome}
 use Rattle.walk.proofs.Ends.{query-run, any-hit-run}
 use Rattle.walk.proofs.Reports.{run-tests, query-notes, reports-exist, miss-reports}
-use Rattle.walk.proofs.WordRuns.{decodedRun, calls-decoded}
-use Rattle.walk.proofs.WordQueries.{fresh-query}
-use Rattle.walk.proofs.Masks.{masks-decode}
 use Rattle.walk_record.specs.Beam.{Beam, beamOf, beams}
-use Rattle.walk_record.specs.Record.{slotsAt, maskAt, nodeWordsAt}
+use Rattle.walk_record.specs.Record.{slotsAt, nodeWordsAt}
 use Rattle.walk_record.specs.Walk.{runAt, queryAt, anyHitAt}
-use Rattle.walk_record.proofs.Laws.{mask-laws, bytes-fit}
-use Rattle.walk_record.proofs.Beam.{beam-laws, begun-accepted}
-use Rattle.traverse.specs.Walker.{started}
-use Rattle.traverse.specs.Calls.{runBytes}
+use Rattle.walk_record.proofs.Laws.{bytes-fit}
+use Rattle.walk_record.proofs.Beam.{beam-laws}
+use Rattle.walk_record.proofs.Demands.{run-on-lists, query-on-lists}
 use Rattle.traverse.proofs.Calls.{run-started}
+use Rattle.demands.specs.Walks.{AcceptedRay, run}
 use Rattle.demands.specs.Runs.{callsMade, answersMade}
+use Rattle.demands.proofs.Rays.{not-forged}
 
-module _ (bytes : List ℕ) (whole : length bytes % 80 ≡ 0) (are-bytes : (i : ℕ) → getD bytes i 0 < 256) (n : ℕ) (origin direction : Vec3)
-    (tmin tmax : Float) (accepted : acceptedRay (rayOf origin direction tmin tmax) ≡ true) where
-  abbrev ray : Ray
-  ray = rayOf origin direction tmin tmax
-
+module _ (bytes : List ℕ) (whole : length bytes % 80 ≡ 0) (are-bytes : (i : ℕ) → getD bytes i 0 < 256) (n : ℕ) {ray : Ray}
+    (accepted : AcceptedRay ray) where
   abbrev beam : Beam
   beam = beamOf ray
 
@@ -49,36 +42,25 @@ module _ (bytes : List ℕ) (whole : length bytes % 80 ≡ 0) (are-bytes : (i : 
   abbrev m : ℕ
   m = nodeCount bytes
 
-  abbrev passed : Beam → ℕ → List ℕ
-  passed = positionsOf (slotsAt bytes beams n)
-
-  abbrev below : Beam → ℕ → List ℕ
-  below = childrenOf (slotsAt bytes beams n)
-
   abbrev T : Tests Beam Float
   T = testsOf (slotsAt bytes beams n)
 
-  decodes : Decodes m N passed below
-  unfolding shapeAt
-  decodes = masks-decode (slotsAt bytes beams n) (maskAt bytes beams) (mask-laws bytes beams beam-laws n (bytes-fit bytes are-bytes))
-
   module _ {a : Type 0} (react : ℕ → Beam → a → Reaction Float a) (x : a) where
-    run-is : decodedRun m N passed below decodes (runBytes bytes (callsMade bytes n ray react x) (started ray .walker))
-        ≡ runOps m T (callsMade bytes n ray react x) (fresh beam)
+    run-is : decodedRun N (run bytes ray (callsMade bytes n ray react x)) ≡ runOps m T (callsMade bytes n ray react x) (fresh beam)
     unfolding runAt
     run-is =
-        ap (decodedRun m N passed below decodes) (run-started bytes whole ray accepted (callsMade bytes n ray react x))
-        ∙ calls-decoded m N passed below decodes (callsMade bytes n ray react x) beam (begun-accepted origin direction tmin tmax accepted)
+        ap (decodedRun N) (run-started bytes whole ray (accepted .accepted) (callsMade bytes n ray react x))
+        ∙ run-on-lists (nodesAt bytes) beams beam-laws (bytes-fit bytes are-bytes) n beam (not-forged accepted) (callsMade bytes n ray react x)
 
     answers-are : answersMade bytes n ray react x ≡ runOps m T (callsMade bytes n ray react x) (fresh beam) .answers
     answers-are = ap (λ (r : Run Beam). r .answers) run-is
 
     outcome-is : decodedOutcome N (queryAt bytes beams react x n beam) ≡ query m T react (stepsFor m) n (fresh beam) x
     unfolding queryAt
-    outcome-is = fresh-query m N passed below decodes react (stepsFor m) n beam x (begun-accepted origin direction tmin tmax accepted)
+    outcome-is = query-on-lists (nodesAt bytes) beams beam-laws (bytes-fit bytes are-bytes) n beam (not-forged accepted) react x
 
     -- After the run the walker stands for what the query's walker stands for: its ray with the reach, its tests, and what is in hand and waits.
-    pub query-is-run : decoded N (runBytes bytes (callsMade bytes n ray react x) (started ray .walker) .walker)
+    pub query-is-run : decoded N (run bytes ray (callsMade bytes n ray react x) .walker)
         ≡ decoded N (queryAt bytes beams react x n beam .walker)
     query-is-run =
         ap (λ (r : Run Beam). r .walker) run-is

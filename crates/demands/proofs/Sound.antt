@@ -13,7 +13,7 @@ use Rattle.wide.specs.Layout.{nodes, indexCount, level}
 use Rattle.wide.proofs.Sizes.{positions-length}
 use Rattle.wide.proofs.Shape.{reads-sound, reads-one-level, reads-deepest}
 use Rattle.record.specs.Record.{recordBytes}
-use Rattle.record_shape.specs.Record.{nodeCount, shapeAt, RuleAt, SoundRecord, DeepestLevel}
+use Rattle.record_shape.specs.Record.{nodeCount, shapeIn, shapeAt, RuleAt, SoundRecord, DeepestLevel}
 use Rattle.record_shape.specs.Check.{sound, checkOf}
 use Rattle.record_shape.proofs.Check.{none, cause-one, check-sound}
 use Rattle.record_laws.specs.Writable.{Writable}
@@ -26,7 +26,7 @@ use Rattle.demands.specs.Walks.{Good}
 use Rattle.demands.proofs.Writes.{Writes, nothing, written}
 
 good-none : Good [] 0 0
-unfolding shapeAt
+unfolding shapeIn
 good-none =
     let s : SoundRecord [] 0 × DeepestLevel [] 0 0 = empty-sound (shapeAt [] 0) (RuleAt [] 0) refl refl in
     record { sound = s .0; deepest = s .1; layout = refl; nodes = omega arith; positions = omega arith; are-bytes = λ i. omega arith }
@@ -43,7 +43,7 @@ levels-none : Levels [] 0 0
 levels-none = record { deepest = good-none .deepest; one = λ v l. absurd (omega arith) }
 
 levels-wide : (t : Wide) → Writable t → Levels (recordBytes t) (indexCount t) (level t)
-unfolding shapeAt
+unfolding shapeIn
 levels-wide t h =
     let S = shapeAt (recordBytes t) (indexCount t) in
     record { deepest = reads-deepest S t (record-reads t h); one = reads-one-level S t (record-reads t h) }
@@ -53,7 +53,7 @@ levels leaves indices bytes list d (nothing l b x e) = rw (e, b, l) levels-none
 levels leaves indices bytes list d (written t h p b x e) = rw (e, b, ← held-count t leaves p) (levels-wide t h)
 
 good-wide : (t : Wide) → Writable t → level t ≤ 31 → Good (recordBytes t) (indexCount t) (level t)
-unfolding shapeAt
+unfolding shapeIn
 good-wide t h low =
     let S = shapeAt (recordBytes t) (indexCount t) in
     let r = record-reads t h in record {

@@ -1,6 +1,5 @@
 -- Closest and miss over every sound record, for every accepted ray and panes without a fault: neither is refused; a hit is the nearest of the
 -- positions reported, the first met of equal ones; and miss is blocked exactly if closest has a hit.
-use mathlib.Core.Bool.{true}
 use mathlib.Core.List.{List, List·Nodup}
 use mathlib.Core.Logic.{_⊎_, inl, inr, _↔_}
 use mathlib.Core.Path.{_≡_, refl, sym, ap, subst, _∙_}
@@ -11,8 +10,6 @@ use lib.Ieee.{Float, lt}
 use lib.ListN.{length, getD}
 use borrow.Author.Tests.{eq-eqb}
 use Rattle.ray.specs.declared.Ray.{Ray}
-use Rattle.ray.specs.declared.Vec3.{Vec3}
-use Rattle.ray.specs.Ray.{rayOf, acceptedRay}
 use Rattle.record_shape.specs.Record.{nodeCount}
 use Rattle.walk.specs.Tests.{Tests}
 use Rattle.walk.specs.Step as S
@@ -32,11 +29,12 @@ use Rattle.query.proofs.Entry.{entry-none}
 use Rattle.closest.specs.Panes.{paneMet, paneOf, nearer, Result, walked, entered, paneCause}
 use Rattle.closest.specs.Panes.{ClosestAnswer, hitAt, noHit, refusedClosest, closestFound, closestWalk, closestOf}
 use Rattle.closest.specs.Panes.{MissAnswer, missed, blocked, refusedMiss, missFound, missWalk, missOf}
-use Rattle.closest.proofs.Distances.{Number, distances-ordered, distance-number, met-there, panes-reached}
+use Rattle.closest.proofs.Distances.{Number, distances-ordered, met-there, panes-reached}
 use Rattle.demands.specs.Runs.{callsMade, answersMade}
-use Rattle.demands.specs.Walks.{Good}
+use Rattle.demands.specs.Walks.{Good, AcceptedRay}
 use Rattle.demands.specs.Panes.{Panes, distanceOf, closestSteps, missSteps, closestReports, missReports, ClosestAnswers, MissAnswers}
-use Rattle.demands.proofs.SoundWalks.{no-position-twice, only-passed, query-not-refused}
+use Rattle.demands.proofs.Rays.{distance-known}
+use Rattle.demands.proofs.SoundWalks.{sound-walks, query-not-refused}
 use Rattle.demands.proofs.Runs.{query-tests, reported-exist, query-noted, miss-closest}
 
 -- ---- answers
@@ -69,13 +67,10 @@ other : {A B : Type 0} → (A → ⊥) → A ⊎ B → B
 other n (inl a) = absurd (n a)
 other n (inr b) = b
 
-module _ (bytes indices : List ℕ) (panes : List Float) (d : ℕ) (good : Good bytes (length indices) d) (fine : Panes indices panes)
-    (origin direction : Vec3) (tmin tmax : Float) (accepted : acceptedRay (rayOf origin direction tmin tmax) ≡ true) where
+module _ {bytes indices : List ℕ} {panes : List Float} {d : ℕ} {ray : Ray} (good : Good bytes (length indices) d) (fine : Panes indices panes)
+    (accepted : AcceptedRay ray) where
   abbrev n : ℕ
   n = length indices
-
-  abbrev ray : Ray
-  ray = rayOf origin direction tmin tmax
 
   abbrev entersAt : ℕ → Float
   entersAt = distanceOf indices panes ray
@@ -99,10 +94,10 @@ module _ (bytes indices : List ℕ) (panes : List Float) (d : ℕ) (good : Good 
   no-cause : 0 ≡ paneCause bytes indices panes ray
   no-cause =
       entry-none (eqb (length panes % 6) 0) (length bytes) n ray (eq-eqb (length panes % 6) 0 (fine .whole)) (good .layout)
-      (good .positions) (good .nodes) accepted
+      (good .positions) (good .nodes) (accepted .accepted)
 
   not-refused : (react : React) → Ended (queryAt bytes beams react none n (beamOf ray) .ended)
-  not-refused react = query-not-refused bytes n d good origin direction tmin tmax accepted react none
+  not-refused react = query-not-refused good accepted react none
 
   -- each position reported has a pane at its distance
   seen : (p : ℕ) → p < n → Seen (paneOf indices panes) Number entersAt (beamOf ray) p
@@ -112,13 +107,13 @@ module _ (bytes indices : List ℕ) (panes : List Float) (d : ℕ) (good : Good 
       let box = fine .accepted (getD indices p 0) there in
       record {
         pane-is = met-there indices panes (getD indices p 0) ray there box;
-        number = distance-number _ origin direction tmin tmax box accepted;
+        number = distance-known accepted _ box;
       }
 
   all-seen : (react : React) → All (Seen (paneOf indices panes) Number entersAt (beamOf ray)) (reported (answersMade bytes n ray react none))
   all-seen react =
       all-map seen (reported (answersMade bytes n ray react none))
-      (reported-exist bytes (good .layout) (good .are-bytes) n origin direction tmin tmax accepted react none)
+      (reported-exist bytes (good .layout) (good .are-bytes) n accepted react none)
 
   -- ---- closest
 
@@ -134,14 +129,14 @@ module _ (bytes indices : List ℕ) (panes : List Float) (d : ℕ) (good : Good 
   closest-picked =
       closest-picks (nodeCount bytes) T (paneOf indices panes) nearer lt (λ b. b .ray .tmax) (panes-reached indices panes) Number distances-ordered
       entersAt (closestReports bytes indices panes ray) (beamOf ray) none _ (all-seen near)
-      (query-noted bytes (good .layout) (good .are-bytes) n origin direction tmin tmax accepted near none)
+      (query-noted bytes (good .layout) (good .are-bytes) n accepted near none)
 
   closest-tests : closestWalk bytes indices panes ray .walker .tests ≡ length (testedNodes (closestSteps bytes indices panes ray))
   unfolding closestWalk
-  closest-tests = query-tests bytes (good .layout) (good .are-bytes) n origin direction tmin tmax accepted near none
+  closest-tests = query-tests bytes (good .layout) (good .are-bytes) n accepted near none
 
   once : List·Nodup (closestReports bytes indices panes ray)
-  once = no-position-twice bytes n d good origin direction tmin tmax accepted (callsMade bytes n ray near none)
+  once = sound-walks good accepted .no-position-twice (callsMade bytes n ray near none)
 
   met : All (λ p. paneMet panes (getD indices p 0) ray ≡ distance (entersAt p)) (closestReports bytes indices panes ray)
   unfolding paneOf
@@ -163,7 +158,7 @@ module _ (bytes indices : List ℕ) (panes : List Float) (d : ℕ) (good : Good 
             hit = λ p u. (λ q. hits-apart p u (sym a ∙ q), λ q. absurd (nearest-below lt entersAt (ray .tmax) _ p (q .1) h));
             no-hit = (λ _. h, λ _. a);
             once = once;
-            passed = only-passed bytes n d good origin direction tmin tmax accepted (callsMade bytes n ray near none);
+            passed = sound-walks good accepted .only-passed (callsMade bytes n ray near none);
             met = met;
             tests = ap (λ (r : Result ClosestAnswer). r .tests) c ∙ t;
           }
@@ -177,7 +172,7 @@ module _ (bytes indices : List ℕ) (panes : List Float) (d : ℕ) (good : Good 
             );
             no-hit = (λ r. hits-apart p (entersAt p) (sym r ∙ a), λ h. absurd (nearest-below lt entersAt (ray .tmax) _ p N h));
             once = once;
-            passed = only-passed bytes n d good origin direction tmin tmax accepted (callsMade bytes n ray near none);
+            passed = sound-walks good accepted .only-passed (callsMade bytes n ray near none);
             met = met;
             tests = ap (λ (r : Result ClosestAnswer). r .tests) c ∙ t;
           }
@@ -195,15 +190,15 @@ module _ (bytes indices : List ℕ) (panes : List Float) (d : ℕ) (good : Good 
   miss-stopped =
       miss-stops (nodeCount bytes) T (paneOf indices panes) nearer lt (λ b. b .ray .tmax) (panes-reached indices panes) Number distances-ordered
       entersAt (missReports bytes indices panes ray) (beamOf ray) none _ (all-seen block)
-      (query-noted bytes (good .layout) (good .are-bytes) n origin direction tmin tmax accepted block none)
+      (query-noted bytes (good .layout) (good .are-bytes) n accepted block none)
 
   miss-tests : missWalk bytes indices panes ray .walker .tests ≡ length (testedNodes (missSteps bytes indices panes ray))
   unfolding missWalk
-  miss-tests = query-tests bytes (good .layout) (good .are-bytes) n origin direction tmin tmax accepted block none
+  miss-tests = query-tests bytes (good .layout) (good .are-bytes) n accepted block none
 
   as-closest : missReports bytes indices panes ray ≡ upTo (λ p. lt (entersAt p) (ray .tmax)) (closestReports bytes indices panes ray)
   as-closest =
-      miss-closest bytes (good .layout) (good .are-bytes) n origin direction tmin tmax accepted (paneOf indices panes) nearer
+      miss-closest bytes (good .layout) (good .are-bytes) n accepted (paneOf indices panes) nearer
       ∙ stops-below (nodeCount bytes) T (paneOf indices panes) nearer lt (λ b. b .ray .tmax) (panes-reached indices panes) Number distances-ordered
       entersAt (closestReports bytes indices panes ray) (beamOf ray) (all-seen near)
 

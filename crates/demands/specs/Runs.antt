@@ -5,19 +5,17 @@ use lib.Ieee.{Float}
 use Rattle.ray.specs.declared.Ray.{Ray}
 use Rattle.record_shape.specs.Record.{nodeCount}
 use Rattle.walk.specs.Step.{Answer, fresh}
-use Rattle.walk.specs.Calls.{Op}
 use Rattle.walk.specs.Queries.{Reaction, calls, stepsFor}
 use Rattle.walk.specs.Slots.{testsOf}
 use Rattle.walk_record.specs.Beam.{Beam, beamOf, beams}
 use Rattle.walk_record.specs.Record.{slotsAt}
-use Rattle.traverse.specs.Walker.{started}
-use Rattle.traverse.specs.Calls.{runBytes}
+use Rattle.demands.specs.Walks.{Calls, answers}
 
 module _ (bytes : List ℕ) (n : ℕ) (ray : Ray) {a : Type 0} (react : ℕ → Beam → a → Reaction Float a) (x : a) where
   -- the steps and tellings that a query makes on a record taken to have n positions, with x noted before
-  abbrev pub callsMade : List (Op Float)
+  abbrev pub callsMade : Calls
   callsMade = calls (nodeCount bytes) (testsOf (slotsAt bytes beams n)) react (stepsFor (nodeCount bytes)) n (fresh (beamOf ray)) x
 
-  -- the answers of those steps, from the walker that `Walker::new` promises
+  -- the answers of those steps
   abbrev pub answersMade : List Answer
-  answersMade = runBytes bytes callsMade (started ray .walker) .answers
+  answersMade = answers bytes ray callsMade

@@ -12,22 +12,20 @@ use Rattle.words.specs.Ones.{onesBelow}
 use Rattle.faststack.specs.Stack.{capacity}
 use Rattle.ray.specs.declared.Ray.{Ray}
 use Rattle.ray.specs.Ray.{octantOf}
-use Rattle.record_shape.specs.Record.{nodeCount, shapeAt}
+use Rattle.record_shape.specs.Record.{nodeCount, nodesAt}
 use Rattle.walk.specs.Tests.{Tests}
 use Rattle.walk.specs.Step.{fresh, done, emptied, stepOf}
 use Rattle.walk.specs.Queries.{Reaction, Outcome, query, stepsFor}
-use Rattle.walk.specs.Slots.{positionsOf, childrenOf, testsOf}
-use Rattle.walk.specs.WordStep.{WalkerWords, Decodes}
+use Rattle.walk.specs.Slots.{testsOf}
+use Rattle.walk.specs.WordStep.{WalkerWords}
 use Rattle.walk.specs.WordQueries.{OutcomeWords}
-use Rattle.walk.proofs.Masks.{masks-decode}
 use Rattle.walk.proofs.WordRuns.{fresh-range}
 use Rattle.walk.proofs.WordQueries.{fresh-query}
 use Rattle.walk_record.specs.Beam.{Beam, beamOf, forgedBeam, beams}
-use Rattle.walk_record.specs.Record.{FieldsFit, slotsAt, maskAt, nodeWordsAt}
+use Rattle.walk_record.specs.Record.{FieldsFit, slotsAt, nodeWordsAt}
 use Rattle.walk_record.specs.Walk.{stepAt, queryAt}
 use Rattle.walk_record.proofs.Beam.{beam-laws}
-use Rattle.walk_record.proofs.Laws.{mask-laws}
-use Rattle.walk_record.proofs.Steps.{step-range, step-falls}
+use Rattle.walk_record.proofs.Steps.{decodes, step-range, step-falls}
 use Rattle.advance.specs.declared.Walk.{Walk}
 use Rattle.advance.specs.Turn.{walkerOf, begun, Walkable}
 use Rattle.slot.specs.declared.Ends.{Ends}
@@ -56,8 +54,8 @@ steady bytes n sized fit = record {
   some = sized .some;
   nodes = sized .nodes;
   positions = sized .positions;
-  range = step-range bytes beams beam-laws fit n;
-  falls = step-falls bytes beams beam-laws fit n;
+  range = step-range (nodesAt bytes) beams beam-laws fit n;
+  falls = step-falls (nodesAt bytes) beams beam-laws fit n;
   told = beam-laws .told-accepted;
 }
 
@@ -75,10 +73,6 @@ walkable bytes n sized w o e q = record {
 }
 
 module _ {a : Type 0} (bytes : List ℕ) (n : ℕ) (fit : FieldsFit bytes) (react : ℕ → Beam → a → Reaction Float a) (x : a) (ray : Ray) (accepted : forgedBeam (beamOf ray) ≡ false) where
-  decodes : Decodes (nodeCount bytes) (nodeWordsAt bytes beams) (positionsOf (slotsAt bytes beams n)) (childrenOf (slotsAt bytes beams n))
-  unfolding shapeAt
-  decodes = masks-decode (slotsAt bytes beams n) (maskAt bytes beams) (mask-laws bytes beams beam-laws n fit)
-
   -- the walk that a loop begins with leads to the query's outcome
   pub leads-begun : (octant : ℕ) → octant ≡ octantOf (ray .direction) → (v : Walk) → v ≡ begun
       → Leads (nodeCount bytes) (nodeWordsAt bytes beams) n react (queryAt bytes beams react x n (beamOf ray)) (walkerOf ray octant v (replicate capacity 0)) x
@@ -90,7 +84,7 @@ module _ {a : Type 0} (bytes : List ℕ) (n : ℕ) (fit : FieldsFit bytes) (reac
           accepted = accepted;
           tests = omega arith;
           deep = omega arith;
-          range = fresh-range (nodeCount bytes) (nodeWordsAt bytes beams) (positionsOf (slotsAt bytes beams n)) (childrenOf (slotsAt bytes beams n)) decodes (beamOf ray);
+          range = fresh-range (nodeCount bytes) (nodeWordsAt bytes beams) _ _ (decodes (nodesAt bytes) beams beam-laws fit n) (beamOf ray);
         };
         steps = stepsFor (nodeCount bytes);
         enough = omega (arith, no-ones);
@@ -107,6 +101,7 @@ module _ {a : Type 0} (bytes : List ℕ) (n : ℕ) (fit : FieldsFit bytes) (reac
   unfolding queryAt
   query-empty z h =
       let e =
-      fresh-query (nodeCount bytes) (nodeWordsAt bytes beams) (positionsOf (slotsAt bytes beams n)) (childrenOf (slotsAt bytes beams n)) decodes react (stepsFor (nodeCount bytes)) n (beamOf ray) x accepted
+      fresh-query (nodeCount bytes) (nodeWordsAt bytes beams) _ _ (decodes (nodesAt bytes) beams beam-laws fit n) react (stepsFor (nodeCount bytes)) n
+      (beamOf ray) x accepted
       ∙ empty-lists (nodeCount bytes) z (testsOf (slotsAt bytes beams n)) react (25 * nodeCount bytes) n (beamOf ray) x h accepted in
       record { noted = ap (λ (o : Outcome Beam a). o .noted) e; tests = ap (λ (o : Outcome Beam a). o .walker .tests) e; ended = ap (λ (o : Outcome Beam a). o .ended) e }

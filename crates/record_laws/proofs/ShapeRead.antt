@@ -12,7 +12,7 @@ use Rattle.wide.specs.Shape.{ReadsNode, Reads}
 use Rattle.wide.proofs.Shape.{reads-by-number}
 use Rattle.wide.proofs.Each.{node-number}
 use Rattle.record.specs.Record.{nodeOf, recordBytes}
-use Rattle.record_shape.specs.Record.{metaAt, leafCount, shapeAt}
+use Rattle.record_shape.specs.Record.{metaAt, leafCount, shapeIn, shapeAt}
 use Rattle.record_laws.specs.Writable.{Writable}
 use Rattle.record_laws.proofs.ReadBack.{record-count, record-node}
 use Rattle.record_laws.proofs.Codes.{mask-ones}
@@ -25,7 +25,7 @@ module _ (t : Wide) (h : Writable t) where
   node-read v l = ap (λ b. nodeAt b v) (sym (append-nil (recordBytes t))) ∙ record-node t [] v l (in-range t h v l)
 
   reads-node : (v : ℕ) → v < nodes t → ReadsNode (shapeAt (recordBytes t) (indexCount t)) (shape.nodeAt t v)
-  unfolding shapeAt nodeOf
+  unfolding shapeIn nodeOf
   reads-node v l =
       let e = shape.nodeAt t v in
       let k : nodeAt (recordBytes t) (e .number) ≡ nodeOf e = ap (nodeAt (recordBytes t)) (node-number t v l) ∙ node-read v l in
@@ -39,5 +39,5 @@ module _ (t : Wide) (h : Writable t) where
       }
 
   pub record-reads : Reads (shapeAt (recordBytes t) (indexCount t)) t
-  unfolding shapeAt
+  unfolding shapeIn
   record-reads = reads-by-number (shapeAt (recordBytes t) (indexCount t)) t (record-count t) refl reads-node

@@ -9,8 +9,8 @@ use lib.Dec.{eqb, leb}
 use lib.ListN.{length, replicate, drop}
 use Rattle.lists.proofs.Tells.{Tells, passes, fails, eqb-tells, leb-tells}
 use Rattle.soundness.proofs.Once.{empty-sound, empty-unsound}
-use Rattle.record_shape.specs.Record.{nodeCount, shapeAt, RuleAt, SoundRecord, DeepestLevel}
-use Rattle.record_shape.specs.Test.{soundBytes, deepestBytes}
+use Rattle.record_shape.specs.Record.{nodeCount, nodesAt, shapeIn, shapeAt, RuleAt, SoundRecord, DeepestLevel}
+use Rattle.record_shape.specs.Test.{soundNodes, deepestNodes}
 use Rattle.record_shape.specs.Check.{Answer, sound, unsound, refused, causeOf, soundnessOf, checkOf, wordsAfter}
 use Rattle.record_shape.proofs.Record.{record-tells, record-deepest, deepest-one}
 
@@ -93,17 +93,17 @@ module _ (long n words : ℕ) where
 
 pub answers-sound : (bytes : List ℕ) (n : ℕ) → SoundRecord bytes n → (d : ℕ) → DeepestLevel bytes n d → soundnessOf bytes n ≡ sound d
 unfolding soundnessOf
-answers-sound bytes n s d e = go (soundBytes bytes n) (record-tells bytes n)
+answers-sound bytes n s d e = go (soundNodes (nodesAt bytes) n) (record-tells (nodesAt bytes) n)
   where
-    go : (b : Bool) → Tells (SoundRecord bytes n) b → elim b [ true ↦ sound (deepestBytes bytes n) | false ↦ unsound ] ≡ sound d
-    go true (passes p) = ap sound (deepest-one bytes n d s e)
+    go : (b : Bool) → Tells (SoundRecord bytes n) b → elim b [ true ↦ sound (deepestNodes (nodesAt bytes) n) | false ↦ unsound ] ≡ sound d
+    go true (passes p) = ap sound (deepest-one (nodesAt bytes) n d s e)
     go false (fails p) = absurd (p s)
 
 pub answers-unsound : (bytes : List ℕ) (n : ℕ) → (SoundRecord bytes n → ⊥) → soundnessOf bytes n ≡ unsound
 unfolding soundnessOf
-answers-unsound bytes n s = go (soundBytes bytes n) (record-tells bytes n)
+answers-unsound bytes n s = go (soundNodes (nodesAt bytes) n) (record-tells (nodesAt bytes) n)
   where
-    go : (b : Bool) → Tells (SoundRecord bytes n) b → elim b [ true ↦ sound (deepestBytes bytes n) | false ↦ unsound ] ≡ unsound
+    go : (b : Bool) → Tells (SoundRecord bytes n) b → elim b [ true ↦ sound (deepestNodes (nodesAt bytes) n) | false ↦ unsound ] ≡ unsound
     go true (passes p) = absurd (s p)
     go false (fails p) = refl
 
@@ -137,11 +137,11 @@ module _ (bytes : List ℕ) (n words : ℕ) where
 
   check-says : Says (checkOf bytes n words)
   unfolding checkOf soundnessOf
-  check-says = go (causeOf (length bytes) n words) refl (soundBytes bytes n) (record-tells bytes n)
+  check-says = go (causeOf (length bytes) n words) refl (soundNodes (nodesAt bytes) n) (record-tells (nodesAt bytes) n)
     where
       go : (c : ℕ) → causeOf (length bytes) n words ≡ c → (b : Bool) → Tells (SoundRecord bytes n) b
-          → Says (elim c [ zero ↦ elim b [ true ↦ sound (deepestBytes bytes n) | false ↦ unsound ] | suc d ↦ refused (suc d) ])
-      go zero e true (passes p) = says-sound (deepestBytes bytes n) e p (record-deepest bytes n p)
+          → Says (elim c [ zero ↦ elim b [ true ↦ sound (deepestNodes (nodesAt bytes) n) | false ↦ unsound ] | suc d ↦ refused (suc d) ])
+      go zero e true (passes p) = says-sound (deepestNodes (nodesAt bytes) n) e p (record-deepest (nodesAt bytes) n p)
       go zero e false (fails p) = says-unsound e p
       go (suc c) e b t = says-refused (suc c) e (omega arith)
 
@@ -174,13 +174,13 @@ module _ (bytes : List ℕ) (n words : ℕ) where
 
 -- ---- a record without nodes is sound with level 0 for no positions, and unsound for any other number
 pub none-sound : (words : ℕ) → checkOf [] 0 words ≡ sound 0
-unfolding shapeAt
+unfolding shapeIn
 none-sound words =
     let s : SoundRecord [] 0 × DeepestLevel [] 0 0 = empty-sound (shapeAt [] 0) (RuleAt [] 0) refl refl in
     check-sound [] 0 words (sym (cause-one 0 0 words 0 (none refl (omega arith) (omega arith) (omega arith)))) (s .0) 0 (s .1)
 
 pub none-unsound : (n words : ℕ) → 0 < n → n ≤ 65536 → n ≤ words → checkOf [] n words ≡ unsound
-unfolding shapeAt
+unfolding shapeIn
 none-unsound n words z l w = check-unsound [] n words (sym (cause-one 0 n words 0 (none refl l (omega arith) (omega arith)))) (empty-unsound (shapeAt [] n) (RuleAt [] n) refl z)
 
 -- ---- the working words

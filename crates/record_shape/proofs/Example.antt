@@ -12,8 +12,8 @@ use Rattle.words.specs.Ones.{onesBelow}
 use Rattle.soundness.specs.Range.{inRange}
 use Rattle.node.specs.Node.{nodeFrom}
 use Rattle.rule.specs.Rule.{pointOk, exponentOk, headOk, childrenOk, leafTop, slotOk, slotsOk, nodeRule}
-use Rattle.record_shape.specs.Record.{leafCount, shapeAt}
-use Rattle.record_shape.specs.Test.{parentAmong, levelUpto, greatest, soundTest, deepestOf, soundBytes, deepestBytes}
+use Rattle.record_shape.specs.Record.{leafCount, shapeIn}
+use Rattle.record_shape.specs.Test.{parentAmong, levelUpto, greatest, soundTest, deepestOf, soundNodes, deepestNodes}
 use Rattle.record_shape.specs.Check.{sound, unsound, refused, causeOf, soundnessOf, checkOf}
 
 -- a node with this mask, these two bases and these metas
@@ -55,7 +55,8 @@ pub record Examples : Type 0 where
   pub words-short : checkOf (node 0 1 0 (two 32 33)) 2 2 ≡ refused 4
 
 pub examples : Examples
-unfolding checkOf causeOf soundnessOf soundBytes deepestBytes soundTest deepestOf greatest levelUpto parentAmong shapeAt leafCount allBelow sum leAt sumOf onesBelow inRange nodeFrom pointOk exponentOk headOk childrenOk leafTop slotOk slotsOk nodeRule inBounds ofBits le
+unfolding checkOf causeOf soundnessOf soundNodes deepestNodes soundTest deepestOf greatest levelUpto parentAmong shapeIn leafCount allBelow
+    sum leAt sumOf onesBelow inRange nodeFrom pointOk exponentOk headOk childrenOk leafTop slotOk slotsOk nodeRule inBounds ofBits le
 examples = record {
   leaves = refl;
   chain = refl;

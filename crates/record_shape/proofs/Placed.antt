@@ -1,13 +1,12 @@
 -- What the node rule says of a node's ranges.
-use mathlib.Core.List.{List}
 use mathlib.Core.Path.{_≡_}
 use Prim.Native.Nat.{ℕ, zero, suc, _+_, _%_, _<_, _≤_}
 use native.Mathlib.Omega.{arith}
 use Rattle.words.specs.Ones.{onesBelow}
 use Rattle.soundness.specs.Shape.{Placed}
-use Rattle.node.specs.Node.{nodeAt, innerBit}
+use Rattle.node.specs.Node.{innerBit}
 use Rattle.rule.specs.Rule.{SlotRule, empty, child, leaf}
-use Rattle.record_shape.specs.Record.{metaAt, leafCount, shapeAt, RuleAt}
+use Rattle.record_shape.specs.Record.{Nodes, metaAt, leafCount, shapeIn, RuleIn}
 
 leaf-inside : (meta bit s base n : ℕ) → SlotRule meta bit s base n → 0 < leafCount bit meta → base + meta % 32 + leafCount bit meta ≤ n
 unfolding leafCount onesBelow
@@ -24,10 +23,10 @@ some-child zero h = absurd (omega arith)
 some-child (suc mask) h = omega arith
 
 -- children come later and exist, positions exist
-pub placed : (bytes : List ℕ) (n i : ℕ) → RuleAt bytes n i → Placed (shapeAt bytes n) i
-unfolding shapeAt
-placed bytes n i r = record {
-  later = λ h. r .children .later (some-child (nodeAt bytes i .imask) h);
-  exist = λ h. r .children .exist (some-child (nodeAt bytes i .imask) h);
-  inside = λ s l h. leaf-inside (metaAt (nodeAt bytes i) s) (innerBit (nodeAt bytes i .imask) s) s (nodeAt bytes i .«primitive_base_idx») n (r .slots s l) h;
+pub placed : (N : Nodes) (n i : ℕ) → RuleIn N n i → Placed (shapeIn N n) i
+unfolding shapeIn
+placed N n i r = record {
+  later = λ h. r .children .later (some-child (N .node i .imask) h);
+  exist = λ h. r .children .exist (some-child (N .node i .imask) h);
+  inside = λ s l h. leaf-inside (metaAt (N .node i) s) (innerBit (N .node i .imask) s) s (N .node i .«primitive_base_idx») n (r .slots s l) h;
 }

@@ -1,5 +1,4 @@
--- The tree that a sound record's bytes make: one parent each, levels, slots of children, and subtrees with no position in common.
-use mathlib.Core.List.{List}
+-- The tree that a sound record's nodes make: one parent each, levels, slots of children, and subtrees with no position in common.
 use mathlib.Core.Path.{_≡_, sym, _∙_}
 use Prim.Native.Nat.{ℕ, zero, suc, _-_, _<_, _≤_}
 use native.Mathlib.Decide.{decLt}
@@ -12,8 +11,8 @@ use Rattle.soundness.specs.Sound.{OneParent, OneHolder}
 use Rattle.soundness.specs.Subtree.{HeldBelow}
 use Rattle.soundness.proofs.Sound.{parent-of, child-node, first-has-none, has-level, child-level, holder-of, holds-position}
 use Rattle.soundness.proofs.Subtree.{siblings-apart, own-apart}
-use Rattle.node.specs.Node.{nodeAt, innerBit, childIndex}
-use Rattle.record_shape.specs.Record.{nodeCount, shapeAt, RuleAt, SoundRecord}
+use Rattle.node.specs.Node.{innerBit, childIndex}
+use Rattle.record_shape.specs.Record.{Nodes, shapeIn, RuleIn, SoundIn}
 use Rattle.record_shape.proofs.Placed.{placed}
 
 -- ---- the children of a node, slot by slot
@@ -28,69 +27,70 @@ rank-slot (suc k) m r h = go (decLt r (onesBelow k m)) (rank-slot k m r)
     go (yes l) f = let z = f l in (z .0, omega (arith, z .1), z .2, z .3)
     go (no l) f = let e = bit-is k m in (k, omega arith, omega arith, omega arith)
 
-module _ (bytes : List ℕ) (n i : ℕ) where
+module _ (N : Nodes) (n i : ℕ) where
   -- an inner slot's child stands in the child range,
-  pub slot-child : (s : ℕ) → i < nodeCount bytes → s < 8 → innerBit (nodeAt bytes i .imask) s ≡ 1
-      → Child (shapeAt bytes n) i (childIndex (nodeAt bytes i .«child_base_idx») (nodeAt bytes i .imask) s)
-  unfolding shapeAt childIndex
+  pub slot-child : (s : ℕ) → i < N .count → s < 8 → innerBit (N .node i .imask) s ≡ 1
+      → Child (shapeIn N n) i (childIndex (N .node i .«child_base_idx») (N .node i .imask) s)
+  unfolding shapeIn childIndex
   slot-child s h l b = record {
     parent = h;
     from = omega arith;
-    before = omega (arith, rank-lt s 8 (nodeAt bytes i .imask) l (bit-is s (nodeAt bytes i .imask) ∙ b));
+    before = omega (arith, rank-lt s 8 (N .node i .imask) l (bit-is s (N .node i .imask) ∙ b));
   }
 
   -- different slots have different children,
-  pub slot-one : (s t : ℕ) → innerBit (nodeAt bytes i .imask) s ≡ 1 → innerBit (nodeAt bytes i .imask) t ≡ 1
-      → childIndex (nodeAt bytes i .«child_base_idx») (nodeAt bytes i .imask) s ≡ childIndex (nodeAt bytes i .«child_base_idx») (nodeAt bytes i .imask) t → s ≡ t
+  pub slot-one : (s t : ℕ) → innerBit (N .node i .imask) s ≡ 1 → innerBit (N .node i .imask) t ≡ 1
+      → childIndex (N .node i .«child_base_idx») (N .node i .imask) s ≡ childIndex (N .node i .«child_base_idx») (N .node i .imask) t → s ≡ t
   unfolding childIndex
-  slot-one s t a b e = rank-inj s t (nodeAt bytes i .imask) (bit-is s (nodeAt bytes i .imask) ∙ a) (bit-is t (nodeAt bytes i .imask) ∙ b) (omega arith)
+  slot-one s t a b e = rank-inj s t (N .node i .imask) (bit-is s (N .node i .imask) ∙ a) (bit-is t (N .node i .imask) ∙ b) (omega arith)
 
   -- and every node of the child range is some slot's child
-  pub child-slot : (c : ℕ) → Child (shapeAt bytes n) i c
-      → (s : ℕ) × (s < 8) × (innerBit (nodeAt bytes i .imask) s ≡ 1) × (c ≡ childIndex (nodeAt bytes i .«child_base_idx») (nodeAt bytes i .imask) s)
-  unfolding shapeAt childIndex
+  pub child-slot : (c : ℕ) → Child (shapeIn N n) i c
+      → (s : ℕ) × (s < 8) × (innerBit (N .node i .imask) s ≡ 1) × (c ≡ childIndex (N .node i .«child_base_idx») (N .node i .imask) s)
+  unfolding shapeIn childIndex
   child-slot c h =
       let a = h .from in
       let b = h .before in
-      let z = rank-slot 8 (nodeAt bytes i .imask) (c - nodeAt bytes i .«child_base_idx») (omega arith) in
-      (z .0, z .1, sym (bit-is (z .0) (nodeAt bytes i .imask)) ∙ z .2, omega (arith, z .3))
+      let z = rank-slot 8 (N .node i .imask) (c - N .node i .«child_base_idx») (omega arith) in
+      (z .0, z .1, sym (bit-is (z .0) (N .node i .imask)) ∙ z .2, omega (arith, z .3))
 
 -- ---- a sound record
 
-module _ (bytes : List ℕ) (n : ℕ) (sound : SoundRecord bytes n) where
+module _ (N : Nodes) (n : ℕ) (sound : SoundIn N n) where
   -- every node but the first is the child of exactly one node, which has a lower number,
-  pub node-parent : (v : ℕ) → 0 < v → v < nodeCount bytes → OneParent (shapeAt bytes n) v
-  unfolding shapeAt
-  node-parent = parent-of (shapeAt bytes n) (RuleAt bytes n) (λ j l r. placed bytes n j r) sound
+  pub node-parent : (v : ℕ) → 0 < v → v < N .count → OneParent (shapeIn N n) v
+  unfolding shapeIn
+  node-parent = parent-of (shapeIn N n) (RuleIn N n) (λ j l r. placed N n j r) sound
 
-  pub parent-lower : (p c : ℕ) → Child (shapeAt bytes n) p c → (p < c) × (c < nodeCount bytes)
-  unfolding shapeAt
-  parent-lower = child-node (shapeAt bytes n) (RuleAt bytes n) (λ j l r. placed bytes n j r) sound
+  pub parent-lower : (p c : ℕ) → Child (shapeIn N n) p c → (p < c) × (c < N .count)
+  unfolding shapeIn
+  parent-lower = child-node (shapeIn N n) (RuleIn N n) (λ j l r. placed N n j r) sound
 
   -- and the first is no child
-  pub first-parent : (p : ℕ) → Child (shapeAt bytes n) p 0 → ⊥
-  first-parent = first-has-none (shapeAt bytes n) (RuleAt bytes n) (λ j l r. placed bytes n j r) sound
+  pub first-parent : (p : ℕ) → Child (shapeIn N n) p 0 → ⊥
+  first-parent = first-has-none (shapeIn N n) (RuleIn N n) (λ j l r. placed N n j r) sound
 
   -- every node has one level, at most 31, and a child's is its parent's plus 1
-  pub node-level : (v : ℕ) → v < nodeCount bytes → (l : ℕ) × (l ≤ 31) × Level (shapeAt bytes n) l v
-  unfolding shapeAt
-  node-level = has-level (shapeAt bytes n) (RuleAt bytes n) (λ j l r. placed bytes n j r) sound
+  pub node-level : (v : ℕ) → v < N .count → (l : ℕ) × (l ≤ 31) × Level (shapeIn N n) l v
+  unfolding shapeIn
+  node-level = has-level (shapeIn N n) (RuleIn N n) (λ j l r. placed N n j r) sound
 
-  pub level-rises : (l k p c : ℕ) → Child (shapeAt bytes n) p c → Level (shapeAt bytes n) l p → Level (shapeAt bytes n) k c → k ≡ suc l
-  level-rises = child-level (shapeAt bytes n) (RuleAt bytes n) (λ j l r. placed bytes n j r) sound
+  pub level-rises : (l k p c : ℕ) → Child (shapeIn N n) p c → Level (shapeIn N n) l p → Level (shapeIn N n) k c → k ≡ suc l
+  level-rises = child-level (shapeIn N n) (RuleIn N n) (λ j l r. placed N n j r) sound
 
   -- every position stands in exactly one leaf range, and no leaf range holds another number
-  pub position-holder : (x : ℕ) → x < n → OneHolder (shapeAt bytes n) x
-  unfolding shapeAt
-  position-holder = holder-of (shapeAt bytes n) (RuleAt bytes n) (λ j l r. placed bytes n j r) sound
+  pub position-holder : (x : ℕ) → x < n → OneHolder (shapeIn N n) x
+  unfolding shapeIn
+  position-holder = holder-of (shapeIn N n) (RuleIn N n) (λ j l r. placed N n j r) sound
 
-  pub holds-below : (i s x : ℕ) → Holds (shapeAt bytes n) i s x → x < n
-  unfolding shapeAt
-  holds-below = holds-position (shapeAt bytes n) (RuleAt bytes n) (λ j l r. placed bytes n j r) sound
+  pub holds-below : (i s x : ℕ) → Holds (shapeIn N n) i s x → x < n
+  unfolding shapeIn
+  holds-below = holds-position (shapeIn N n) (RuleIn N n) (λ j l r. placed N n j r) sound
 
   -- the subtrees of two children of a node have no position in common, and none with the node itself
-  pub children-apart : (p u w x : ℕ) → Child (shapeAt bytes n) p u → Child (shapeAt bytes n) p w → HeldBelow (shapeAt bytes n) u x → HeldBelow (shapeAt bytes n) w x → u ≡ w
-  children-apart = siblings-apart (shapeAt bytes n) (RuleAt bytes n) (λ j l r. placed bytes n j r) sound
+  pub children-apart : (p u w x : ℕ) → Child (shapeIn N n) p u → Child (shapeIn N n) p w
+      → HeldBelow (shapeIn N n) u x → HeldBelow (shapeIn N n) w x → u ≡ w
+  children-apart = siblings-apart (shapeIn N n) (RuleIn N n) (λ j l r. placed N n j r) sound
 
-  pub parent-apart : (u c s x : ℕ) → Child (shapeAt bytes n) u c → Holds (shapeAt bytes n) u s x → HeldBelow (shapeAt bytes n) c x → ⊥
-  parent-apart = own-apart (shapeAt bytes n) (RuleAt bytes n) (λ j l r. placed bytes n j r) sound
+  pub parent-apart : (u c s x : ℕ) → Child (shapeIn N n) u c → Holds (shapeIn N n) u s x → HeldBelow (shapeIn N n) c x → ⊥
+  parent-apart = own-apart (shapeIn N n) (RuleIn N n) (λ j l r. placed N n j r) sound

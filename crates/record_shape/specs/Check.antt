@@ -4,8 +4,8 @@ use mathlib.Core.List.{List, _++_}
 use Prim.Native.Nat.{ℕ, zero, suc, _+_, _/_, _%_}
 use lib.Dec.{eqb, leb}
 use lib.ListN.{length, replicate, drop}
-use Rattle.record_shape.specs.Record.{nodeCount}
-use Rattle.record_shape.specs.Test.{soundBytes, deepestBytes}
+use Rattle.record_shape.specs.Record.{nodeCount, nodesAt}
+use Rattle.record_shape.specs.Test.{soundNodes, deepestNodes}
 
 -- sound with the deepest level, or unsound, or refused with the number of a cause
 pub data Answer : Type 0 where
@@ -26,8 +26,8 @@ causeOf long n words = elim (eqb (long % 80) 0) [
 
 -- the answer where no cause of refusal holds
 unfoldable pub soundnessOf : List ℕ → ℕ → Answer
-unfolding soundBytes deepestBytes
-soundnessOf bytes n = elim (soundBytes bytes n) [ true ↦ sound (deepestBytes bytes n) | false ↦ unsound ]
+unfolding soundNodes deepestNodes
+soundnessOf bytes n = elim (soundNodes (nodesAt bytes) n) [ true ↦ sound (deepestNodes (nodesAt bytes) n) | false ↦ unsound ]
 
 unfoldable pub checkOf : List ℕ → (n words : ℕ) → Answer
 unfolding causeOf soundnessOf

@@ -1,4 +1,5 @@
--- A record as bytes: its shape, when it is sound, and its deepest level (01, "Words, bytes and bounds").
+-- A record's nodes: its shape, when it is sound, and its deepest level (01, "Words, bytes and bounds"). They may come from anywhere; from bytes they
+-- come 80 to each.
 use mathlib.Core.List.{List}
 use Prim.Native.Nat.{ℕ, zero, suc, _+_, _/_, _%_}
 use lib.ListN.{length, getD}
@@ -9,9 +10,10 @@ use Rattle.node.specs.declared.Node.{Node}
 use Rattle.node.specs.Node.{nodeAt, innerBit, codeCount}
 use Rattle.rule.specs.Rule.{Rule}
 
--- how many nodes: each has 80 bytes
-abbrev pub nodeCount : List ℕ → ℕ
-nodeCount bytes = length bytes / 80
+-- how many nodes there are, and which node each number is
+pub record Nodes : Type 0 where
+  pub count : ℕ
+  pub node : ℕ → Node
 
 -- the meta byte of slot s
 abbrev pub metaAt : Node → ℕ → ℕ
@@ -22,25 +24,47 @@ unfoldable pub leafCount : ℕ → ℕ → ℕ
 leafCount zero meta = codeCount meta
 leafCount (suc bit) meta = 0
 
--- Child ranges start at child_base_idx and are as long as imask has ones. A leaf range starts at primitive_base_idx plus the code's low five bits.
-unfoldable pub shapeAt : List ℕ → ℕ → Shape
-unfolding leafCount
-shapeAt bytes n = record {
-  nodes = nodeCount bytes;
-  positions = n;
-  base = λ i. nodeAt bytes i .«child_base_idx»;
-  children = λ i. onesBelow 8 (nodeAt bytes i .imask);
-  start = λ i s. nodeAt bytes i .«primitive_base_idx» + metaAt (nodeAt bytes i) s % 32;
-  count = λ i s. leafCount (innerBit (nodeAt bytes i .imask) s) (metaAt (nodeAt bytes i) s);
-}
+-- ---- of nodes, taken to have n positions
 
--- node i meets the node rule
+module _ (N : Nodes) (n : ℕ) where
+  -- Child ranges start at child_base_idx and are as long as imask has ones. A leaf range starts at primitive_base_idx plus the code's low five bits.
+  unfoldable pub shapeIn : Shape
+  unfolding leafCount
+  shapeIn = record {
+    nodes = N .count;
+    positions = n;
+    base = λ i. N .node i .«child_base_idx»;
+    children = λ i. onesBelow 8 (N .node i .imask);
+    start = λ i s. N .node i .«primitive_base_idx» + metaAt (N .node i) s % 32;
+    count = λ i s. leafCount (innerBit (N .node i .imask) s) (metaAt (N .node i) s);
+  }
+
+  -- node i meets the node rule
+  abbrev pub RuleIn : ℕ → Type 0
+  RuleIn i = Rule (N .node i) (N .count) n i
+
+  -- they are a sound record's
+  abbrev pub SoundIn : Type 0
+  SoundIn = Sound shapeIn RuleIn
+
+-- ---- of a record's bytes
+
+-- how many nodes: each has 80 bytes
+abbrev pub nodeCount : List ℕ → ℕ
+nodeCount bytes = length bytes / 80
+
+abbrev pub nodesAt : List ℕ → Nodes
+nodesAt bytes = record { count = nodeCount bytes; node = nodeAt bytes }
+
+abbrev pub shapeAt : List ℕ → ℕ → Shape
+shapeAt bytes n = shapeIn (nodesAt bytes) n
+
 abbrev pub RuleAt : List ℕ → ℕ → ℕ → Type 0
-RuleAt bytes n i = Rule (nodeAt bytes i) (nodeCount bytes) n i
+RuleAt bytes n i = RuleIn (nodesAt bytes) n i
 
 -- a sound record of n positions
 abbrev pub SoundRecord : List ℕ → ℕ → Type 0
-SoundRecord bytes n = Sound (shapeAt bytes n) (RuleAt bytes n)
+SoundRecord bytes n = SoundIn (nodesAt bytes) n
 
 -- its deepest level
 abbrev pub DeepestLevel : List ℕ → ℕ → ℕ → Type 0

@@ -1,15 +1,13 @@
--- Soundness and the deepest level (01, "Words, bytes and bounds") as tests that compute. Law `record-tells` says that the test of a record's bytes
+-- Soundness and the deepest level (01, "Words, bytes and bounds") as tests that compute. Law `record-tells` says that the test of a record's nodes
 -- passes exactly if the record is sound, and `record-deepest` that the level is then its deepest.
 use mathlib.Core.Bool.{Bool, _&&_}
-use mathlib.Core.List.{List}
 use Prim.Native.Nat.{ℕ, zero, suc, min, max}
 use lib.Dec.{eqb, leb}
 use Rattle.lists.specs.Below.{allBelow}
 use Rattle.soundness.specs.Range.{inRange}
 use Rattle.soundness.specs.Shape.{Shape, parents, holders}
-use Rattle.node.specs.Node.{nodeAt}
 use Rattle.rule.specs.Rule.{nodeRule}
-use Rattle.record_shape.specs.Record.{nodeCount, shapeAt}
+use Rattle.record_shape.specs.Record.{Nodes, shapeIn}
 
 -- a where the number is not 0, else b
 abbrev pub pick : ℕ → ℕ → ℕ → ℕ
@@ -47,11 +45,12 @@ unfoldable pub deepestOf : Shape → ℕ
 unfolding levelUpto greatest
 deepestOf S = greatest (levelUpto S 32) (S .nodes)
 
--- the same of a record's bytes
-unfoldable pub soundBytes : List ℕ → ℕ → Bool
-unfolding soundTest shapeAt
-soundBytes bytes n = soundTest (shapeAt bytes n) (λ i. nodeRule (nodeAt bytes i) (nodeCount bytes) n i)
+-- the same of a record's nodes, taken to have n positions
+module _ (N : Nodes) (n : ℕ) where
+  unfoldable pub soundNodes : Bool
+  unfolding soundTest shapeIn
+  soundNodes = soundTest (shapeIn N n) (λ i. nodeRule (N .node i) (N .count) n i)
 
-unfoldable pub deepestBytes : List ℕ → ℕ → ℕ
-unfolding deepestOf shapeAt
-deepestBytes bytes n = deepestOf (shapeAt bytes n)
+  unfoldable pub deepestNodes : ℕ
+  unfolding deepestOf shapeIn
+  deepestNodes = deepestOf (shapeIn N n)

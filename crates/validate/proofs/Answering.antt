@@ -2,7 +2,7 @@
 use mathlib.Core.Bool.{Bool, true, false, not}
 use mathlib.Core.List.{List, _++_}
 use mathlib.Core.Logic.{_⊎_, inl, inr}
-use mathlib.Core.Path.{_≡_, refl, sym, ap, _∙_}
+use mathlib.Core.Path.{_≡_, refl, sym, ap, _∙_, subst}
 use Prim.Native.Nat.{ℕ, suc, _+_, _-_, _^_, _<_, _≤_, max}
 use native.Mathlib.Decide.{decLt}
 use native.Mathlib.Numerals.{add-one}
@@ -10,11 +10,11 @@ use native.Mathlib.Omega.{arith}
 use lib.ListN.{length, getD, set, take, drop, length-set, replicate, length-replicate}
 use lib.Seq.{getD-set-same, getD-set-other, length-take-le}
 use Rattle.lists.proofs.Tells.{clash, told, denied}
-use Rattle.soundness.specs.Shape.{Shape}
+use Rattle.soundness.specs.Shape.{Shape, Placed}
 use Rattle.soundness.proofs.Once.{empty-sound, empty-unsound}
 use Rattle.node.specs.Node.{nodeAt}
 use Rattle.rule.specs.Rule.{nodeRule}
-use Rattle.record_shape.specs.Record.{nodeCount, shapeAt, RuleAt, SoundRecord, DeepestLevel}
+use Rattle.record_shape.specs.Record.{nodeCount, nodesAt, shapeIn, shapeAt, RuleAt, SoundRecord, DeepestLevel}
 use Rattle.record_shape.specs.Check.{Answer, refused, causeOf, soundnessOf, checkOf, wordsAfter}
 use Rattle.record_shape.proofs.Placed.{placed}
 use Rattle.record_shape.proofs.Record.{node-tells}
@@ -64,7 +64,7 @@ pub record Passing (bytes : List ℕ) (n m : ℕ) (o : List ℕ) (i d : ℕ) : T
 
 module _ (bytes : List ℕ) (n m : ℕ) (z : List ℕ) (start : Start bytes n m z) where
   pub passing-begins : Passing bytes n m (set z 0 1) 0 0
-  unfolding shapeAt
+  unfolding shapeIn
   passing-begins =
       let a = start .some in
       let c = start .sized .nodes in
@@ -77,25 +77,29 @@ module _ (bytes : List ℕ) (n m : ℕ) (z : List ℕ) (start : Start bytes n m 
             (getD-set-same z 0 1 0 (omega arith)) (λ k h. getD-set-other z 0 k 1 0 (λ e. omega arith) ∙ start .zeros k);
       }
 
+  place : (j : ℕ) → j < shapeAt bytes n .nodes → RuleAt bytes n j → Placed (shapeAt bytes n) j
+  place j l r = placed (nodesAt bytes) n j r
+
   rule-holds : (i : ℕ) (b : Bool) → b ≡ nodeRule (nodeAt bytes i) m n i → not b ≡ false → RuleAt bytes n i
-  rule-holds i b e h = rw (← start .sized .nodes) (told (node-tells bytes m n i) (sym e ∙ passed-test b h))
+  rule-holds i b e h = rw (← start .sized .nodes) (told (node-tells (nodeAt bytes i) m n i) (sym e ∙ passed-test b h))
 
   module _ (i d : ℕ) (o : List ℕ) (p : Passing bytes n m o i d) (l : i < m) where
     counted : i < nodeCount bytes
     counted = let c = start .sized .nodes in omega arith
 
     pub rule-fails : (b : Bool) → b ≡ nodeRule (nodeAt bytes i) m n i → not b ≡ true → answerOf Unsound ≡ soundnessOf bytes n
-    unfolding shapeAt
+    unfolding shapeIn
     rule-fails b e h =
-        says-unsound bytes n (λ s. denied (node-tells bytes m n i) (sym e ∙ failed-test b h) (rw (start .sized .nodes) (s .rule i counted)))
+        says-unsound bytes n
+        (λ s. denied (node-tells (nodeAt bytes i) m n i) (sym e ∙ failed-test b h) (rw (start .sized .nodes) (s .rule i counted)))
 
     pub parent-missing : getD o i 0 ≡ 0 → answerOf Unsound ≡ soundnessOf bytes n
-    unfolding shapeAt
-    parent-missing e = says-unsound bytes n (no-parent (shapeAt bytes n) (RuleAt bytes n) (λ j u r. placed bytes n j r) i d o (p .known) counted e)
+    unfolding shapeIn
+    parent-missing e = says-unsound bytes n (no-parent (shapeAt bytes n) (RuleAt bytes n) place i d o (p .known) counted e)
 
     pub level-over : 32 < getD o i 0 → answerOf Unsound ≡ soundnessOf bytes n
-    unfolding shapeAt
-    level-over e = says-unsound bytes n (too-deep (shapeAt bytes n) (RuleAt bytes n) (λ j u r. placed bytes n j r) i d o (p .known) counted e)
+    unfolding shapeIn
+    level-over e = says-unsound bytes n (too-deep (shapeAt bytes n) (RuleAt bytes n) place i d o (p .known) counted e)
 
     pub node-ready : (b : Bool) → b ≡ nodeRule (nodeAt bytes i) m n i → not b ≡ false → Ruled bytes n i m (length o)
     node-ready b e h = record {
@@ -106,14 +110,14 @@ module _ (bytes : List ℕ) (n m : ℕ) (z : List ℕ) (start : Start bytes n m 
 
     module _ (q : List ℕ) (f : Bool) (marks : MarksNode f (shapeAt bytes n) i o q) where
       pub word-twice : not f ≡ true → answerOf Unsound ≡ soundnessOf bytes n
-      unfolding shapeAt
+      unfolding shapeIn
       word-twice e =
           says-unsound bytes n
-          (marked-twice (shapeAt bytes n) (RuleAt bytes n) (λ j u r. placed bytes n j r) i d o (p .known) counted (was-twice f (shapeAt bytes n) i o q marks e))
+          (marked-twice (shapeAt bytes n) (RuleAt bytes n) place i d o (p .known) counted (was-twice f (shapeAt bytes n) i o q marks e))
 
       pub passing-next : (g : ℕ) (b : Bool) → b ≡ nodeRule (nodeAt bytes i) m n i → not b ≡ false → (getD o i 0 ≡ 0 → ⊥) → getD o i 0 ≤ 32
           → not f ≡ false → length q ≡ length o → g ≡ max d (getD o i 0 - 1) → Passing bytes n m q (i + 1) g
-      unfolding shapeAt
+      unfolding shapeIn
       passing-next g b e h nz hi fe long gd =
           let lo : 1 ≤ getD o i 0 = omega (arith, nz) in
           let y = p .low in
@@ -122,7 +126,7 @@ module _ (bytes : List ℕ) (n m : ℕ) (z : List ℕ) (start : Start bytes n m 
             words = long ∙ p .words;
             low = omega arith;
             known = rw (add-one i)
-                (passes-next (shapeAt bytes n) (RuleAt bytes n) (λ j u r. placed bytes n j r) i d g o q (p .known) counted (rule-holds i b e h) lo hi
+                (passes-next (shapeAt bytes n) (RuleAt bytes n) place i d g o q (p .known) counted (rule-holds i b e h) lo hi
                 (was-marked f (shapeAt bytes n) i o q marks fe) (omega arith) (omega arith) (which lo (decLt d g)));
           }
         where
@@ -137,26 +141,25 @@ module _ (bytes : List ℕ) (n m : ℕ) (z : List ℕ) (start : Start bytes n m 
     ended =
         let c = start .sized .nodes in
         let u = p .most in
-        let e : i ≡ nodeCount bytes = omega arith in
-        rw (← e) (p .known)
+        subst (λ (k : ℕ). Passed (shapeAt bytes n) (RuleAt bytes n) k o d) (omega arith) (p .known)
 
     pub not-all : not b ≡ true → answerOf Unsound ≡ soundnessOf bytes n
-    unfolding shapeAt
+    unfolding shapeIn
     not-all e = says-unsound bytes n (λ s. denied (marked-tells o m n) (sym full ∙ failed-test b e) (λ x u. go s x u (decLt 0 (getD o (m + x) 0))))
       where
         go : SoundRecord bytes n → (x : ℕ) → x < n → Dec (0 < getD o (m + x) 0) → 0 < getD o (m + x) 0
         go s x u (yes y) = y
         go s x u (no y) =
-            absurd (not-filled (shapeAt bytes n) (RuleAt bytes n) (λ j w r. placed bytes n j r) d o ended x u
+            absurd (not-filled (shapeAt bytes n) (RuleAt bytes n) place d o ended x u
             (let k : getD o (m + x) 0 ≡ 0 = omega arith in rw (← start .sized .nodes) k) s)
 
     pub all-passed : not b ≡ false → answerOf (Sound d) ≡ soundnessOf bytes n
-    unfolding shapeAt
+    unfolding shapeIn
     all-passed e =
         says-sound bytes n d
-        (ends-sound (shapeAt bytes n) (RuleAt bytes n) (λ j w r. placed bytes n j r) d o ended
+        (ends-sound (shapeAt bytes n) (RuleAt bytes n) place d o ended
         (λ x u. rw (← start .sized .nodes) (told (marked-tells o m n) (sym full ∙ passed-test b e) x u)))
-        (ends-deepest (shapeAt bytes n) (RuleAt bytes n) (λ j w r. placed bytes n j r) d o ended)
+        (ends-deepest (shapeAt bytes n) (RuleAt bytes n) place d o ended)
 
 -- ---- between two clearings
 
@@ -179,13 +182,13 @@ module _ (bytes : List ℕ) (n m long : ℕ) (sized : Sized bytes n m long) wher
   -- ---- no nodes
 
   pub none-sound : m ≡ 0 → n ≡ 0 → answerOf (Sound 0) ≡ soundnessOf bytes n
-  unfolding shapeAt
+  unfolding shapeIn
   none-sound z e =
       let s = empty-sound (shapeAt bytes n) (RuleAt bytes n) (sym (sized .nodes) ∙ z) e in
       says-sound bytes n 0 (s .0) (s .1)
 
   pub none-unsound : m ≡ 0 → (n ≡ 0 → ⊥) → answerOf Unsound ≡ soundnessOf bytes n
-  unfolding shapeAt
+  unfolding shapeIn
   none-unsound z e = says-unsound bytes n (empty-unsound (shapeAt bytes n) (RuleAt bytes n) (sym (sized .nodes) ∙ z) (omega (arith, e)))
 
 -- ---- the whole call

@@ -11,7 +11,7 @@ use Rattle.lists.proofs.Tells.{told, clash, eqb-tells}
 use Rattle.words.specs.Ones.{onesBelow}
 use Rattle.soundness.specs.Shape.{Placed}
 use Rattle.node.specs.Node.{nodeAt, innerBit, codeCount}
-use Rattle.record_shape.specs.Record.{nodeCount, metaAt, leafCount, shapeAt}
+use Rattle.record_shape.specs.Record.{nodeCount, nodesAt, metaAt, leafCount, shapeIn, shapeAt}
 use Rattle.record_shape.proofs.Placed.{placed}
 use Rattle.validate.specs.Marks.{Room, Ruled, Filled, Fill, MarksSlot, PositionsMarked, MarksPositions, MarksNode}
 use Rattle.validate.proofs.Filling.{was-filled, was-blocked}
@@ -39,7 +39,7 @@ pub record SlotRead (bytes : List ℕ) (n i s a k : ℕ) : Type 0 where
 
 pub slot-read : (bytes : List ℕ) (n i m s imask base meta start k : ℕ) → m ≡ nodeCount bytes → imask ≡ nodeAt bytes i .imask → base ≡ nodeAt bytes i .«primitive_base_idx»
     → meta ≡ metaAt (nodeAt bytes i) s → start ≡ base + meta % 32 → k ≡ leafCount (innerBit imask s) meta → SlotRead bytes n i s (m + start) k
-unfolding shapeAt
+unfolding shapeIn
 slot-read bytes n i m s imask base meta start k em ei eb et es ek = record { place = rw (em, es, eb, et); count = rw (ek, ei, et) }
 
 pub slot-marked : (bytes : List ℕ) (n i s a k : ℕ) (o q : List ℕ) (f : Bool) → SlotRead bytes n i s a k → Fill f o a k 1 q → MarksSlot f (shapeAt bytes n) i s o q
@@ -62,14 +62,14 @@ marking-done bytes n i s o q l d = let e : s ≡ 8 = (let u = d .most in omega a
 
 module _ (bytes : List ℕ) (n i m long : ℕ) (ready : Ruled bytes n i m long) where
   node-placed : Placed (shapeAt bytes n) i
-  node-placed = placed bytes n i (ready .rule)
+  node-placed = placed (nodesAt bytes) n i (ready .rule)
 
   -- the working words may have been written meanwhile
   pub still-ruled : (words : ℕ) → words ≡ long → Ruled bytes n i m words
   still-ruled words e = rw e ready
 
   pub slot-room : (s a k : ℕ) → s < 8 → SlotRead bytes n i s a k → Room a k long
-  unfolding shapeAt
+  unfolding shapeIn
   slot-room s a k l t = record {
     inside = λ h.
         let e = t .count in
@@ -96,7 +96,7 @@ module _ (bytes : List ℕ) (n i m long : ℕ) (ready : Ruled bytes n i m long) 
 
   module _ (base k : ℕ) (eb : base ≡ nodeAt bytes i .«child_base_idx») (ek : k ≡ onesBelow 8 (nodeAt bytes i .imask)) where
     pub children-room : Room base k long
-    unfolding shapeAt
+    unfolding shapeIn
     children-room = record {
       inside = λ h.
           let g = ready .sized .words in
@@ -107,11 +107,11 @@ module _ (bytes : List ℕ) (n i m long : ℕ) (ready : Ruled bytes n i m long) 
 
     module _ (o p q : List ℕ) (f : Bool) (h : Fill f o base k (getD o i 0 + 1) p) where
       pub children-taken : not f ≡ true → MarksNode false (shapeAt bytes n) i o q
-      unfolding MarksNode shapeAt
+      unfolding MarksNode shapeIn
       children-taken e = children-blocked (shapeAt bytes n) i o node-placed (rw (← eb, ← ek) (was-blocked f o base k (getD o i 0 + 1) p h e))
 
       pub node-ends : (t : Bool) → not f ≡ false → MarksPositions t (shapeAt bytes n) i p q → MarksNode t (shapeAt bytes n) i o q
-      unfolding MarksNode MarksPositions shapeAt
+      unfolding MarksNode MarksPositions shapeIn
       node-ends t e y = go t y (rw (← eb, ← ek, ← add-one (getD o i 0)) (was-filled f o base k (getD o i 0 + 1) p h e))
         where
           go : (t : Bool) → MarksPositions t (shapeAt bytes n) i p q → Filled o (nodeAt bytes i .«child_base_idx») (onesBelow 8 (nodeAt bytes i .imask)) (suc (getD o i 0)) p → MarksNode t (shapeAt bytes n) i o q

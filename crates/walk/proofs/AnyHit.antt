@@ -12,18 +12,45 @@ use Rattle.lists.proofs.Counts.{Some, none, some, some?}
 use Rattle.lists.proofs.Sums.{distinct-length}
 use Rattle.lists.proofs.Perms.{no-duplicates}
 use Rattle.soundness.specs.Shape.{Shape}
-use Rattle.soundness.specs.Sound.{Sound}
 use Rattle.walk.specs.Tests.{Tests}
 use Rattle.walk.specs.Step.{Walker, Answer, tested, position, done, nothing, refused, fresh, Stepped, afterTest, stepOf}
 use Rattle.walk.specs.Listing.{In, flat, Reached, Passed, listing, reachedFrom}
 use Rattle.walk.specs.Queries.{Outcome, follow, query, stepsFor, append, anyHitOf, Going}
-use Rattle.walk.specs.Lawful.{Lawful, Present, Narrow}
+use Rattle.walk.specs.Lawful.{SoundTests, Unrefused}
 use Rattle.walk.proofs.Dues.{flats, push-flats, report-hand, test-hand, none-hand, test-flat, none-flat}
 use Rattle.walk.proofs.Cases.{due, Visits, step-cases}
 use Rattle.walk.proofs.Gather.{gather-none}
 use Rattle.walk.proofs.Valid.{Valid, no-refusal, report-valid, test-valid, fresh-valid, empty-step}
 use Rattle.walk.proofs.Listing.{listing-is, reached-from-is, listed, listed-once, passed-position, reached-in, reached-once}
 use Rattle.walk.proofs.Ends.{stepsLeft, step-falls}
+
+-- What any-hit meets over a record of n positions: it ends with done, its list is the listing, which has each passed position once and no other, and
+-- its tests are the nodes reached, as many as a list has that holds each of them once and no other.
+pub record Meets {s : Type 0} (n : ℕ) (listing : List ℕ) (Reached Passed : ℕ → Type 0) (o : Outcome s (List ℕ)) : Type 0 where
+  pub ends : o .ended ≡ done
+  pub lists : o .noted ≡ listing
+  pub exact : (p : ℕ) → In p (o .noted) ↔ Passed p
+  pub once : (p : ℕ) → count p (o .noted) ≤ 1
+  pub most : length (o .noted) ≤ n
+  pub reached : List ℕ
+  pub reached-once : List·Nodup reached
+  pub reached-all : (v : ℕ) → In v reached ↔ Reached v
+  pub tests : o .walker .tests ≡ length reached
+
+-- the same by other words for what is reached and passed
+pub meets-as : {s : Type 0} {n : ℕ} {list : List ℕ} {A B C D : ℕ → Type 0} {o : Outcome s (List ℕ)}
+    → ((v : ℕ) → A v ↔ C v) → ((p : ℕ) → B p ↔ D p) → Meets n list A B o → Meets n list C D o
+meets-as f g m = record {
+  ends = m .ends;
+  lists = m .lists;
+  exact = λ p. (λ i. g p .0 (m .exact p .0 i), λ q. m .exact p .1 (g p .1 q));
+  once = m .once;
+  most = m .most;
+  reached = m .reached;
+  reached-once = m .reached-once;
+  reached-all = λ v. (λ i. f v .0 (m .reached-all v .0 i), λ q. m .reached-all v .1 (f v .1 q));
+  tests = m .tests;
+}
 
 -- a query ended with done, having noted ps after x, with t tests in all
 record Ran {s : Type 0} (x ps : List ℕ) (t : ℕ) (o : Outcome s (List ℕ)) : Type 0 where
@@ -37,8 +64,7 @@ empty-ran : {s d : Type 0} (T : Tests s d) (n : ℕ) (ray : s) → n ≤ 65536 �
 unfolding query
 empty-ran T n ray h f = rw (empty-step T n ray h f, gather-none, gather-none) (record { noted = refl; ended = refl; tests = refl })
 
-module _ {s d : Type 0} (S : Shape) (Rule : ℕ → Type 0) (T : Tests s d) (L : Lawful S Rule T) (sound : Sound S Rule)
-    (few-positions : S .positions ≤ 65536) (few-nodes : S .nodes ≤ 65535) (present : Present S T) (narrow : Narrow (S .nodes) T) (ray : s)
+module _ {s d : Type 0} {S : Shape} {Rule : ℕ → Type 0} {T : Tests s d} (K : SoundTests S Rule T) (U : Unrefused S T) (ray : s)
     (accepted : T .forged ray ≡ false) where
   -- ---- what a walker has still to report, and to test
 
@@ -59,7 +85,7 @@ module _ {s d : Type 0} (S : Shape) (Rule : ℕ → Type 0) (T : Tests s d) (L :
   Takes w (refused e) u = ⊥
 
   record After (w : Walker s) (r : Stepped s) : Type 0 where
-    pub valid : Valid S Rule T L sound (r .walker)
+    pub valid : Valid K (r .walker)
     pub same-ray : r .walker .ray ≡ ray
     pub takes : Takes w (r .answer) (r .walker)
 
@@ -68,14 +94,15 @@ module _ {s d : Type 0} (S : Shape) (Rule : ℕ → Type 0) (T : Tests s d) (L :
   visit-report w c r st e v =
       ap (λ (l : List ℕ). l ++ ahead (listing (S .nodes) T ray) w) (test-hand (w .positions) (w .group) (w .stack) c r st (v .is-due))
       ∙ test-flat (w .positions) (w .group) (w .stack) c r st (v .is-due) (listing (S .nodes) T ray)
-      ∙ ap (λ (l : List ℕ). l ++ (flat (listing (S .nodes) T ray) r ++ flats (listing (S .nodes) T ray) st)) (listing-is S Rule T L sound ray accepted c (v .node))
+      ∙ ap (λ (l : List ℕ). l ++ (flat (listing (S .nodes) T ray) r ++ flats (listing (S .nodes) T ray) st)) (listing-is K ray accepted c (v .node))
       ∙ rw (e, push-flats (listing (S .nodes) T ray) r st) (append-assoc (T .positions ray c) (flat (listing (S .nodes) T ray) (T .children ray c)) _)
 
   visit-test : (w : Walker s) (c : ℕ) (r : List ℕ) (st : List (List ℕ)) → w .ray ≡ ray → Visits (S .nodes) T (S .positions) w c r st
       → toTest w ≡ c ∷ toTest (afterTest T w c r st .walker)
   visit-test w c r st e v =
       test-flat (w .positions) (w .group) (w .stack) c r st (v .is-due) (reachedFrom (S .nodes) T ray)
-      ∙ ap (λ (l : List ℕ). l ++ (flat (reachedFrom (S .nodes) T ray) r ++ flats (reachedFrom (S .nodes) T ray) st)) (reached-from-is S Rule T L sound ray accepted c (v .node))
+      ∙ ap (λ (l : List ℕ). l ++ (flat (reachedFrom (S .nodes) T ray) r ++ flats (reachedFrom (S .nodes) T ray) st))
+      (reached-from-is K ray accepted c (v .node))
       ∙ rw (e, push-flats (reachedFrom (S .nodes) T ray) r st)
 
   nothing-takes : (w : Walker s) → due (S .nodes) T (S .positions) w ≡ nothing → Takes w done w
@@ -86,20 +113,20 @@ module _ {s d : Type 0} (S : Shape) (Rule : ℕ → Type 0) (T : Tests s d) (L :
     refl,
   )
 
-  step-takes : 0 < S .nodes → (w : Walker s) → Valid S Rule T L sound w → w .ray ≡ ray → After w (stepOf (S .nodes) T (S .positions) w)
+  step-takes : 0 < S .nodes → (w : Walker s) → Valid K w → w .ray ≡ ray → After w (stepOf (S .nodes) T (S .positions) w)
   step-takes h w v e =
       step-cases (S .nodes) T (S .positions) w (After w)
       (record {
-        refuses = λ x c. absurd (no-refusal S Rule T L sound few-positions few-nodes present w v c);
+        refuses = λ x c. absurd (no-refusal K U w v c);
         ends = λ f q. record { valid = v; same-ray = e; takes = nothing-takes w q };
         empties = λ f z o. absurd (omega arith);
         reports = λ p ps q. record {
-          valid = report-valid S Rule T L sound (S .positions) w p ps v q;
+          valid = report-valid K (S .positions) w p ps v q;
           same-ray = e;
           takes = (ap (λ (l : List ℕ). l ++ ahead (listing (S .nodes) T ray) w) (report-hand (w .positions) (w .group) (w .stack) p ps (q .is-due)), refl, refl);
         };
         visits = λ c r st q. record {
-          valid = test-valid S Rule T L sound (S .positions) w c r st v q;
+          valid = test-valid K (S .positions) w c r st v q;
           same-ray = e;
           takes = (visit-report w c r st e q, visit-test w c r st e q, refl);
         };
@@ -107,13 +134,14 @@ module _ {s d : Type 0} (S : Shape) (Rule : ℕ → Type 0) (T : Tests s d) (L :
 
   -- ---- the run
 
-  runs : 0 < S .nodes → (f : ℕ) (w : Walker s) (x : List ℕ) → Valid S Rule T L sound w → w .ray ≡ ray → stepsLeft (S .nodes) w < f
+  runs : 0 < S .nodes → (f : ℕ) (w : Walker s) (x : List ℕ) → Valid K w → w .ray ≡ ray → stepsLeft (S .nodes) w < f
       → Ran x (toReport w) (w .tests + length (toTest w)) (query (S .nodes) T append f (S .positions) w x)
   unfolding query
   runs h zero w x v e l = absurd (omega arith)
   runs h (suc f) w x v e l =
       go (stepOf (S .nodes) T (S .positions) w .answer) (stepOf (S .nodes) T (S .positions) w .walker) (a .takes)
-      (step-falls (S .nodes) T narrow (S .positions) w) (λ y k. runs h f (stepOf (S .nodes) T (S .positions) w .walker) y (a .valid) (a .same-ray) k)
+      (step-falls (S .nodes) T (U .narrow) (S .positions) w)
+      (λ y k. runs h f (stepOf (S .nodes) T (S .positions) w .walker) y (a .valid) (a .same-ray) k)
     where
       a : After w (stepOf (S .nodes) T (S .positions) w)
       a = step-takes h w v e
@@ -147,46 +175,40 @@ module _ {s d : Type 0} (S : Shape) (Rule : ℕ → Type 0) (T : Tests s d) (L :
           let p : toReport (fresh ray) ≡ listing (S .nodes) T ray 0 = simp append-nil in
           let q : toTest (fresh ray) ≡ reachedFrom (S .nodes) T ray 0 = simp append-nil in
           let n : length (toTest (fresh ray)) ≡ length (reachedFrom (S .nodes) T ray 0) = ap length q in
-          let r = runs h (stepsFor (S .nodes)) (fresh ray) [] (fresh-valid S Rule T L sound h ray accepted) refl (omega arith) in
+          let r = runs h (stepsFor (S .nodes)) (fresh ray) [] (fresh-valid K h ray accepted) refl (omega arith) in
           record { noted = r .noted ∙ p; ended = r .ended; tests = omega (arith, r .tests) }
       go (no h) =
           let e : S .nodes ≡ 0 = omega arith in
           subst (λ (m : ℕ). Ran [] (listing m T ray 0) (length (reachedFrom m T ray 0)) (anyHitOf m T (S .positions) ray)) (sym e)
-          (empty-ran T (S .positions) ray few-positions accepted)
+          (empty-ran T (S .positions) ray (U .positions) accepted)
 
   -- ---- what it lists and counts
 
-  -- the list is the first node's listing,
-  pub any-hit-listing : anyHitOf (S .nodes) T (S .positions) ray .noted ≡ listing (S .nodes) T ray 0
-  any-hit-listing = any-hit .noted
+  -- a position is listed exactly if the ray passes it,
+  exact : (p : ℕ) → In p (anyHitOf (S .nodes) T (S .positions) ray .noted) ↔ Passed (S .nodes) T ray p
+  exact p = subst (λ (l : List ℕ). In p l ↔ Passed (S .nodes) T ray p) (sym (any-hit .noted)) (listed K ray accepted p)
 
-  pub any-hit-done : anyHitOf (S .nodes) T (S .positions) ray .ended ≡ done
-  any-hit-done = any-hit .ended
+  -- once,
+  once : (p : ℕ) → count p (anyHitOf (S .nodes) T (S .positions) ray .noted) ≤ 1
+  once p = rw (any-hit .noted) (listed-once K ray accepted p)
 
-  -- which has a position exactly if the ray passes it,
-  pub any-hit-exact : (p : ℕ) → In p (anyHitOf (S .nodes) T (S .positions) ray .noted) ↔ Passed (S .nodes) T ray p
-  any-hit-exact p = subst (λ (l : List ℕ). In p l ↔ Passed (S .nodes) T ray p) (sym any-hit-listing) (listed S Rule T L sound ray accepted p)
+  -- and none from n on
+  none-past : (p : ℕ) → S .positions ≤ p → Some (count p (anyHitOf (S .nodes) T (S .positions) ray .noted))
+      → count p (anyHitOf (S .nodes) T (S .positions) ray .noted) ≡ 0
+  none-past p l (none e) = e
+  none-past p l (some e) = absurd (omega (arith, passed-position K ray accepted p (exact p .0 e)))
 
-  -- once
-  pub any-hit-once : (p : ℕ) → count p (anyHitOf (S .nodes) T (S .positions) ray .noted) ≤ 1
-  any-hit-once p = rw any-hit-listing (listed-once S Rule T L sound ray accepted p)
-
-  pub any-hit-nodup : List·Nodup (anyHitOf (S .nodes) T (S .positions) ray .noted)
-  any-hit-nodup = no-duplicates (anyHitOf (S .nodes) T (S .positions) ray .noted) any-hit-once
-
-  -- so it is no longer than there are positions
-  pub any-hit-most : length (anyHitOf (S .nodes) T (S .positions) ray .noted) ≤ S .positions
-  any-hit-most = distinct-length (S .positions) (anyHitOf (S .nodes) T (S .positions) ray .noted) any-hit-once (λ p l. none-past p l (some? (count p (anyHitOf (S .nodes) T (S .positions) ray .noted))))
-    where
-      none-past : (p : ℕ) → S .positions ≤ p → Some (count p (anyHitOf (S .nodes) T (S .positions) ray .noted)) → count p (anyHitOf (S .nodes) T (S .positions) ray .noted) ≡ 0
-      none-past p l (none e) = e
-      none-past p l (some e) = absurd (omega (arith, passed-position S Rule T L sound ray accepted p (any-hit-exact p .0 e)))
-
-  -- the tests are as many as a list has that holds each reached node once and no other
-  pub any-hit-tests : (l : List ℕ) × List·Nodup l × ((v : ℕ) → In v l ↔ Reached (S .nodes) T ray v) × (anyHitOf (S .nodes) T (S .positions) ray .walker .tests ≡ length l)
-  any-hit-tests = (
-    reachedFrom (S .nodes) T ray 0,
-    no-duplicates (reachedFrom (S .nodes) T ray 0) (reached-once S Rule T L sound ray accepted),
-    reached-in S Rule T L sound ray accepted,
-    any-hit .tests,
-  )
+  pub any-hit-meets :
+      Meets (S .positions) (listing (S .nodes) T ray 0) (Reached (S .nodes) T ray) (Passed (S .nodes) T ray)
+      (anyHitOf (S .nodes) T (S .positions) ray)
+  any-hit-meets = record {
+    ends = any-hit .ended;
+    lists = any-hit .noted;
+    exact = exact;
+    once = once;
+    most = distinct-length (S .positions) _ once (λ p l. none-past p l (some? _));
+    reached = reachedFrom (S .nodes) T ray 0;
+    reached-once = no-duplicates (reachedFrom (S .nodes) T ray 0) (reached-once K ray accepted);
+    reached-all = reached-in K ray accepted;
+    tests = any-hit .tests;
+  }

@@ -2,17 +2,16 @@
 use mathlib.Core.Bool.{Bool, true, false, cond}
 use mathlib.Core.List.{List, [], _∷_, _++_, append-assoc, append-nil}
 use mathlib.Core.Path.{_≡_, refl, sym, ap, _∙_, subst}
-use Prim.Native.Nat.{ℕ, zero, suc, _+_, _-_, _*_, _≤_, _<_}
+use Prim.Native.Nat.{ℕ, zero, suc, _+_, _-_, _*_, _<_}
 use native.Mathlib.Omega.{arith}
 use native.Mathlib.Decide.{decLt}
 use lib.ListN.{length}
 use Rattle.soundness.specs.Shape.{Shape}
-use Rattle.soundness.specs.Sound.{Sound}
 use Rattle.walk.specs.Tests.{Tests}
 use Rattle.walk.specs.Step.{Walker, Answer, tested, position, done, refused, fresh, Stepped, stepOf, tellOf}
 use Rattle.walk.specs.Calls.{Op, runOps, reportOf, reported, Answered}
 use Rattle.walk.specs.Queries.{Reaction, Outcome, toldAll, follow, query, tellings, callsAfter, calls, stepsFor, append, Going, Halted, Ended}
-use Rattle.walk.specs.Lawful.{Lawful, Present, Narrow}
+use Rattle.walk.specs.Lawful.{SoundTests, Unrefused, Narrow}
 use Rattle.walk.proofs.Dues.{report-hand}
 use Rattle.walk.proofs.Cases.{cond-elim, step-cases}
 use Rattle.walk.proofs.Valid.{Valid, step-valid, step-answered, tell-valid, fresh-valid, empty-step}
@@ -139,14 +138,14 @@ any-hit-run {s} m T (suc f) n w x = go (stepOf m T n w .answer) (stepOf m T n w 
 
 -- ---- a sound record
 
-module _ {s d a : Type 0} (S : Shape) (Rule : ℕ → Type 0) (T : Tests s d) (L : Lawful S Rule T) (sound : Sound S Rule)
-    (few-positions : S .positions ≤ 65536) (few-nodes : S .nodes ≤ 65535) (present : Present S T) (react : ℕ → s → a → Reaction d a) where
-  told-valid : (l : List d) (w : Walker s) → Valid S Rule T L sound w → Valid S Rule T L sound (toldAll T l w)
+module _ {s d a : Type 0} {S : Shape} {Rule : ℕ → Type 0} {T : Tests s d} (K : SoundTests S Rule T) (U : Unrefused S T)
+    (react : ℕ → s → a → Reaction d a) where
+  told-valid : (l : List d) (w : Walker s) → Valid K w → Valid K (toldAll T l w)
   told-valid [] w v = v
-  told-valid (x ∷ l) w v = told-valid l (tellOf T x w) (tell-valid S Rule T L sound x w v)
+  told-valid (x ∷ l) w v = told-valid l (tellOf T x w) (tell-valid K x w v)
 
   -- the walk refuses no query
-  ends : (f : ℕ) (w : Walker s) (x : a) → Valid S Rule T L sound w → Halted (query (S .nodes) T react f (S .positions) w x .ended)
+  ends : (f : ℕ) (w : Walker s) (x : a) → Valid K w → Halted (query (S .nodes) T react f (S .positions) w x .ended)
       → Ended (query (S .nodes) T react f (S .positions) w x .ended)
   unfolding query
   ends zero w x v = λ h. h
@@ -154,16 +153,16 @@ module _ {s d a : Type 0} (S : Shape) (Rule : ℕ → Type 0) (T : Tests s d) (L
       follow-cases (S .nodes) T react (λ (o : Outcome s a). Halted (o .ended) → Ended (o .ended))
       (stepOf (S .nodes) T (S .positions) w .answer) (stepOf (S .nodes) T (S .positions) w .walker) x (query (S .nodes) T react f (S .positions))
       (λ g l y. ends f (toldAll T l (stepOf (S .nodes) T (S .positions) w .walker)) y
-      (told-valid l (stepOf (S .nodes) T (S .positions) w .walker) (step-valid S Rule T L sound (S .positions) w v)))
+      (told-valid l (stepOf (S .nodes) T (S .positions) w .walker) (step-valid K (S .positions) w v)))
       (λ p l y h. h) (λ h. h)
-      (λ e z h. absurd (subst Answered z (step-answered S Rule T L sound few-positions few-nodes present w v)))
+      (λ e z h. absurd (subst Answered z (step-answered K U w v)))
 
   -- a query from a walker just begun is done, or stops at a position
-  pub query-answered : Narrow (S .nodes) T → (ray : s) → T .forged ray ≡ false → (x : a)
+  pub query-answered : (ray : s) → T .forged ray ≡ false → (x : a)
       → Ended (query (S .nodes) T react (stepsFor (S .nodes)) (S .positions) (fresh ray) x .ended)
   unfolding query
-  query-answered narrow ray f x = go (decLt 0 (S .nodes))
+  query-answered ray f x = go (decLt 0 (S .nodes))
     where
       go : Dec (0 < S .nodes) → Ended (query (S .nodes) T react (stepsFor (S .nodes)) (S .positions) (fresh ray) x .ended)
-      go (yes h) = ends (stepsFor (S .nodes)) (fresh ray) x (fresh-valid S Rule T L sound h ray f) (query-halts (S .nodes) T narrow react (S .positions) ray x)
-      go (no h) = let e : S .nodes ≡ 0 = omega arith in rw (e, empty-step T (S .positions) ray few-positions f) tt
+      go (yes h) = ends (stepsFor (S .nodes)) (fresh ray) x (fresh-valid K h ray f) (query-halts (S .nodes) T (U .narrow) react (S .positions) ray x)
+      go (no h) = let e : S .nodes ≡ 0 = omega arith in rw (e, empty-step T (S .positions) ray (U .positions) f) tt

@@ -6,19 +6,19 @@ use native.Mathlib.Omega.{arith}
 use lib.ListN.{length}
 use Rattle.soundness.specs.Range.{inRange}
 use Rattle.soundness.specs.Shape.{Shape, Level}
-use Rattle.soundness.specs.Sound.{Sound, Deepest}
+use Rattle.soundness.specs.Sound.{Deepest}
 use Rattle.soundness.proofs.Once.{counts-child}
 use Rattle.soundness.proofs.Sound.{child-node}
 use Rattle.walk.specs.Tests.{Tests}
 use Rattle.walk.specs.Step.{Walker, fresh, Stepped, Due, report, test, nothing, dueOnStack, dueOf, push, afterTest, stepOf, tellOf}
 use Rattle.walk.specs.Calls.{Op, step, tell, runOps}
 use Rattle.walk.specs.Listing.{In}
-use Rattle.walk.specs.Lawful.{Lawful}
+use Rattle.walk.specs.Lawful.{SoundTests}
 use Rattle.walk.proofs.Lists.{in-head, in-tail, in-none}
 use Rattle.walk.proofs.Dues.{test-hand, no-hand}
 use Rattle.walk.proofs.Cases.{Visits, step-cases}
 
-module _ {s d : Type 0} (S : Shape) (Rule : ℕ → Type 0) (T : Tests s d) (L : Lawful S Rule T) (sound : Sound S Rule) where
+module _ {s d : Type 0} {S : Shape} {Rule : ℕ → Type 0} {T : Tests s d} (K : SoundTests S Rule T) where
   -- node c exists and lies at level a or deeper
   pub record Deep (a c : ℕ) : Type 0 where
     pub node : c < S .nodes
@@ -86,7 +86,12 @@ module _ {s d : Type 0} (S : Shape) (Rule : ℕ → Type 0) (T : Tests s d) (L :
   unfolding Level
   child-deep a c x h i =
       let k = counts-child S c x (h .node) i in
-      record { node = child-node S Rule (L .placed) sound c x k .1; level = suc (h .level); at-level = (c, k, h .at-level); deep = omega (arith, h .deep) }
+      record {
+        node = child-node S Rule (K .lawful .placed) (K .sound) c x k .1;
+        level = suc (h .level);
+        at-level = (c, k, h .at-level);
+        deep = omega (arith, h .deep);
+      }
 
   hand-of : (l : List ℕ) (st : List (List ℕ)) → AllDeep (suc (length st)) l → InHand l st
   hand-of [] st f = tt
@@ -102,7 +107,8 @@ module _ {s d : Type 0} (S : Shape) (Rule : ℕ → Type 0) (T : Tests s d) (L :
       let a = at-node w c r st l (v .is-due) in
       record {
         in-hand = hand-of (T .children (w .ray) c) (push r st) (λ x i.
-            child-deep (length (push r st)) c x (a .this (v .node)) (omega (arith, L .own-children (w .ray) c x (v .accepted) (v .node) (sound .rule c (v .node)))));
+            child-deep (length (push r st)) c x (a .this (v .node))
+            (omega (arith, K .lawful .own-children (w .ray) c x (v .accepted) (v .node) (K .sound .rule c (v .node)))));
         waiting = push-waiting r st (a .rest) (a .below);
       }
 

@@ -11,14 +11,12 @@ pub mod Ends
 pub mod AnyHit
 pub mod Falling
 pub mod Slots
-pub mod Demands
 pub mod Words
 pub mod Stacks
 pub mod WordStep
 pub mod WordRuns
 pub mod Masks
 pub mod WordQueries
-pub mod WordDemands
 pub mod WordKept
 pub mod WordEnds
 pub mod Reports

@@ -6,23 +6,20 @@ use mathlib.Core.Path.{_≡_, refl, sym, subst}
 use Prim.Native.Nat.{ℕ, zero, suc, _+_, _≤_, _<_}
 use native.Mathlib.Omega.{arith}
 use native.Mathlib.Decide.{decLt}
-use lib.ListN.{length}
 use Rattle.lists.specs.Counts.{same, count, upto}
 use Rattle.lists.proofs.Counts.{count-append, count-among}
-use Rattle.lists.proofs.Sums.{distinct-length}
 use Rattle.soundness.specs.Shape.{Shape, held}
-use Rattle.soundness.specs.Sound.{Sound}
 use Rattle.walk.specs.Tests.{Tests}
 use Rattle.walk.specs.Listing.{In, flat, gather, Reached, first, child, Passed, listing, reachedFrom}
-use Rattle.walk.specs.Lawful.{Lawful}
+use Rattle.walk.specs.Lawful.{SoundTests}
 use Rattle.walk.proofs.Lists.{in-head, in-none, in-one, in-left, in-right, in-append, in-flat, flat-in, count-flat, joined-sum, sum-over-mono, sum-over-part, sum-upto, sum-same}
 use Rattle.walk.proofs.Gather.{Rising, gather-none, gather-is}
 use Rattle.walk.proofs.Subtrees.{childRange, child-rises, range-ends, held-ends, total-first, total-once}
 use Rattle.walk.proofs.Once.{children-part}
 
-module _ {s d : Type 0} (S : Shape) (Rule : ℕ → Type 0) (T : Tests s d) (L : Lawful S Rule T) (sound : Sound S Rule) (ray : s) (accepted : T .forged ray ≡ false) where
+module _ {s d : Type 0} {S : Shape} {Rule : ℕ → Type 0} {T : Tests s d} (K : SoundTests S Rule T) (ray : s) (accepted : T .forged ray ≡ false) where
   pub passed-rises : Rising (S .nodes) (T .children ray)
-  passed-rises v h c i = child-rises S Rule (L .placed) sound v h c (omega (arith, children-part S Rule T L sound ray v c accepted h))
+  passed-rises v h c i = child-rises S Rule (K .lawful .placed) (K .sound) v h c (omega (arith, children-part K ray v c accepted h))
 
   -- a node's listing: its passed positions, then its passed children's listings
   pub listing-is : (v : ℕ) → v < S .nodes → listing (S .nodes) T ray v ≡ T .positions ray v ++ flat (listing (S .nodes) T ray) (T .children ray v)
@@ -85,8 +82,8 @@ module _ {s d : Type 0} (S : Shape) (Rule : ℕ → Type 0) (T : Tests s d) (L :
           count-append x (w v) (flat (all k) (T .children ray v)),
           count-flat x (all k) (T .children ray v),
           sum-over-mono (λ u. count x (all k u)) (gather 0 _+_ (childRange S) f k) (T .children ray v) (λ c i. gathered-le x k c f h (passed-rises v l c i .1)),
-          sum-over-part (S .nodes) (gather 0 _+_ (childRange S) f k) (T .children ray v) (childRange S v) (λ c. children-part S Rule T L sound ray v c accepted l)
-              (λ c j. range-ends S Rule (L .placed) sound v c l j),
+          sum-over-part (S .nodes) (gather 0 _+_ (childRange S) f k) (T .children ray v) (childRange S v) (λ c. children-part K ray v c accepted l)
+              (λ c j. range-ends S Rule (K .lawful .placed) (K .sound) v c l j),
           joined-sum (gather 0 _+_ (childRange S) f k) (childRange S v),
         )
 
@@ -108,8 +105,9 @@ module _ {s d : Type 0} (S : Shape) (Rule : ℕ → Type 0) (T : Tests s d) (L :
       go (yes h) =
           omega (
             arith,
-            gathered-le (T .positions ray) p (S .nodes) 0 (λ v. held S v p) (λ u l. L .own-positions ray u p accepted l (sound .rule u l)) h,
-            total-once S Rule (L .placed) sound p,
+            gathered-le (T .positions ray) p (S .nodes) 0 (λ v. held S v p)
+                (λ u l. K .lawful .own-positions ray u p accepted l (K .sound .rule u l)) h,
+            total-once S Rule (K .lawful .placed) (K .sound) p,
           )
       go (no h) = omega (arith, no-nodes (T .positions ray) p (omega arith))
 
@@ -121,7 +119,8 @@ module _ {s d : Type 0} (S : Shape) (Rule : ℕ → Type 0) (T : Tests s d) (L :
       go (no h) =
           let u = q .0 in
           let l = reached-node u (q .1) in
-          absurd (omega (arith, q .2, L .own-positions ray u p accepted l (sound .rule u l), held-ends S Rule (L .placed) sound u p l (omega arith)))
+          let none = held-ends S Rule (K .lawful .placed) (K .sound) u p l (omega arith) in
+          absurd (omega (arith, q .2, K .lawful .own-positions ray u p accepted l (K .sound .rule u l), none))
 
   -- ---- nodes
 
@@ -143,17 +142,9 @@ module _ {s d : Type 0} (S : Shape) (Rule : ℕ → Type 0) (T : Tests s d) (L :
           omega (
             arith,
             gathered-le (λ u. u ∷ []) v (S .nodes) 0 (λ u. same v u) (λ u k. omega arith) (omega arith),
-            total-first S Rule (L .placed) sound (λ u. same v u) (omega arith),
+            total-first S Rule (K .lawful .placed) (K .sound) (λ u. same v u) (omega arith),
             sum-upto (λ u. same v u) (S .nodes),
             sum-same v (upto 0 (S .nodes)),
             count-among v 0 (S .nodes) (omega arith) (omega arith),
           )
       go (no i) = omega arith
-
-  -- no more nodes are reached than there are
-  pub reached-most : length (reachedFrom (S .nodes) T ray 0) ≤ S .nodes
-  reached-most = distinct-length (S .nodes) (reachedFrom (S .nodes) T ray 0) reached-once (λ x l. none x l (decLt 0 (count x (reachedFrom (S .nodes) T ray 0))))
-    where
-      none : (x : ℕ) → S .nodes ≤ x → Dec (0 < count x (reachedFrom (S .nodes) T ray 0)) → count x (reachedFrom (S .nodes) T ray 0) ≡ 0
-      none x l (yes i) = absurd (omega (arith, reached-node x (reached-in x .0 i)))
-      none x l (no i) = omega arith

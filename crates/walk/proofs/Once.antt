@@ -9,12 +9,11 @@ use Rattle.lists.specs.Sums.{sumOver}
 use Rattle.lists.proofs.Counts.{count-append}
 use Rattle.lists.proofs.Perms.{no-duplicates}
 use Rattle.soundness.specs.Shape.{Shape, held}
-use Rattle.soundness.specs.Sound.{Sound}
 use Rattle.soundness.proofs.Range.{count-range}
 use Rattle.walk.specs.Tests.{Tests}
 use Rattle.walk.specs.Step.{Walker, fresh, Stepped, afterTest, stepOf, tellOf}
 use Rattle.walk.specs.Calls.{Op, step, tell, runOps, reportOf, reported}
-use Rattle.walk.specs.Lawful.{Lawful}
+use Rattle.walk.specs.Lawful.{SoundTests}
 use Rattle.walk.proofs.Lists.{sum-over-part}
 use Rattle.walk.proofs.Dues.{sums, push-sums, report-hand, test-hand, test-sum}
 use Rattle.walk.proofs.Cases.{Visits, step-cases}
@@ -24,10 +23,10 @@ use Rattle.walk.proofs.Subtrees.{childRange, total, total-is, range-end
 abbrev pub left : {s : Type 0} → (ℕ → ℕ) → Walker s → ℕ
 left f w = sumOver f (w .group) + sums f (w .stack)
 
-module _ {s d : Type 0} (S : Shape) (Rule : ℕ → Type 0) (T : Tests s d) (L : Lawful S Rule T) (sound : Sound S Rule) where
+module _ {s d : Type 0} {S : Shape} {Rule : ℕ → Type 0} {T : Tests s d} (K : SoundTests S Rule T) where
   -- the children that a ray passes are a part of the child range
   pub children-part : (ray : s) (v c : ℕ) → T .forged ray ≡ false → v < S .nodes → count c (T .children ray v) ≤ count c (childRange S v)
-  children-part ray v c f h = omega (arith, L .own-children ray v c f h (sound .rule v h), count-range c (S .base v) (S .children v))
+  children-part ray v c f h = omega (arith, K .lawful .own-children ray v c f h (K .sound .rule v h), count-range c (S .base v) (S .children v))
 
   -- a test of c takes c's own weight from what is left, and perhaps more
   pub left-falls : (f : ℕ → ℕ) (n : ℕ) (w : Walker s) (c : ℕ) (r : List ℕ) (st : List (List ℕ)) → Visits (S .nodes) T n w c r st
@@ -36,10 +35,10 @@ module _ {s d : Type 0} (S : Shape) (Rule : ℕ → Type 0) (T : Tests s d) (L :
       omega (
         arith,
         test-sum (w .positions) (w .group) (w .stack) c r st (v .is-due) (total S f),
-        total-is S Rule (L .placed) sound f c (v .node),
+        total-is S Rule (K .lawful .placed) (K .sound) f c (v .node),
         push-sums (total S f) r st,
         sum-over-part (S .nodes) (total S f) (T .children (w .ray) c) (childRange S c) (λ x. children-part (w .ray) c x (v .accepted) (v .node))
-            (λ x l. range-ends S Rule (L .placed) sound c x (v .node) l),
+            (λ x l. range-ends S Rule (K .lawful .placed) (K .sound) c x (v .node) l),
       )
 
   -- how often x is in hand, or held by a node that is left to test or lies below one
@@ -57,7 +56,8 @@ module _ {s d : Type 0} (S : Shape) (Rule : ℕ → Type 0) (T : Tests s d) (L :
         reports = λ p ps h. let e : count x (w .positions) ≡ same x p + count x ps = ap (count x) (report-hand (w .positions) (w .group) (w .stack) p ps (h .is-due)) in omega arith;
         visits = λ c r st v.
             let e : count x (w .positions) ≡ 0 = ap (count x) (test-hand (w .positions) (w .group) (w .stack) c r st (v .is-due)) in
-            omega (arith, left-falls (λ u. held S u x) n w c r st v, L .own-positions (w .ray) c x (v .accepted) (v .node) (sound .rule c (v .node)));
+            let own = K .lawful .own-positions (w .ray) c x (v .accepted) (v .node) (K .sound .rule c (v .node)) in
+            omega (arith, left-falls (λ u. held S u x) n w c r st v, own);
       })
 
   run-remaining : (x : ℕ) (l : List (Op d)) (w : Walker s)
@@ -75,7 +75,7 @@ module _ {s d : Type 0} (S : Shape) (Rule : ℕ → Type 0) (T : Tests s d) (L :
 
   pub reported-once : (l : List (Op d)) (ray : s) (x : ℕ) → count x (reported (runOps (S .nodes) T l (fresh ray) .answers)) ≤ 1
   unfolding count sumOver
-  reported-once l ray x = omega (arith, run-remaining x l (fresh ray), total-once S Rule (L .placed) sound x)
+  reported-once l ray x = omega (arith, run-remaining x l (fresh ray), total-once S Rule (K .lawful .placed) (K .sound) x)
 
   -- no position is reported twice
   pub calls-report-once : (l : List (Op d)) (ray : s) → List·Nodup (reported (runOps (S .nodes) T l (fresh ray) .answers))

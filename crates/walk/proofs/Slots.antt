@@ -11,15 +11,22 @@ use Rattle.lists.proofs.Sums.{sum-term}
 use Rattle.lists.proofs.Tells.{Tells, told, tells-true, eqb-tells, true-tells, and-tells}
 use Rattle.words.proofs.Ranks.{bit-is, rank-lt, rank-inj}
 use Rattle.soundness.specs.Range.{inRange}
-use Rattle.soundness.specs.Shape.{Holds, held}
+use Rattle.soundness.specs.Shape.{held}
+use Rattle.soundness.specs.Sound.{Sound}
 use Rattle.soundness.proofs.Range.{in-range, range-stands}
 use Rattle.node.specs.Node.{innerBit, childIndex}
 use Rattle.decode.proofs.Decode.{slot-back}
-use Rattle.walk.specs.Listing.{In, Reached, Passed}
-use Rattle.walk.specs.Listing
-use Rattle.walk.specs.Lawful.{Lawful, Narrow}
-use Rattle.walk.specs.Slots.{Slots, childAt, passedChild, inPassedSlot, passedPosition, positionsOf, childrenOf, testsOf, ReachedBySlots, first, child, PassedBySlots, SlotLaws}
+use Rattle.walk.specs.Listing.{In, ReachedBy, first, child, Reached, Passed}
+use Rattle.walk.specs.Lawful.{Lawful, SoundTests, Narrow}
+use Rattle.walk.specs.Slots.{Slots, childAt, passedChild, inPassedSlot, passedPosition, positionsOf, childrenOf, testsOf}
+use Rattle.walk.specs.Slots.{PassesChild, PassesPosition, ReachedBySlots, PassedBySlots, SlotLaws}
 use Rattle.walk.proofs.Falling.{falling-length, in-falling, falling-in, falling-once, some-tells}
+use Rattle.walk.proofs.Listing.{reached-node}
+
+-- what is reached by one way to pass children is reached by another that passes as many
+pub reached-map : {A B : ℕ → ℕ → Type 0} (m : ℕ) → ((v c : ℕ) → ReachedBy m A v → A v c → B v c) → (v : ℕ) → ReachedBy m A v → ReachedBy m B v
+reached-map m f v (first e h) = first e h
+reached-map m f v (child {v = u} r i) = child (reached-map m f u r) (f u v r i)
 
 -- a list that repeats nothing and has only numbers that are counted
 pub counted : (n k : ℕ) → n ≤ 1 → (0 < n → 0 < k) → n ≤ k
@@ -55,22 +62,31 @@ module _ {s d : Type 0} (W : Slots s d) (Rule : ℕ → Type 0) (laws : SlotLaws
 
   -- a child is found exactly if it stands at a slot of imask that the ray passes
   pub children-iff : (ray : s) (v c : ℕ) → W .forged ray ≡ false
-      → In c (childrenOf W ray v) ↔ ((j : ℕ) × (j < 8) × (innerBit (W .imask v) j ≡ 1) × (W .passes ray v j ≡ true) × (c ≡ childAt W v j))
+      → In c (childrenOf W ray v) ↔ PassesChild W ray v c
   children-iff ray v c f = (to, from)
     where
-      to : In c (childrenOf W ray v) → (j : ℕ) × (j < 8) × (innerBit (W .imask v) j ≡ 1) × (W .passes ray v j ≡ true) × (c ≡ childAt W v j)
+      to : In c (childrenOf W ray v) → PassesChild W ray v c
       to i =
           let q = in-falling c (λ k. childAt W v (bitXor k (W .octant ray))) (λ k. passedChild W ray v (bitXor k (W .octant ray))) 8 i in
           let t = told (child-tells W ray v (bitXor (q .0) (W .octant ray))) (q .2) in
-          (bitXor (q .0) (W .octant ray), xor-lt 3 (q .0) (W .octant ray) (q .1) (laws .octant-lt ray f), t .0, t .1, q .3)
+          record {
+            slot = bitXor (q .0) (W .octant ray);
+            of-eight = xor-lt 3 (q .0) (W .octant ray) (q .1) (laws .octant-lt ray f);
+            inner = t .0;
+            passes = t .1;
+            is-child = q .3;
+          }
 
-      from : (j : ℕ) × (j < 8) × (innerBit (W .imask v) j ≡ 1) × (W .passes ray v j ≡ true) × (c ≡ childAt W v j) → In c (childrenOf W ray v)
+      from : PassesChild W ray v c → In c (childrenOf W ray v)
       from q =
-          let e : bitXor (bitXor (q .0) (W .octant ray)) (W .octant ray) ≡ q .0 = slot-back (q .0) (W .octant ray) (q .1) (laws .octant-lt ray f) in
-          let t : passedChild W ray v (bitXor (bitXor (q .0) (W .octant ray)) (W .octant ray)) ≡ true = rw e (tells-true (child-tells W ray v (q .0)) (q .2, q .3)) in
-          subst (λ (x : ℕ). In x (childrenOf W ray v)) (ap (childAt W v) e ∙ sym (q .4))
-          (falling-in (λ k. childAt W v (bitXor k (W .octant ray))) (λ k. passedChild W ray v (bitXor k (W .octant ray))) 8 (bitXor (q .0) (W .octant ray))
-          (xor-lt 3 (q .0) (W .octant ray) (q .1) (laws .octant-lt ray f)) t)
+          let j = q .slot in
+          let o = laws .octant-lt ray f in
+          let e : bitXor (bitXor j (W .octant ray)) (W .octant ray) ≡ j = slot-back j (W .octant ray) (q .of-eight) o in
+          let t : passedChild W ray v (bitXor (bitXor j (W .octant ray)) (W .octant ray)) ≡ true =
+          rw e (tells-true (child-tells W ray v j) (q .inner, q .passes)) in
+          subst (λ (x : ℕ). In x (childrenOf W ray v)) (ap (childAt W v) e ∙ sym (q .is-child))
+          (falling-in (λ k. childAt W v (bitXor k (W .octant ray))) (λ k. passedChild W ray v (bitXor k (W .octant ray))) 8
+          (bitXor j (W .octant ray)) (xor-lt 3 j (W .octant ray) (q .of-eight) o) t)
 
   slots-apart : (ray : s) (v i j : ℕ) → W .forged ray ≡ false → i < 8 → j < 8 → passedChild W ray v (bitXor i (W .octant ray)) ≡ true → passedChild W ray v (bitXor j (W .octant ray)) ≡ true
       → childAt W v (bitXor i (W .octant ray)) ≡ childAt W v (bitXor j (W .octant ray)) → i ≡ j
@@ -91,32 +107,40 @@ module _ {s d : Type 0} (W : Slots s d) (Rule : ℕ → Type 0) (laws : SlotLaws
       (falling-once c (λ k. childAt W v (bitXor k (W .octant ray))) (λ k. passedChild W ray v (bitXor k (W .octant ray))) 8 (λ i j k l a b e. slots-apart ray v i j f k l a b e))
       (λ i.
       let q = children-iff ray v c f .0 i in
-      let r = rank-lt (q .0) 8 (W .imask v) (q .1) (bit-is (q .0) (W .imask v) ∙ q .2) in
-      omega (arith, in-range c (W .shape .base v) (W .shape .children v) (omega (arith, q .4)) (omega (arith, q .4, laws .ones v h))))
+      let r = rank-lt (q .slot) 8 (W .imask v) (q .of-eight) (bit-is (q .slot) (W .imask v) ∙ q .inner) in
+      omega (arith, in-range c (W .shape .base v) (W .shape .children v) (omega (arith, q .is-child)) (omega (arith, q .is-child, laws .ones v h))))
 
   -- ---- positions
 
   -- a position is found exactly if it stands in the leaf range of a slot that the ray passes, and passes itself
   pub positions-iff : (ray : s) (v x : ℕ) → v < W .shape .nodes → Rule v
-      → In x (positionsOf W ray v) ↔ ((j : ℕ) × Holds (W .shape) v j x × (W .passes ray v j ≡ true) × (W .admits ray x ≡ true))
+      → In x (positionsOf W ray v) ↔ PassesPosition W ray v x
   positions-iff ray v x h rule = (to, from)
     where
-      to : In x (positionsOf W ray v) → (j : ℕ) × Holds (W .shape) v j x × (W .passes ray v j ≡ true) × (W .admits ray x ≡ true)
+      to : In x (positionsOf W ray v) → PassesPosition W ray v x
       to i =
           let q = in-falling x (λ b. W .positionBase v + b) (λ b. passedPosition W ray v (W .positionBase v + b)) 24 i in
           let t = told (position-tells W ray v (W .positionBase v + q .0)) (q .2) in
           let r = subst (λ (y : ℕ). inRange y (W .shape .start v (t .0 .0)) (W .shape .count v (t .0 .0)) ≡ 1) (sym (q .3)) (t .0 .2 .0) in
           let z = range-stands x (W .shape .start v (t .0 .0)) (W .shape .count v (t .0 .0)) (omega arith) in
-          (t .0 .0, record { node = h; slot = t .0 .1; from = z .0; before = z .1 }, t .0 .2 .1, subst (λ (y : ℕ). W .admits ray y ≡ true) (sym (q .3)) (t .1))
+          record {
+            slot = t .0 .0;
+            holds = record { node = h; slot = t .0 .1; from = z .0; before = z .1 };
+            passes = t .0 .2 .1;
+            admitted = subst (λ (y : ℕ). W .admits ray y ≡ true) (sym (q .3)) (t .1);
+          }
 
-      from : (j : ℕ) × Holds (W .shape) v j x × (W .passes ray v j ≡ true) × (W .admits ray x ≡ true) → In x (positionsOf W ray v)
-      from (j, g, p, m) =
+      from : PassesPosition W ray v x → In x (positionsOf W ray v)
+      from q =
+          let j = q .slot in
+          let g = q .holds in
           let a = g .from in
           let b = g .before in
           let u = laws .window v j h rule (g .slot) (omega arith) in
           let e : W .positionBase v + (x - W .positionBase v) ≡ x = omega (arith, u .0) in
+          let i = in-range x (W .shape .start v j) (W .shape .count v j) a b in
           let t : passedPosition W ray v (W .positionBase v + (x - W .positionBase v)) ≡ true =
-          rw e (tells-true (position-tells W ray v x) ((j, g .slot, (in-range x (W .shape .start v j) (W .shape .count v j) a b, p)), m)) in
+          rw e (tells-true (position-tells W ray v x) ((j, g .slot, (i, q .passes)), q .admitted)) in
           subst (λ (y : ℕ). In y (positionsOf W ray v)) e
           (falling-in (λ b. W .positionBase v + b) (λ b. passedPosition W ray v (W .positionBase v + b)) 24 (x - W .positionBase v) (omega (arith, u .0, u .1)) t)
 
@@ -128,13 +152,13 @@ module _ {s d : Type 0} (W : Slots s d) (Rule : ℕ → Type 0) (laws : SlotLaws
       let q = positions-iff ray v x h rule .0 i in
       omega (
         arith,
-        sum-term (λ j. inRange x (W .shape .start v j) (W .shape .count v j)) 8 (q .0) (q .1 .slot),
-        in-range x (W .shape .start v (q .0)) (W .shape .count v (q .0)) (q .1 .from) (q .1 .before),
+        sum-term (λ j. inRange x (W .shape .start v j) (W .shape .count v j)) 8 (q .slot) (q .holds .slot),
+        in-range x (W .shape .start v (q .slot)) (W .shape .count v (q .slot)) (q .holds .from) (q .holds .before),
       ))
 
   -- ---- the tests are those of the shape
 
-  pub slots-lawful : Lawful (W .shape) Rule (testsOf W)
+  slots-lawful : Lawful (W .shape) Rule (testsOf W)
   slots-lawful =
       record {
         passes-rule = laws .passes-rule;
@@ -144,26 +168,48 @@ module _ {s d : Type 0} (W : Slots s d) (Rule : ℕ → Type 0) (laws : SlotLaws
         told-accepted = laws .told-accepted;
       }
 
-  -- ---- reached and passed
+  module _ (sound : Sound (W .shape) Rule) where
+    pub slots-sound : SoundTests (W .shape) Rule (testsOf W)
+    slots-sound = record { lawful = slots-lawful; sound = sound }
 
-  module _ (met : (v : ℕ) → v < W .shape .nodes → Rule v) (ray : s) (accepted : W .forged ray ≡ false) where
-    reached-to : (v : ℕ) → Reached (W .shape .nodes) (testsOf W) ray v → ReachedBySlots W ray v
-    reached-to v (Listing.Reached.first e h) = first e h
-    reached-to v (Listing.Reached.child {v = u} r i) = let q = children-iff ray u v accepted .0 i in child (q .0) (reached-to u r) (q .1) (q .2) (q .3) (q .4)
+    -- ---- reached and passed
 
-    reached-from : (v : ℕ) → ReachedBySlots W ray v → Reached (W .shape .nodes) (testsOf W) ray v
-    reached-from v (first e h) = Listing.Reached.first e h
-    reached-from v (child {v = u} j r h a b e) = Listing.Reached.child (reached-from u r) (children-iff ray u v accepted .1 (j, h, a, b, e))
+    module _ (ray : s) (accepted : W .forged ray ≡ false) where
+      pub reached-iff : (v : ℕ) → Reached (W .shape .nodes) (testsOf W) ray v ↔ ReachedBySlots W ray v
+      reached-iff v = (
+        reached-map (W .shape .nodes) (λ u c r i. children-iff ray u c accepted .0 i) v,
+        reached-map (W .shape .nodes) (λ u c r q. children-iff ray u c accepted .1 q) v,
+      )
 
-    pub reached-iff : (v : ℕ) → Reached (W .shape .nodes) (testsOf W) ray v ↔ ReachedBySlots W ray v
-    reached-iff v = (reached-to v, reached-from v)
+      pub passed-iff : (p : ℕ) → Passed (W .shape .nodes) (testsOf W) ray p ↔ PassedBySlots W ray p
+      passed-iff p = (
+        λ q. let h = reached-node slots-sound ray accepted (q .0) (q .1) in
+            (q .0, reached-iff (q .0) .0 (q .1), positions-iff ray (q .0) p h (sound .rule (q .0) h) .0 (q .2)),
+        λ q. let h = q .2 .holds .node in (q .0, reached-iff (q .0) .1 (q .1), positions-iff ray (q .0) p h (sound .rule (q .0) h) .1 (q .2)),
+      )
 
-    pub passed-iff : (p : ℕ) → ((v : ℕ) → Reached (W .shape .nodes) (testsOf W) ray v → v < W .shape .nodes)
-        → Passed (W .shape .nodes) (testsOf W) ray p ↔ PassedBySlots W ray p
-    passed-iff p node = (to, λ q. (q .node, reached-from (q .node) (q .reached), positions-iff ray (q .node) p (q .holds .node) (met (q .node) (q .holds .node)) .1 (q .slot, q .holds, q .passes, q .admitted)))
-      where
-        to : Passed (W .shape .nodes) (testsOf W) ray p → PassedBySlots W ray p
-        to q =
-            let h = node (q .0) (q .1) in
-            let z = positions-iff ray (q .0) p h (met (q .0) h) .0 (q .2) in
-            record { node = q .0; reached = reached-to (q .0) (q .1); slot = z .0; holds = z .1; passes = z .2; admitted = z .3 }
+-- ---- a ray that passes no more slots and admits no more positions than another
+
+module _ {s d : Type 0} (W : Slots s d) (a b : s) (fewer : (v j : ℕ) → W .passes a v j ≡ true → W .passes b v j ≡ true) where
+  pub fewer-reached : (v : ℕ) → ReachedBySlots W a v → ReachedBySlots W b v
+  fewer-reached =
+      reached-map (W .shape .nodes)
+      (λ v c r q. record {
+        slot = q .slot;
+        of-eight = q .of-eight;
+        inner = q .inner;
+        passes = fewer v (q .slot) (q .passes);
+        is-child = q .is-child;
+      })
+
+  pub fewer-passed : ((p : ℕ) → W .admits a p ≡ true → W .admits b p ≡ true) → (p : ℕ) → PassedBySlots W a p → PassedBySlots W b p
+  fewer-passed admits p q = (
+    q .0,
+    fewer-reached (q .0) (q .1),
+    record {
+      slot = q .2 .slot;
+      holds = q .2 .holds;
+      passes = fewer (q .0) (q .2 .slot) (q .2 .passes);
+      admitted = admits p (q .2 .admitted);
+    },
+  )

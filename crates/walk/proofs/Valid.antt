@@ -11,12 +11,11 @@ use Rattle.lists.specs.Counts.{count}
 use Rattle.lists.specs.Sums.{sumOver}
 use Rattle.lists.proofs.Tells.{clash}
 use Rattle.soundness.specs.Shape.{Shape}
-use Rattle.soundness.specs.Sound.{Sound}
 use Rattle.walk.specs.Tests.{Tests}
 use Rattle.walk.specs.Step.{Walker, done, fresh, Stepped, Due, report, test, nothing, dueOnStack, dueOf, sizesFit, forgedWalker, noRoom, badPosition, badNode, stay, emptied, afterReport, afterTest, stepOf, tellOf}
 use Rattle.walk.specs.Calls.{All, Op, step, tell, runOps, Answered, Brings}
 use Rattle.walk.specs.Listing.{In}
-use Rattle.walk.specs.Lawful.{Lawful, Present}
+use Rattle.walk.specs.Lawful.{SoundTests, Unrefused}
 use Rattle.walk.proofs.Lists.{in-head, in-tail, in-none, in-one}
 use Rattle.walk.proofs.Dues.{report-hand, test-hand, test-sum, no-hand}
 use Rattle.walk.proofs.Cases.{Refusal, too-many, forgery, no-position, no-node, Visits, Reports, step-cases, nothing-due-done}
@@ -32,11 +31,11 @@ has-room : (r : List ℕ) (st : List (List ℕ)) → length st < 32 → noRoom r
 has-room [] st h = refl
 has-room (x ∷ r) st h = lt-leb 32 (length st) h
 
-module _ {s d : Type 0} (S : Shape) (Rule : ℕ → Type 0) (T : Tests s d) (L : Lawful S Rule T) (sound : Sound S Rule) where
+module _ {s d : Type 0} {S : Shape} {Rule : ℕ → Type 0} {T : Tests s d} (K : SoundTests S Rule T) where
   -- what every walker that comes of a fresh one has
   pub record Valid (w : Walker s) : Type 0 where
     pub accepted : T .forged (w .ray) ≡ false
-    pub levels : Levels S Rule T L sound w
+    pub levels : Levels K w
     pub positions : (p : ℕ) → In p (w .positions) → p < S .positions
     pub nodes : (c : ℕ) → In c (w .group) → c < S .nodes
     -- the tests made and the nodes left, with all below them, are no more than there are nodes
@@ -49,12 +48,12 @@ module _ {s d : Type 0} (S : Shape) (Rule : ℕ → Type 0) (T : Tests s d) (L :
   Exists (test c r st) = c < S .nodes
   Exists nothing = Unit {0}
 
-  stack-exists : (st : List (List ℕ)) → Waiting S Rule T L sound st → Exists (dueOnStack st)
+  stack-exists : (st : List (List ℕ)) → Waiting K st → Exists (dueOnStack st)
   stack-exists [] h = tt
   stack-exists ([] ∷ st) h = absurd h
   stack-exists ((c ∷ r) ∷ st) h = h .0 c (in-head c r) .node
 
-  group-exists : (g : List ℕ) (st : List (List ℕ)) → ((c : ℕ) → In c g → c < S .nodes) → Waiting S Rule T L sound st → Exists (dueOf [] g st)
+  group-exists : (g : List ℕ) (st : List (List ℕ)) → ((c : ℕ) → In c g → c < S .nodes) → Waiting K st → Exists (dueOf [] g st)
   group-exists (c ∷ r) st i h = i c (in-head c r)
   group-exists [] st i h = stack-exists st h
 
@@ -66,36 +65,36 @@ module _ {s d : Type 0} (S : Shape) (Rule : ℕ → Type 0) (T : Tests s d) (L :
   -- ---- no refusal
 
   few-groups : (w : Walker s) → Valid w → length (w .stack) ≤ 31
-  few-groups w v = waiting-few S Rule T L sound 31 (sound .levels) (w .stack) (v .levels .waiting)
+  few-groups w v = waiting-few K 31 (K .sound .levels) (w .stack) (v .levels .waiting)
 
   not-forged : (w : Walker s) → Valid w → forgedWalker (S .nodes) T w ≡ false
   not-forged w v =
       rw (v .accepted, le-ltb 32 (length (w .stack)) (omega (arith, few-groups w v)), le-ltb (S .nodes) (w .tests) (omega (arith, v .few)))
 
-  pub no-refusal : S .positions ≤ 65536 → S .nodes ≤ 65535 → Present S T → (w : Walker s) → Valid w → Refusal (S .nodes) T (S .positions) w → ⊥
-  no-refusal hp hn here w v (too-many e) = clash (sym e ∙ fits (S .nodes) (S .positions) hp hn)
-  no-refusal hp hn here w v (forgery e) = clash (sym (not-forged w v) ∙ e)
-  no-refusal hp hn here w v (no-position p ps e b) =
+  pub no-refusal : Unrefused S T → (w : Walker s) → Valid w → Refusal (S .nodes) T (S .positions) w → ⊥
+  no-refusal U w v (too-many e) = clash (sym e ∙ fits (S .nodes) (S .positions) (U .positions) (U .nodes))
+  no-refusal U w v (forgery e) = clash (sym (not-forged w v) ∙ e)
+  no-refusal U w v (no-position p ps e b) =
       let h = report-hand (w .positions) (w .group) (w .stack) p ps e in
       let k : p < S .positions = v .positions p (subst (λ (l : List ℕ). In p l) (sym h) (in-head p ps)) in
-      let z : badPosition T (S .positions) (w .ray) p ≡ false = rw (here (w .ray) p k, lt-leb (S .positions) p k) in
+      let z : badPosition T (S .positions) (w .ray) p ≡ false = rw (U .present (w .ray) p k, lt-leb (S .positions) p k) in
       clash (sym z ∙ b)
-  no-refusal hp hn here w v (no-node c r st e b) =
+  no-refusal U w v (no-node c r st e b) =
       let k = node-exists w v c r st e in
-      let a = at-node S Rule T L sound w c r st (v .levels) e in
+      let a = at-node K w c r st (v .levels) e in
       let t : w .tests < S .nodes =
       omega (
         arith,
         v .few,
         test-sum (w .positions) (w .group) (w .stack) c r st e (total S (λ u. 1)),
-        total-is S Rule (L .placed) sound (λ u. 1) c k,
+        total-is S Rule (K .lawful .placed) (K .sound) (λ u. 1) c k,
       ) in
       let z : badNode (S .nodes) T (S .positions) (w .tests) c r st ≡ false =
       rw (
-        has-room r st (omega (arith, waiting-few S Rule T L sound 31 (sound .levels) st (a .below))),
+        has-room r st (omega (arith, waiting-few K 31 (K .sound .levels) st (a .below))),
         lt-leb (S .nodes) c k,
         lt-leb (S .nodes) (w .tests) t,
-        L .passes-rule c k (sound .rule c k),
+        K .lawful .passes-rule c k (K .sound .rule c k),
       ) in
       clash (sym z ∙ b)
 
@@ -105,16 +104,19 @@ module _ {s d : Type 0} (S : Shape) (Rule : ℕ → Type 0) (T : Tests s d) (L :
   test-valid n w c r st v h =
       record {
         accepted = v .accepted;
-        levels = test-levels S Rule T L sound n w c r st (v .levels) h;
+        levels = test-levels K n w c r st (v .levels) h;
         positions = λ p i. below p i (decLt p (S .positions));
-        nodes = λ x i. child-rises S Rule (L .placed) sound c (h .node) x (omega (arith, children-part S Rule T L sound (w .ray) c x (h .accepted) (h .node))) .1;
-        few = omega (arith, v .few, left-falls S Rule T L sound (λ u. 1) n w c r st h);
+        nodes = λ x i.
+            let part = children-part K (w .ray) c x (h .accepted) (h .node) in
+            child-rises S Rule (K .lawful .placed) (K .sound) c (h .node) x (omega (arith, part)) .1;
+        few = omega (arith, v .few, left-falls K (λ u. 1) n w c r st h);
       }
     where
       below : (p : ℕ) → In p (T .positions (w .ray) c) → Dec (p < S .positions) → p < S .positions
       below p i (yes k) = k
       below p i (no k) =
-          absurd (omega (arith, L .own-positions (w .ray) c p (h .accepted) (h .node) (sound .rule c (h .node)), held-ends S Rule (L .placed) sound c p (h .node) (omega arith)))
+          let own = K .lawful .own-positions (w .ray) c p (h .accepted) (h .node) (K .sound .rule c (h .node)) in
+          absurd (omega (arith, own, held-ends S Rule (K .lawful .placed) (K .sound) c p (h .node) (omega arith)))
 
   pub report-valid : (n : ℕ) (w : Walker s) (p : ℕ) (ps : List ℕ) → Valid w → Reports (S .nodes) T n w p ps → Valid (afterReport w p ps .walker)
   report-valid n w p ps v h =
@@ -148,12 +150,12 @@ module _ {s d : Type 0} (S : Shape) (Rule : ℕ → Type 0) (T : Tests s d) (L :
         visits = λ c r st h. test-valid n w c r st v h;
       })
 
-  pub step-answered : S .positions ≤ 65536 → S .nodes ≤ 65535 → Present S T → (w : Walker s) → Valid w
+  pub step-answered : Unrefused S T → (w : Walker s) → Valid w
       → Answered (stepOf (S .nodes) T (S .positions) w .answer)
-  step-answered hp hn here w v =
+  step-answered U w v =
       step-cases (S .nodes) T (S .positions) w (λ (r : Stepped s). Answered (r .answer))
       (record {
-        refuses = λ e c. absurd (no-refusal hp hn here w v c);
+        refuses = λ e c. absurd (no-refusal U w v c);
         ends = λ f e. tt;
         empties = λ f z o. tt;
         reports = λ p ps h. tt;
@@ -163,7 +165,7 @@ module _ {s d : Type 0} (S : Shape) (Rule : ℕ → Type 0) (T : Tests s d) (L :
   pub tell-valid : (x : d) (w : Walker s) → Valid w → Valid (tellOf T x w)
   tell-valid x w v =
       record {
-        accepted = L .told-accepted x (w .ray) (v .accepted);
+        accepted = K .lawful .told-accepted x (w .ray) (v .accepted);
         levels = record { in-hand = v .levels .in-hand; waiting = v .levels .waiting };
         positions = v .positions;
         nodes = v .nodes;
@@ -175,30 +177,30 @@ module _ {s d : Type 0} (S : Shape) (Rule : ℕ → Type 0) (T : Tests s d) (L :
   fresh-valid h ray f =
       record {
         accepted = f;
-        levels = fresh-levels S Rule T L sound ray;
+        levels = fresh-levels K ray;
         positions = λ p i. in-none p i;
         nodes = λ c i. let e : c ≡ 0 = in-one c 0 i in rw e h;
-        few = omega (arith, total-ones S Rule (L .placed) sound h);
+        few = omega (arith, total-ones S Rule (K .lawful .placed) (K .sound) h);
       }
 
   -- ---- lists of calls
 
-  run-answered : S .positions ≤ 65536 → S .nodes ≤ 65535 → Present S T → (l : List (Op d)) (w : Walker s) → All (Brings (S .positions)) l
+  run-answered : Unrefused S T → (l : List (Op d)) (w : Walker s) → All (Brings (S .positions)) l
       → Valid w → All Answered (runOps (S .nodes) T l w .answers)
   unfolding runOps
-  run-answered hp hn here [] w a v = tt
-  run-answered hp hn here (step n ∷ l) w a v =
+  run-answered U [] w a v = tt
+  run-answered U (step n ∷ l) w a v =
       let e : n ≡ S .positions = a .0 in
-      let g : Answered (stepOf (S .nodes) T n w .answer) = rw e (step-answered hp hn here w v) in
-      (g, run-answered hp hn here l (stepOf (S .nodes) T n w .walker) (a .1) (step-valid n w v))
-  run-answered hp hn here (tell x ∷ l) w a v = run-answered hp hn here l (tellOf T x w) (a .1) (tell-valid x w v)
+      let g : Answered (stepOf (S .nodes) T n w .answer) = rw e (step-answered U w v) in
+      (g, run-answered U l (stepOf (S .nodes) T n w .walker) (a .1) (step-valid n w v))
+  run-answered U (tell x ∷ l) w a v = run-answered U l (tellOf T x w) (a .1) (tell-valid x w v)
 
 -- without nodes a walker just begun is done without a test
 pub empty-step : {s d : Type 0} (T : Tests s d) (n : ℕ) (ray : s) → n ≤ 65536 → T .forged ray ≡ false → stepOf 0 T n (fresh ray) ≡ emptied (fresh ray)
 unfolding stepOf
 empty-step T n ray h f = rw (le-leb n 65536 h, f)
 
-module _ {s d : Type 0} (S : Shape) (Rule : ℕ → Type 0) (T : Tests s d) (L : Lawful S Rule T) (sound : Sound S Rule) where
+module _ {s d : Type 0} {S : Shape} {Rule : ℕ → Type 0} {T : Tests s d} (K : SoundTests S Rule T) where
   -- a walker that holds nothing is done at every step
   over-answered : S .nodes ≡ 0 → S .positions ≤ 65536 → (l : List (Op d)) (ray : s) → T .forged ray ≡ false → All (Brings (S .positions)) l
       → All Answered (runOps (S .nodes) T l (emptied (fresh ray) .walker) .answers)
@@ -208,7 +210,7 @@ module _ {s d : Type 0} (S : Shape) (Rule : ℕ → Type 0) (T : Tests s d) (L :
       let z : stepOf (S .nodes) T n (emptied (fresh ray) .walker) ≡ stay (emptied (fresh ray) .walker) done =
       nothing-due-done (S .nodes) T n (emptied (fresh ray) .walker) refl (fits (S .nodes) n (omega (arith, a .0)) (omega arith)) (rw (f, le-ltb (S .nodes) 0 (omega arith))) in
       rw z (tt, over-answered e h l ray f (a .1))
-  over-answered e h (tell x ∷ l) ray f a = over-answered e h l (T .told x ray) (L .told-accepted x ray f) (a .1)
+  over-answered e h (tell x ∷ l) ray f a = over-answered e h l (T .told x ray) (K .lawful .told-accepted x ray f) (a .1)
 
   empty-answered : S .nodes ≡ 0 → S .positions ≤ 65536 → (l : List (Op d)) (ray : s) → T .forged ray ≡ false → All (Brings (S .positions)) l
       → All Answered (runOps (S .nodes) T l (fresh ray) .answers)
@@ -218,14 +220,14 @@ module _ {s d : Type 0} (S : Shape) (Rule : ℕ → Type 0) (T : Tests s d) (L :
       let k : n ≤ 65536 = omega (arith, a .0) in
       let z : stepOf (S .nodes) T n (fresh ray) ≡ emptied (fresh ray) = rw e (empty-step T n ray k f) in
       rw z (tt, over-answered e h l ray f (a .1))
-  empty-answered e h (tell x ∷ l) ray f a = empty-answered e h l (T .told x ray) (L .told-accepted x ray f) (a .1)
+  empty-answered e h (tell x ∷ l) ray f a = empty-answered e h l (T .told x ray) (K .lawful .told-accepted x ray f) (a .1)
 
   -- no step of any list that brings the record's own count is refused
-  pub calls-answered : S .positions ≤ 65536 → S .nodes ≤ 65535 → Present S T → (l : List (Op d)) (ray : s) → T .forged ray ≡ false
+  pub calls-answered : Unrefused S T → (l : List (Op d)) (ray : s) → T .forged ray ≡ false
       → All (Brings (S .positions)) l
       → All Answered (runOps (S .nodes) T l (fresh ray) .answers)
-  calls-answered hp hn here l ray f a = go (decLt 0 (S .nodes))
+  calls-answered U l ray f a = go (decLt 0 (S .nodes))
     where
       go : Dec (0 < S .nodes) → All Answered (runOps (S .nodes) T l (fresh ray) .answers)
-      go (yes h) = run-answered S Rule T L sound hp hn here l (fresh ray) a (fresh-valid S Rule T L sound h ray f)
-      go (no h) = empty-answered (omega arith) hp l ray f a
+      go (yes h) = run-answered K U l (fresh ray) a (fresh-valid K h ray f)
+      go (no h) = empty-answered (omega arith) (U .positions) l ray f a

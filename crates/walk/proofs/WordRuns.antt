@@ -16,7 +16,9 @@ use Rattle.walk.specs.Tests.{Tests}
 use Rattle.walk.specs.Step.{Answer, tested, position, done, refused, Stepped, fresh, sizesFit, tellOf}
 use Rattle.walk.specs.Calls.{Op, step, tell, Run, runOps}
 use Rattle.walk.specs.Words.{Group, packed, unpacked, positionsIn, childrenIn, groupsIn, restOf, firstPosition, firstChild, hasChild, waitingDepth}
-use Rattle.walk.specs.WordStep.{WalkerWords, SteppedWords, NodeWords, freshWords, forgedWords, onlyFirstWords, badChild, stayWords, emptiedWords, afterReportWords, afterTestWords, leaving, pastSkips, visitWords, reportWords, popWords, turnWords, advanceWords, stepWords, tellWords, RunWords, runWords, decoded, InRange, testsWith, Decodes}
+use Rattle.walk.specs.WordStep.{WalkerWords, SteppedWords, NodeWords, freshWords, forgedWords, onlyFirstWords, badChild, stayWords}
+use Rattle.walk.specs.WordStep.{emptiedWords, afterReportWords, afterTestWords, leaving, pastSkips, visitWords, reportWords, popWords}
+use Rattle.walk.specs.WordStep.{turnWords, advanceWords, stepWords, tellWords, runWords, decoded, decodedRun, InRange, testsWith, Decodes}
 use Rattle.walk.proofs.Cases.{cond-elim}
 use Rattle.walk.proofs.Words.{positions-none, children-none, children-first, rest-lt}
 use Rattle.walk.proofs.Stacks.{top-bits, pushed-length, pushed-words}
@@ -133,10 +135,7 @@ module _ {s d : Type 0} (m : ℕ) (N : NodeWords s d) (ps cs : s → ℕ → Lis
 
   -- ---- lists of calls
 
-  abbrev pub decodedRun : RunWords s → Run s
-  decodedRun r = record { walker = decoded N (r .walker); answers = r .answers }
-
-  pub run-decoded : (l : List (Op d)) (w : WalkerWords s) → InRange w → decodedRun (runWords m N l w) ≡ runOps m T l (decoded N w)
+  pub run-decoded : (l : List (Op d)) (w : WalkerWords s) → InRange w → decodedRun N (runWords m N l w) ≡ runOps m T l (decoded N w)
   unfolding runWords runOps
   run-decoded [] w i = refl
   run-decoded (step n ∷ l) w i =
@@ -144,5 +143,5 @@ module _ {s d : Type 0} (m : ℕ) (N : NodeWords s d) (ps cs : s → ℕ → Lis
       ∙ ap (λ (r : Stepped s). record { walker = runOps m T l (r .walker) .walker; answers = r .answer ∷ runOps m T l (r .walker) .answers }) (step-decoded m N ps cs D n w i)
   run-decoded (tell x ∷ l) w i = run-decoded l (tellWords N x w) (tell-range x w i) ∙ ap (runOps m T l) (tell-decoded x w)
 
-  pub calls-decoded : (l : List (Op d)) (r : s) → T .forged r ≡ false → decodedRun (runWords m N l (freshWords r)) ≡ runOps m T l (fresh r)
+  pub calls-decoded : (l : List (Op d)) (r : s) → T .forged r ≡ false → decodedRun N (runWords m N l (freshWords r)) ≡ runOps m T l (fresh r)
   calls-decoded l r f = run-decoded l (freshWords r) (fresh-range r) ∙ ap (runOps m T l) (fresh-decoded r f)

@@ -6,6 +6,7 @@ use lib.ListN.{length}
 use Rattle.lists.specs.Counts.{count}
 use Rattle.soundness.specs.Range.{inRange}
 use Rattle.soundness.specs.Shape.{Shape, held, Placed}
+use Rattle.soundness.specs.Sound.{Sound}
 use Rattle.walk.specs.Tests.{Tests}
 
 pub record Lawful {s d : Type 0} (S : Shape) (Rule : ℕ → Type 0) (T : Tests s d) : Type 0 where
@@ -19,10 +20,18 @@ pub record Lawful {s d : Type 0} (S : Shape) (Rule : ℕ → Type 0) (T : Tests 
   -- telling makes no ray a forged one
   pub told-accepted : (x : d) (ray : s) → T .forged ray ≡ false → T .forged (T .told x ray) ≡ false
 
--- none of the record's positions is absent
-abbrev pub Present : {s d : Type 0} → Shape → Tests s d → Type 0
-Present {s} S T = (ray : s) (p : ℕ) → p < S .positions → T .absent ray p ≡ false
+-- a sound record and lawful tests of it
+pub record SoundTests {s d : Type 0} (S : Shape) (Rule : ℕ → Type 0) (T : Tests s d) : Type 0 where
+  pub lawful : Lawful S Rule T
+  pub sound : Sound S Rule
 
 -- a node that meets the rule has at most 24 positions
 abbrev pub Narrow : {s d : Type 0} → ℕ → Tests s d → Type 0
 Narrow {s} m T = (ray : s) (n v : ℕ) → T .forged ray ≡ false → v < m → T .rule n v ≡ true → length (T .positions ray v) ≤ 24
+
+-- nothing refuses walks over a sound record: its sizes fit, none of its positions is absent, and nodes are narrow
+pub record Unrefused {s d : Type 0} (S : Shape) (T : Tests s d) : Type 0 where
+  pub positions : S .positions ≤ 65536
+  pub nodes : S .nodes ≤ 65535
+  pub present : (ray : s) (p : ℕ) → p < S .positions → T .absent ray p ≡ false
+  pub narrow : Narrow (S .nodes) T

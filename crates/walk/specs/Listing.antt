@@ -26,17 +26,25 @@ module _ {A : Type 0} (e : A) (op : A → A → A) where
 abbrev pub flat : (ℕ → List ℕ) → List ℕ → List ℕ
 flat f l = joined [] _++_ f l
 
--- ---- a ray over a record of m nodes
+-- ---- reached and passed (01, "Walking")
+
+-- Of m nodes the first is reached, and with a node v each child c that is passed in it: `Child v c` says so.
+pub data ReachedBy (m : ℕ) (Child : ℕ → ℕ → Type 0) : ℕ → Type 0 where
+  first : {v : ℕ} → v ≡ 0 → 0 < m → ReachedBy m Child v
+  child : {v c : ℕ} → ReachedBy m Child v → Child v c → ReachedBy m Child c
+
+-- Position p is passed: `Position v p` says so of a reached node v.
+abbrev pub PassedBy : ℕ → (ℕ → ℕ → Type 0) → (ℕ → ℕ → Type 0) → ℕ → Type 0
+PassedBy m Child Position p = (v : ℕ) × ReachedBy m Child v × Position v p
+
+-- ---- a ray over a record of m nodes, by the lists that its tests give
 
 module _ {s d : Type 0} (m : ℕ) (T : Tests s d) (ray : s) where
-  -- node 0 is reached, and with a node all children that the ray passes in it (01, "Walking")
-  pub data Reached : ℕ → Type 0 where
-    first : {v : ℕ} → v ≡ 0 → 0 < m → Reached v
-    child : {v c : ℕ} → Reached v → In c (T .children ray v) → Reached c
+  abbrev pub Reached : ℕ → Type 0
+  Reached = ReachedBy m (λ v c. In c (T .children ray v))
 
-  -- p is passed: some reached node has it among the positions that the ray passes
   abbrev pub Passed : ℕ → Type 0
-  Passed p = (v : ℕ) × Reached v × In p (T .positions ray v)
+  Passed = PassedBy m (λ v c. In c (T .children ray v)) (λ v p. In p (T .positions ray v))
 
   -- Node v's listing: its passed positions, then the listings of its passed children, each in the order of the tests. Levels run to m at most.
   abbrev pub listing : ℕ → List ℕ

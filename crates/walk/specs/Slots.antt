@@ -10,6 +10,7 @@ use Rattle.soundness.specs.Range.{inRange}
 use Rattle.soundness.specs.Shape.{Shape, Holds, Placed}
 use Rattle.node.specs.Node.{innerBit, childIndex}
 use Rattle.walk.specs.Tests.{Tests}
+use Rattle.walk.specs.Listing.{ReachedBy, PassedBy}
 
 -- f of each number below w that passes the test, the highest number first
 abbrev pub falling : (ℕ → ℕ) → (ℕ → Bool) → ℕ → List ℕ
@@ -69,19 +70,26 @@ module _ {s d : Type 0} (W : Slots s d) where
 
   -- ---- in the words of the demand
 
-  -- node 0 is reached, and with a node each child in a slot that the ray passes (01, "Walking")
-  pub data ReachedBySlots (ray : s) : ℕ → Type 0 where
-    first : {v : ℕ} → v ≡ 0 → 0 < W .shape .nodes → ReachedBySlots ray v
-    child : {v c : ℕ} (j : ℕ) → ReachedBySlots ray v → j < 8 → innerBit (W .imask v) j ≡ 1 → W .passes ray v j ≡ true → c ≡ childAt v j → ReachedBySlots ray c
-
-  -- p is passed: it stands in a slot that the ray passes, in a reached node, and the ray admits it
-  pub record PassedBySlots (ray : s) (p : ℕ) : Type 0 where
-    pub node : ℕ
-    pub reached : ReachedBySlots ray node
+  -- node c is the child of node v in a slot that the ray passes
+  pub record PassesChild (ray : s) (v c : ℕ) : Type 0 where
     pub slot : ℕ
-    pub holds : Holds (W .shape) node slot p
-    pub passes : W .passes ray node slot ≡ true
+    pub of-eight : slot < 8
+    pub inner : innerBit (W .imask v) slot ≡ 1
+    pub passes : W .passes ray v slot ≡ true
+    pub is-child : c ≡ childAt v slot
+
+  -- position p stands in a slot of node v that the ray passes, and the ray admits it
+  pub record PassesPosition (ray : s) (v p : ℕ) : Type 0 where
+    pub slot : ℕ
+    pub holds : Holds (W .shape) v slot p
+    pub passes : W .passes ray v slot ≡ true
     pub admitted : W .admits ray p ≡ true
+
+  abbrev pub ReachedBySlots : s → ℕ → Type 0
+  ReachedBySlots ray = ReachedBy (W .shape .nodes) (PassesChild ray)
+
+  abbrev pub PassedBySlots : s → ℕ → Type 0
+  PassedBySlots ray = PassedBy (W .shape .nodes) (PassesChild ray) (PassesPosition ray)
 
   -- ---- what makes the tests those of a record of this shape
 

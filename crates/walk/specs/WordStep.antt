@@ -8,7 +8,7 @@ use lib.ListN.{length, getD, replicate}
 use Rattle.faststack.specs.Stack.{capacity, hasRoom, pushed, topOf}
 use Rattle.walk.specs.Tests.{Tests}
 use Rattle.walk.specs.Step.{Walker, Answer, tested, position, done, refused, Stepped, sizesFit, stay}
-use Rattle.walk.specs.Calls.{Op, step, tell}
+use Rattle.walk.specs.Calls.{Op, step, tell, Run}
 use Rattle.walk.specs.Words.{Group, packed, unpacked, positionsIn, childrenIn, groupsIn, restOf, firstPosition, pastSkipped, firstChild, hasChild, waitingDepth}
 
 pub record WalkerWords (s : Type 0) : Type 0 where
@@ -127,6 +127,9 @@ module _ {s d : Type 0} (N : NodeWords s d) where
 
   abbrev pub decodedStep : SteppedWords s → Stepped s
   decodedStep r = stay (decoded (r .walker)) (r .answer)
+
+  abbrev pub decodedRun : RunWords s → Run s
+  decodedRun r = record { walker = decoded (r .walker); answers = r .answers }
 
   -- the tests of a step on lists: it differs in the lists that a node gives
   abbrev pub testsWith : (s → ℕ → List ℕ) → (s → ℕ → List ℕ) → Tests s d

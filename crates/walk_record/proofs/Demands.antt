@@ -1,164 +1,155 @@
--- The third demand, the walk's half, and the second for queries: on every sound record, for every accepted ray, in the words that code computes.
+-- Walks over every sound record, of every ray that is not forged, in the words that code computes. What holds on lists is carried across by two
+-- equations: a list of calls, and a query, stand for those on lists.
 use mathlib.Core.Bool.{Bool, true, false}
 use mathlib.Core.List.{List, _++_, List·Nodup}
-use mathlib.Core.Logic.{_↔_}
-use mathlib.Core.Path.{_≡_, sym, ap, _∙_}
+use mathlib.Core.Path.{_≡_, sym, ap, _∙_, subst}
 use Prim.Native.Nat.{ℕ, _≤_, _<_}
+use native.Mathlib.Omega.{arith}
 use lib.ListN.{length}
-use Rattle.lists.specs.Counts.{count}
-use Rattle.record_shape.specs.Record.{nodeCount, shapeAt, RuleAt, SoundRecord, DeepestLevel}
-use Rattle.walk.specs.Step.{done}
-use Rattle.walk.specs.Calls.{All, Op, reported, Answered, Brings}
-use Rattle.walk.specs.Listing.{In, flat, listing}
-use Rattle.walk.specs.Queries.{Reaction, Halted, Ended}
-use Rattle.walk.specs.Slots.{ReachedBySlots, PassedBySlots, positionsOf, childrenOf, testsOf}
-use Rattle.walk.specs.Slots
-use Rattle.walk.specs.WordStep.{freshWords}
+use Rattle.soundness.specs.Sound.{Deepest}
+use Rattle.record_shape.specs.Record.{Nodes, shapeIn, RuleIn, SoundIn}
+use Rattle.walk.specs.Tests.{Tests}
+use Rattle.walk.specs.Step.{Answer, fresh}
+use Rattle.walk.specs.Calls.{All, Op, Run, runOps, reported, Answered, Brings}
+use Rattle.walk.specs.Lawful.{SoundTests, Unrefused}
+use Rattle.walk.specs.Listing.{flat, listing}
+use Rattle.walk.specs.Queries.{Reaction, Outcome, query, stepsFor, Halted, Ended}
+use Rattle.walk.specs.Slots.{Slots, positionsOf, childrenOf, testsOf, ReachedBySlots, PassedBySlots, SlotLaws}
+use Rattle.walk.specs.WordStep.{freshWords, decodedRun}
+use Rattle.walk.specs.WordQueries.{decodedOutcome}
 use Rattle.walk.proofs.Lists.{all-map}
-use Rattle.walk.proofs.Demands
-use Rattle.walk.proofs.WordDemands.{query-words-halts, words-report-once, words-wait-few, words-pass, words-answered, query-words-answered, any-hit-words-done, any-hit-words-listing, any-hit-words-exact, any-hit-words-nodup, any-hit-words-most, any-hit-words-counts, any-hit-words-tests}
-use Rattle.walk_record.specs.Record.{Rays, RayLaws, AllPresent, FieldsFit, slotTest, slotsAt, maskAt}
-use Rattle.walk_record.specs.Walk.{runAt, queryAt, anyHitAt, listingAt, ReachedBy, first, child, PassedBy}
-use Rattle.walk_record.proofs.Laws.{slot-laws, mask-laws}
+use Rattle.walk.proofs.Once
+use Rattle.walk.proofs.Levels
+use Rattle.walk.proofs.Valid
+use Rattle.walk.proofs.Listing.{listing-is}
+use Rattle.walk.proofs.Ends
+use Rattle.walk.proofs.AnyHit.{Meets}
+use Rattle.walk.proofs.AnyHit
+use Rattle.walk.proofs.Slots.{slots-narrow, slots-sound, reached-iff, passed-iff}
+use Rattle.walk.proofs.Told.{slots-fewer}
+use Rattle.walk.proofs.Told
+use Rattle.walk.proofs.Stacks.{groups-length}
+use Rattle.walk.proofs.WordRuns.{calls-decoded}
+use Rattle.walk.proofs.WordQueries.{fresh-query}
+use Rattle.walk_record.specs.Record.{Rays, RayLaws, AllPresent, FieldsFitIn, slotTest, slotsIn, nodeWordsIn}
+use Rattle.walk_record.specs.Walk.{runIn, queryIn, anyHitIn, listingIn}
+use Rattle.walk_record.proofs.Laws.{slot-laws}
+use Rattle.walk_record.proofs.Steps.{decodes}
 
-module _ {s d : Type 0} (bytes : List ℕ) (R : Rays s d) (laws : RayLaws R) (fit : FieldsFit bytes) where
-  -- every query ends, on any record at all
-  pub query-halts : {a : Type 0} (react : ℕ → s → a → Reaction d a) (x : a) (n : ℕ) (r : s) → R .forged r ≡ false → Halted (queryAt bytes R react x n r .ended)
-  unfolding queryAt shapeAt
-  query-halts react x n r f = query-words-halts (slotsAt bytes R n) (maskAt bytes R) (mask-laws bytes R laws n fit) react n r x f
+-- ---- any record
 
-  module _ (n : ℕ) (sound : SoundRecord bytes n) (r : s) (accepted : R .forged r ≡ false) where
-    -- ---- in the words of the demand
+module _ {s d : Type 0} (N : Nodes) (R : Rays s d) (rays : RayLaws R) (fields : FieldsFitIn N) (n : ℕ) (r : s) (accepted : R .forged r ≡ false) where
+  -- the run of a list of calls stands for the run on lists,
+  pub run-on-lists : (l : List (Op d))
+      → decodedRun (nodeWordsIn N R) (runIn N R l (freshWords r)) ≡ runOps (N .count) (testsOf (slotsIn N R n)) l (fresh r)
+  unfolding runIn
+  run-on-lists l = calls-decoded (N .count) (nodeWordsIn N R) _ _ (decodes N R rays fields n) l r accepted
 
-    reached-to : (v : ℕ) → ReachedBySlots (slotsAt bytes R n) r v → ReachedBy bytes (slotTest bytes R r) v
-    unfolding shapeAt
-    reached-to v (Slots.ReachedBySlots.first e h) = first e h
-    reached-to v (Slots.ReachedBySlots.child {v = u} j q l a b e) = child j (reached-to u q) l a b e
+  module _ {a : Type 0} (react : ℕ → s → a → Reaction d a) (x : a) where
+    -- and a query for the query on lists;
+    pub query-on-lists : decodedOutcome (nodeWordsIn N R) (queryIn N R react x n r)
+        ≡ query (N .count) (testsOf (slotsIn N R n)) react (stepsFor (N .count)) n (fresh r) x
+    unfolding queryIn
+    query-on-lists = fresh-query (N .count) (nodeWordsIn N R) _ _ (decodes N R rays fields n) react (stepsFor (N .count)) n r x accepted
 
-    reached-from : (v : ℕ) → ReachedBy bytes (slotTest bytes R r) v → ReachedBySlots (slotsAt bytes R n) r v
-    unfolding shapeAt
-    reached-from v (first e h) = Slots.ReachedBySlots.first e h
-    reached-from v (child {v = u} j q l a b e) = Slots.ReachedBySlots.child j (reached-from u q) l a b e
+    -- so every query ends
+    pub query-halts : Halted (queryIn N R react x n r .ended)
+    query-halts =
+        subst (λ (o : Outcome s a). Halted (o .ended)) (sym query-on-lists)
+        (Ends.query-halts (N .count) (testsOf (slotsIn N R n)) (slots-narrow (slotsIn N R n) _) react n r x)
 
-    passed-to : (p : ℕ) → PassedBySlots (slotsAt bytes R n) r p → PassedBy bytes n (slotTest bytes R r) (R .admits r) p
-    passed-to p q =
-        record {
-          node = q .node;
-          reached = reached-to (q .node) (q .reached);
-          slot = q .slot;
-          holds = q .holds;
-          passes = q .passes;
-          admitted = q .admitted;
-        }
+-- ---- a sound record
 
-    passed-from : (p : ℕ) → PassedBy bytes n (slotTest bytes R r) (R .admits r) p → PassedBySlots (slotsAt bytes R n) r p
-    passed-from p q =
-        record {
-          node = q .node;
-          reached = reached-from (q .node) (q .reached);
-          slot = q .slot;
-          holds = q .holds;
-          passes = q .passes;
-          admitted = q .admitted;
-        }
+-- What a walk over one needs: lawful rays, fields that fit, a sound record of sizes that fit, no position absent, and a ray that is not forged.
+pub record SoundWalk {s d : Type 0} (N : Nodes) (R : Rays s d) (n : ℕ) (r : s) : Type 0 where
+  pub rays : RayLaws R
+  pub fields : FieldsFitIn N
+  pub sound : SoundIn N n
+  pub nodes : N .count ≤ 65535
+  pub positions : n ≤ 65536
+  pub present : AllPresent R n
+  pub accepted : R .forged r ≡ false
 
-    -- ---- every list of steps and tellings from a walker just begun, refused steps included
+module _ {s d : Type 0} {N : Nodes} {R : Rays s d} {n : ℕ} {r : s} (w : SoundWalk N R n r) where
+  abbrev W : Slots s d
+  W = slotsIn N R n
 
-    -- no position is reported twice,
-    pub calls-report-once : (l : List (Op d)) → List·Nodup (reported (runAt bytes R l (freshWords r) .answers))
-    unfolding runAt shapeAt
-    calls-report-once = words-report-once (slotsAt bytes R n) (maskAt bytes R) (RuleAt bytes n) (slot-laws bytes R laws n) (mask-laws bytes R laws n fit) sound r accepted
+  abbrev T : Tests s d
+  T = testsOf W
 
-    -- and the waiting groups of the walker then held do not outnumber the deepest node's level
-    pub calls-wait-few : (e : ℕ) → DeepestLevel bytes n e → (l : List (Op d)) → runAt bytes R l (freshWords r) .walker .depth ≤ e
-    unfolding runAt shapeAt
-    calls-wait-few = words-wait-few (slotsAt bytes R n) (maskAt bytes R) (RuleAt bytes n) (slot-laws bytes R laws n) (mask-laws bytes R laws n fit) sound r accepted
+  laws : SlotLaws W (RuleIn N n)
+  laws = slot-laws N R (w .rays) n
 
-    -- Where telling makes a ray pass no more slots, only positions that the ray as begun passes are reported.
-    pub calls-pass : ((x : d) (q : s) (v j : ℕ) → slotTest bytes R (R .told x q) v j ≡ true → slotTest bytes R q v j ≡ true)
-        → (l : List (Op d)) → All (PassedBy bytes n (slotTest bytes R r) (R .admits r)) (reported (runAt bytes R l (freshWords r) .answers))
-    unfolding runAt shapeAt
-    calls-pass lower l =
-        all-map passed-to (reported (runAt bytes R l (freshWords r) .answers))
-        (words-pass (slotsAt bytes R n) (maskAt bytes R) (RuleAt bytes n) (slot-laws bytes R laws n) (mask-laws bytes R laws n fit) sound r accepted
-        (record { passes = lower; admits = λ x q p e. ap (λ (f : ℕ → Bool). f p) (sym (laws .admits-told x q)) ∙ e; octant = laws .octant-told }) l)
+  K : SoundTests (shapeIn N n) (RuleIn N n) T
+  K = slots-sound W (RuleIn N n) laws (w .sound)
 
-    module _ (few-positions : n ≤ 65536) (few-nodes : nodeCount bytes ≤ 65535) (present : AllPresent R n) where
-      -- where each step brings the record's own count of positions none is refused
-      pub calls-answered : (l : List (Op d)) → All (Brings n) l → All Answered (runAt bytes R l (freshWords r) .answers)
-      unfolding runAt shapeAt
-      calls-answered =
-          words-answered (slotsAt bytes R n) (maskAt bytes R) (RuleAt bytes n) (slot-laws bytes R laws n) (mask-laws bytes R laws n fit)
-          sound r accepted few-positions few-nodes present
+  U : Unrefused (shapeIn N n) T
+  unfolding shapeIn
+  U = record { positions = w .positions; nodes = w .nodes; present = w .present; narrow = slots-narrow W _ }
 
-      -- ---- queries
+  -- ---- every list of steps and tellings from a walker just begun, refused steps included
 
-      -- none is refused by the walk
-      pub query-answered : {a : Type 0} (react : ℕ → s → a → Reaction d a) (x : a) → Ended (queryAt bytes R react x n r .ended)
-      unfolding queryAt shapeAt
-      query-answered react x =
-          query-words-answered (slotsAt bytes R n) (maskAt bytes R) (RuleAt bytes n) (slot-laws bytes R laws n)
-          (mask-laws bytes R laws n fit) sound r accepted few-positions few-nodes present react x
+  run-is : (l : List (Op d)) → decodedRun (nodeWordsIn N R) (runIn N R l (freshWords r)) ≡ runOps (N .count) T l (fresh r)
+  run-is = run-on-lists N R (w .rays) (w .fields) n r (w .accepted)
 
-      pub any-hit-done : anyHitAt bytes R n r .ended ≡ done
-      unfolding anyHitAt queryAt shapeAt
-      any-hit-done =
-          any-hit-words-done (slotsAt bytes R n) (maskAt bytes R) (RuleAt bytes n) (slot-laws bytes R laws n) (mask-laws bytes R laws n fit)
-          sound r accepted few-positions few-nodes present
+  -- what holds of the answers on lists holds of the answers
+  carried : (P : List Answer → Type 0) (l : List (Op d)) → P (runOps (N .count) T l (fresh r) .answers) → P (runIn N R l (freshWords r) .answers)
+  carried P l = subst P (sym (ap (λ (q : Run s). q .answers) (run-is l)))
 
-      -- any-hit's list is the first node's listing
-      pub any-hit-listing : anyHitAt bytes R n r .noted ≡ listingAt bytes R n r
-      unfolding anyHitAt queryAt shapeAt
-      any-hit-listing =
-          any-hit-words-listing (slotsAt bytes R n) (maskAt bytes R) (RuleAt bytes n) (slot-laws bytes R laws n)
-          (mask-laws bytes R laws n fit) sound r accepted few-positions few-nodes present
+  -- no position is reported twice,
+  pub calls-report-once : (l : List (Op d)) → List·Nodup (reported (runIn N R l (freshWords r) .answers))
+  unfolding shapeIn
+  calls-report-once l = carried (λ a. List·Nodup (reported a)) l (Once.calls-report-once K l r)
 
-      -- and a node lists what the ray passes in it, then what its reached children list, each in the order of the walk
-      pub listing-order : (v : ℕ) → v < nodeCount bytes
-          → listing (nodeCount bytes) (testsOf (slotsAt bytes R n)) r v
-          ≡ positionsOf (slotsAt bytes R n) r v ++ flat (listing (nodeCount bytes) (testsOf (slotsAt bytes R n)) r) (childrenOf (slotsAt bytes R n) r v)
-      unfolding shapeAt
-      listing-order =
-          Demands.listing-order (slotsAt bytes R n) (RuleAt bytes n) (slot-laws bytes R laws n) sound few-positions few-nodes present r accepted
+  -- and the waiting groups of the walker then held do not outnumber the deepest node's level
+  pub calls-wait-few : (e : ℕ) → Deepest (shapeIn N n) e → (l : List (Op d)) → runIn N R l (freshWords r) .walker .depth ≤ e
+  unfolding shapeIn
+  calls-wait-few e deepest l =
+      let u = runIn N R l (freshWords r) .walker in
+      let q = ap (λ (z : Run s). length (z .walker .stack)) (run-is l) in
+      omega (arith, groups-length (R .octant (u .ray)) (u .depth) (u .stack), Levels.calls-wait-few K e deepest l r)
 
-      -- a position is in the list exactly if the ray passes every slot down to it,
-      pub any-hit-exact : (p : ℕ) → In p (anyHitAt bytes R n r .noted) ↔ PassedBy bytes n (slotTest bytes R r) (R .admits r) p
-      unfolding anyHitAt queryAt shapeAt
-      any-hit-exact p =
-          let i =
-          any-hit-words-exact (slotsAt bytes R n) (maskAt bytes R) (RuleAt bytes n) (slot-laws bytes R laws n)
-          (mask-laws bytes R laws n fit) sound r accepted few-positions few-nodes present p in
-          (λ x. passed-to p (i .0 x), λ y. i .1 (passed-from p y))
+  -- Where telling makes a ray pass no more slots, only positions that the ray as begun passes are reported.
+  pub calls-pass : ((x : d) (q : s) (v j : ℕ) → slotTest N R (R .told x q) v j ≡ true → slotTest N R q v j ≡ true)
+      → (l : List (Op d)) → All (PassedBySlots W r) (reported (runIn N R l (freshWords r) .answers))
+  unfolding shapeIn
+  calls-pass lower l =
+      carried (λ a. All (PassedBySlots W r) (reported a)) l
+      (all-map (λ p. passed-iff W (RuleIn N n) laws (w .sound) r (w .accepted) p .0) (reported (runOps (N .count) T l (fresh r) .answers))
+      (Told.calls-pass (N .count) T (slots-fewer W lowers) r l))
+    where
+      lowers : Told.Lowers W
+      lowers = record {
+        passes = lower;
+        admits = λ x q p e. ap (λ (f : ℕ → Bool). f p) (sym (w .rays .admits-told x q)) ∙ e;
+        octant = w .rays .octant-told;
+      }
 
-      -- once
-      pub any-hit-nodup : List·Nodup (anyHitAt bytes R n r .noted)
-      unfolding anyHitAt queryAt shapeAt
-      any-hit-nodup =
-          any-hit-words-nodup (slotsAt bytes R n) (maskAt bytes R) (RuleAt bytes n) (slot-laws bytes R laws n)
-          (mask-laws bytes R laws n fit) sound r accepted few-positions few-nodes present
+  -- where each step brings the record's own count of positions none is refused
+  pub calls-answered : (l : List (Op d)) → All (Brings n) l → All Answered (runIn N R l (freshWords r) .answers)
+  unfolding shapeIn
+  calls-answered l b = carried (λ a. All Answered a) l (Valid.calls-answered K U l r (w .accepted) b)
 
-      pub any-hit-most : length (anyHitAt bytes R n r .noted) ≤ n
-      unfolding anyHitAt queryAt shapeAt
-      any-hit-most =
-          any-hit-words-most (slotsAt bytes R n) (maskAt bytes R) (RuleAt bytes n) (slot-laws bytes R laws n) (mask-laws bytes R laws n fit)
-          sound r accepted few-positions few-nodes present
+  -- ---- queries
 
-      pub any-hit-counts : (p : ℕ)
-          → (PassedBy bytes n (slotTest bytes R r) (R .admits r) p → count p (anyHitAt bytes R n r .noted) ≡ 1)
-          × (¬ (PassedBy bytes n (slotTest bytes R r) (R .admits r) p) → count p (anyHitAt bytes R n r .noted) ≡ 0)
-      unfolding anyHitAt queryAt shapeAt
-      any-hit-counts p =
-          let i =
-          any-hit-words-counts (slotsAt bytes R n) (maskAt bytes R) (RuleAt bytes n) (slot-laws bytes R laws n)
-          (mask-laws bytes R laws n fit) sound r accepted few-positions few-nodes present p in
-          (λ q. i .0 (passed-from p q), λ q. i .1 (λ y. q (passed-to p y)))
+  -- none is refused by the walk
+  pub query-answered : {a : Type 0} (react : ℕ → s → a → Reaction d a) (x : a) → Ended (queryIn N R react x n r .ended)
+  unfolding shapeIn
+  query-answered {a} react x =
+      subst (λ (o : Outcome s a). Ended (o .ended)) (sym (query-on-lists N R (w .rays) (w .fields) n r (w .accepted) react x))
+      (Ends.query-answered K U react r (w .accepted) x)
 
-      -- its tests are the nodes reached: as many as a list has that holds each of them once and no other node
-      pub any-hit-tests : (l : List ℕ) × List·Nodup l × ((v : ℕ) → In v l ↔ ReachedBy bytes (slotTest bytes R r) v)
-          × (anyHitAt bytes R n r .walker .tests ≡ length l)
-      unfolding anyHitAt queryAt shapeAt
-      any-hit-tests =
-          let t =
-          any-hit-words-tests (slotsAt bytes R n) (maskAt bytes R) (RuleAt bytes n) (slot-laws bytes R laws n)
-          (mask-laws bytes R laws n fit) sound r accepted few-positions few-nodes present in
-          (t .0, t .1, λ v. (λ i. reached-to v (t .2 v .0 i), λ q. t .2 v .1 (reached-from v q)), t .3)
+  -- any-hit lists the first node's listing, each position passed once and no other, after as many tests as nodes are reached
+  pub any-hit-meets : Meets n (listingIn N R n r) (ReachedBySlots W r) (PassedBySlots W r) (decodedOutcome (nodeWordsIn N R) (anyHitIn N R n r))
+  unfolding shapeIn
+  any-hit-meets =
+      subst (Meets n (listingIn N R n r) (ReachedBySlots W r) (PassedBySlots W r))
+      (sym (query-on-lists N R (w .rays) (w .fields) n r (w .accepted) _ _))
+      (AnyHit.meets-as (λ v. reached-iff W (RuleIn N n) laws (w .sound) r (w .accepted) v)
+      (λ p. passed-iff W (RuleIn N n) laws (w .sound) r (w .accepted) p) (AnyHit.any-hit-meets K U r (w .accepted)))
+
+  -- and a node lists what the ray passes in it, then what its reached children list, each in the order of the walk
+  pub listing-order : (v : ℕ) → v < N .count
+      → listing (N .count) T r v ≡ positionsOf W r v ++ flat (listing (N .count) T r) (childrenOf W r v)
+  unfolding shapeIn
+  listing-order = listing-is K r (w .accepted)

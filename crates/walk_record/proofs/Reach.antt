@@ -10,37 +10,24 @@ use Rattle.float.proofs.Order.{le-of-lt}
 use Rattle.ray.specs.declared.Ray.{Ray}
 use Rattle.ray.specs.Ray.{counts}
 use Rattle.ray.proofs.Counts.{counts-below}
-use Rattle.node.specs.Node.{nodeAt, noSlot}
+use Rattle.node.specs.Node.{noSlot}
 use Rattle.slot.specs.Mask.{passesSlot}
+use Rattle.record_shape.specs.Record.{Nodes, nodesAt}
 use Rattle.hits.proofs.Reach.{LowerReach, lower-reach-passes-fewer}
-use Rattle.walk_record.specs.Beam.{Beam, reaching, toldBeam}
-use Rattle.walk_record.specs.Walk.{ReachedBy, first, child, PassedBy, boxTest, Reached, Passed}
+use Rattle.walk.proofs.Slots.{fewer-reached, fewer-passed}
+use Rattle.walk_record.specs.Record.{slotsAt}
+use Rattle.walk_record.specs.Beam.{Beam, beamOf, reaching, toldBeam, beams}
+use Rattle.walk_record.specs.Walk.{Reached, Passed}
 
--- a test of slots that passes no more than another reaches no more nodes, and passes no more positions
-module _ (bytes : List ℕ) (a b : ℕ → ℕ → Bool) (fewer : (v j : ℕ) → a v j ≡ true → b v j ≡ true) where
-  pub fewer-reached : (v : ℕ) → ReachedBy bytes a v → ReachedBy bytes b v
-  fewer-reached v (first e h) = first e h
-  fewer-reached v (child {v = u} j q l i p e) = child j (fewer-reached u q) l i (fewer u j p) e
+passed-slot : (N : Nodes) (r s : Ray) → LowerReach r s → (v j : ℕ) → passesSlot (N .node v) r j ≡ true → passesSlot (N .node v) s j ≡ true
+passed-slot N r s lower v j = lower-reach-passes-fewer (N .node v) (getD (N .node v .slots) j noSlot) r s lower
 
-  pub fewer-passed : (admits : ℕ → Bool) (n p : ℕ) → PassedBy bytes n a admits p → PassedBy bytes n b admits p
-  fewer-passed admits n p q = record {
-    node = q .node;
-    reached = fewer-reached (q .node) (q .reached);
-    slot = q .slot;
-    holds = q .holds;
-    passes = fewer (q .node) (q .slot) (q .passes);
-    admitted = q .admitted;
-  }
+module _ (bytes : List ℕ) (n : ℕ) (r s : Ray) (lower : LowerReach r s) where
+  pub lower-reach-reaches-fewer : (v : ℕ) → Reached bytes n r v → Reached bytes n s v
+  lower-reach-reaches-fewer = fewer-reached (slotsAt bytes beams n) (beamOf r) (beamOf s) (passed-slot (nodesAt bytes) r s lower)
 
-module _ (bytes : List ℕ) (r s : Ray) (lower : LowerReach r s) where
-  passed-slot : (v j : ℕ) → boxTest bytes r v j ≡ true → boxTest bytes s v j ≡ true
-  passed-slot v j = lower-reach-passes-fewer (nodeAt bytes v) (getD (nodeAt bytes v .slots) j noSlot) r s lower
-
-  pub lower-reach-reaches-fewer : (v : ℕ) → Reached bytes r v → Reached bytes s v
-  lower-reach-reaches-fewer = fewer-reached bytes (boxTest bytes r) (boxTest bytes s) passed-slot
-
-  pub lower-reach-meets-fewer : (n p : ℕ) → Passed bytes n r p → Passed bytes n s p
-  lower-reach-meets-fewer = fewer-passed bytes (boxTest bytes r) (boxTest bytes s) passed-slot (λ p. true)
+  pub lower-reach-meets-fewer : (p : ℕ) → Passed bytes n r p → Passed bytes n s p
+  lower-reach-meets-fewer = fewer-passed (slotsAt bytes beams n) (beamOf r) (beamOf s) (passed-slot (nodesAt bytes) r s lower) (λ p e. e)
 
 -- ---- telling
 
@@ -56,12 +43,13 @@ told-held P keeps t b = go (counts (b .ray) t) refl
     go true e = keeps (reaching t (b .ray)) (b .ray) (told-lower t (b .ray) e)
     go false e = λ q. q
 
-pub told-passes-fewer : (bytes : List ℕ) (t : Float) (b : Beam) (v j : ℕ) → passesSlot (nodeAt bytes v) (toldBeam t b .ray) j ≡ true
-    → passesSlot (nodeAt bytes v) (b .ray) j ≡ true
-told-passes-fewer bytes t b v j = told-held (λ r. passesSlot (nodeAt bytes v) r j ≡ true) (λ r s l. passed-slot bytes r s l v j) t b
+pub told-passes-fewer : (N : Nodes) (t : Float) (b : Beam) (v j : ℕ) → passesSlot (N .node v) (toldBeam t b .ray) j ≡ true
+    → passesSlot (N .node v) (b .ray) j ≡ true
+told-passes-fewer N t b v j = told-held (λ r. passesSlot (N .node v) r j ≡ true) (λ r s l. passed-slot N r s l v j) t b
 
-pub told-reaches-fewer : (bytes : List ℕ) (t : Float) (b : Beam) (v : ℕ) → Reached bytes (toldBeam t b .ray) v → Reached bytes (b .ray) v
-told-reaches-fewer bytes t b v = told-held (λ r. Reached bytes r v) (λ r s l. lower-reach-reaches-fewer bytes r s l v) t b
+module _ (bytes : List ℕ) (n : ℕ) (t : Float) (b : Beam) where
+  pub told-reaches-fewer : (v : ℕ) → Reached bytes n (toldBeam t b .ray) v → Reached bytes n (b .ray) v
+  told-reaches-fewer v = told-held (λ r. Reached bytes n r v) (λ r s l. lower-reach-reaches-fewer bytes n r s l v) t b
 
-pub told-meets-fewer : (bytes : List ℕ) (t : Float) (b : Beam) (n p : ℕ) → Passed bytes n (toldBeam t b .ray) p → Passed bytes n (b .ray) p
-told-meets-fewer bytes t b n p = told-held (λ r. Passed bytes n r p) (λ r s l. lower-reach-meets-fewer bytes r s l n p) t b
+  pub told-meets-fewer : (p : ℕ) → Passed bytes n (toldBeam t b .ray) p → Passed bytes n (b .ray) p
+  told-meets-fewer p = told-held (λ r. Passed bytes n r p) (λ r s l. lower-reach-meets-fewer bytes n r s l p) t b

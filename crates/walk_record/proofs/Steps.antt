@@ -1,9 +1,8 @@
--- Steps on the bytes of any record, sound or not: what they are on lists, what they keep, and a measure for loops over them.
+-- Steps on the nodes of any record, sound or not: what they are on lists, what they keep, and a measure for loops over them.
 use mathlib.Core.Bool.{true, cond}
-use mathlib.Core.List.{List}
 use mathlib.Core.Path.{_≡_}
 use Prim.Native.Nat.{ℕ, _<_}
-use Rattle.record_shape.specs.Record.{nodeCount, shapeAt}
+use Rattle.record_shape.specs.Record.{Nodes, shapeIn}
 use Rattle.walk.specs.Step.{done, refused, sizesFit, stepOf}
 use Rattle.walk.specs.Queries.{Reaction, Going}
 use Rattle.walk.specs.Slots.{positionsOf, childrenOf, testsOf}
@@ -14,59 +13,62 @@ use Rattle.walk.proofs.WordStep.{step-decoded}
 use Rattle.walk.proofs.WordRuns
 use Rattle.walk.proofs.WordEnds.{stepsLeftWords, words-fall, query-words-enough}
 use Rattle.walk.proofs.WordKept.{Finished, LeavesOf, words-leave, finished-step, words-done-stays}
-use Rattle.walk_record.specs.Record.{Rays, RayLaws, FieldsFit, slotsAt, maskAt, nodeWordsAt}
-use Rattle.walk_record.specs.Walk.{stepAt}
+use Rattle.walk_record.specs.Record.{Rays, RayLaws, FieldsFitIn, slotsIn, maskIn, nodeWordsIn}
+use Rattle.walk_record.specs.Walk.{stepIn}
 use Rattle.walk_record.proofs.Laws.{mask-laws}
 
 -- ---- for any walker of words
 
-module _ {s d : Type 0} (bytes : List ℕ) (R : Rays s d) (n : ℕ) (w : WalkerWords s) where
+module _ {s d : Type 0} (N : Nodes) (R : Rays s d) (n : ℕ) (w : WalkerWords s) where
   -- a step that is refused leaves the walker as it was, and one that is done leaves nothing to do;
-  pub step-leaves : LeavesOf (nodeCount bytes) (nodeWordsAt bytes R) n w (stepAt bytes R n w)
-  unfolding stepAt
-  step-leaves = words-leave (nodeCount bytes) (nodeWordsAt bytes R) n w
+  pub step-leaves : LeavesOf (N .count) (nodeWordsIn N R) n w (stepIn N R n w)
+  unfolding stepIn
+  step-leaves = words-leave (N .count) (nodeWordsIn N R) n w
 
   -- where nothing is left to do every step leaves the walker as it is, done if nothing refuses it;
   pub step-finished : Finished w
-      → stepAt bytes R n w
-      ≡ cond (sizesFit (nodeCount bytes) n)
-      (cond (forgedWords (nodeCount bytes) (nodeWordsAt bytes R) w) (stayWords w (refused 10)) (stayWords w done))
+      → stepIn N R n w
+      ≡ cond (sizesFit (N .count) n)
+      (cond (forgedWords (N .count) (nodeWordsIn N R) w) (stayWords w (refused 10)) (stayWords w done))
       (stayWords w (refused 2))
-  unfolding stepAt
-  step-finished = finished-step (nodeCount bytes) (nodeWordsAt bytes R) n w
+  unfolding stepIn
+  step-finished = finished-step (N .count) (nodeWordsIn N R) n w
 
   -- and a walker that is done stays so
-  pub done-stays : stepAt bytes R n w .answer ≡ done → (k : ℕ) → sizesFit (nodeCount bytes) k ≡ true
-      → stepAt bytes R k (stepAt bytes R n w .walker) ≡ stayWords (stepAt bytes R n w .walker) done
-  unfolding stepAt
-  done-stays = words-done-stays (nodeCount bytes) (nodeWordsAt bytes R) n w
+  pub done-stays : stepIn N R n w .answer ≡ done → (k : ℕ) → sizesFit (N .count) k ≡ true
+      → stepIn N R k (stepIn N R n w .walker) ≡ stayWords (stepIn N R n w .walker) done
+  unfolding stepIn
+  done-stays = words-done-stays (N .count) (nodeWordsIn N R) n w
 
 -- ---- for words in range
 
-module _ {s d : Type 0} (bytes : List ℕ) (R : Rays s d) (laws : RayLaws R) (fit : FieldsFit bytes) where
-  decodes : (n : ℕ) → Decodes (nodeCount bytes) (nodeWordsAt bytes R) (positionsOf (slotsAt bytes R n)) (childrenOf (slotsAt bytes R n))
-  unfolding shapeAt
-  decodes n = masks-decode (slotsAt bytes R n) (maskAt bytes R) (mask-laws bytes R laws n fit)
+module _ {s d : Type 0} (N : Nodes) (R : Rays s d) (laws : RayLaws R) (fit : FieldsFitIn N) where
+  -- the words of its nodes stand for the positions and children that slot tests find
+  pub decodes : (n : ℕ) → Decodes (N .count) (nodeWordsIn N R) (positionsOf (slotsIn N R n)) (childrenOf (slotsIn N R n))
+  unfolding shapeIn
+  decodes n = masks-decode (slotsIn N R n) (maskIn N R) (mask-laws N R laws n fit)
 
   -- a step is the step on the lists that the walker's words stand for,
   pub step-on-lists : (n : ℕ) (w : WalkerWords s) → InRange w
-      → decodedStep (nodeWordsAt bytes R) (stepAt bytes R n w) ≡ stepOf (nodeCount bytes) (testsOf (slotsAt bytes R n)) n (decoded (nodeWordsAt bytes R) w)
-  unfolding stepAt
-  step-on-lists n w i = step-decoded (nodeCount bytes) (nodeWordsAt bytes R) (positionsOf (slotsAt bytes R n)) (childrenOf (slotsAt bytes R n)) (decodes n) n w i
+      → decodedStep (nodeWordsIn N R) (stepIn N R n w) ≡ stepOf (N .count) (testsOf (slotsIn N R n)) n (decoded (nodeWordsIn N R) w)
+  unfolding stepIn
+  step-on-lists n w i = step-decoded (N .count) (nodeWordsIn N R) (positionsOf (slotsIn N R n)) (childrenOf (slotsIn N R n)) (decodes n) n w i
 
   -- leaves words in range,
-  pub step-range : (n : ℕ) (w : WalkerWords s) → InRange w → InRange (stepAt bytes R n w .walker)
-  unfolding stepAt
-  step-range n w i = WordRuns.step-range (nodeCount bytes) (nodeWordsAt bytes R) (positionsOf (slotsAt bytes R n)) (childrenOf (slotsAt bytes R n)) (decodes n) n w i
+  pub step-range : (n : ℕ) (w : WalkerWords s) → InRange w → InRange (stepIn N R n w .walker)
+  unfolding stepIn
+  step-range n w i = WordRuns.step-range (N .count) (nodeWordsIn N R) (positionsOf (slotsIn N R n)) (childrenOf (slotsIn N R n)) (decodes n) n w i
 
   -- and, where there is a next one, lowers the number of steps left
-  pub step-falls : (n : ℕ) (w : WalkerWords s) → InRange w → Going (stepAt bytes R n w .answer) → stepsLeftWords (nodeCount bytes) (stepAt bytes R n w .walker) < stepsLeftWords (nodeCount bytes) w
-  unfolding stepAt
-  step-falls n w i = words-fall (nodeCount bytes) (nodeWordsAt bytes R) n w i
+  pub step-falls : (n : ℕ) (w : WalkerWords s) → InRange w → Going (stepIn N R n w .answer)
+      → stepsLeftWords (N .count) (stepIn N R n w .walker) < stepsLeftWords (N .count) w
+  unfolding stepIn
+  step-falls n w i = words-fall (N .count) (nodeWordsIn N R) n w i
 
   -- so that a query with more steps than are left is always the same
-  pub query-enough : {a : Type 0} (react : ℕ → s → a → Reaction d a) (f g n : ℕ) (w : WalkerWords s) (x : a) → InRange w → stepsLeftWords (nodeCount bytes) w < f → stepsLeftWords (nodeCount bytes) w < g
-      → queryWords (nodeCount bytes) (nodeWordsAt bytes R) react f n w x ≡ queryWords (nodeCount bytes) (nodeWordsAt bytes R) react g n w x
+  pub query-enough : {a : Type 0} (react : ℕ → s → a → Reaction d a) (f g n : ℕ) (w : WalkerWords s) (x : a) → InRange w
+      → stepsLeftWords (N .count) w < f → stepsLeftWords (N .count) w < g
+      → queryWords (N .count) (nodeWordsIn N R) react f n w x ≡ queryWords (N .count) (nodeWordsIn N R) react g n w x
   query-enough react f g n w x i h k =
-      query-words-enough (nodeCount bytes) (nodeWordsAt bytes R) (positionsOf (slotsAt bytes R n)) (childrenOf (slotsAt bytes R n))
+      query-words-enough (N .count) (nodeWordsIn N R) (positionsOf (slotsIn N R n)) (childrenOf (slotsIn N R n))
       (decodes n) react f g n w x i h k

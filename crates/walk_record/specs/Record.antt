@@ -1,13 +1,12 @@
--- What a walk reads of a record's bytes (01, "Walking"; "Words, bytes and bounds").
+-- What a walk reads of a record's nodes (01, "Walking"; "Words, bytes and bounds").
 use mathlib.Core.Bool.{Bool, false, not}
 use mathlib.Core.List.{List}
 use mathlib.Core.Path.{_≡_}
 use Prim.Native.Nat.{ℕ, _^_, _<_}
 use Rattle.node.specs.declared.Node.{Node}
-use Rattle.node.specs.Node.{nodeAt}
 use Rattle.rule.specs.Rule.{nodeRule}
 use Rattle.slot.specs.Mask.{hitMaskOf}
-use Rattle.record_shape.specs.Record.{nodeCount, shapeAt}
+use Rattle.record_shape.specs.Record.{Nodes, nodesAt, shapeIn}
 use Rattle.walk.specs.Slots.{Slots}
 use Rattle.walk.specs.WordStep.{NodeWords}
 
@@ -34,22 +33,22 @@ abbrev pub AllPresent : {s d : Type 0} → Rays s d → ℕ → Type 0
 AllPresent {s} R n = (r : s) (p : ℕ) → p < n → R .absent r p ≡ false
 
 -- Each node's imask is a byte and its child_base_idx a word of 32 bits, as in any list of bytes.
-pub record FieldsFit (bytes : List ℕ) : Type 0 where
-  pub imask : (v : ℕ) → v < nodeCount bytes → nodeAt bytes v .imask < 256
-  pub childBase : (v : ℕ) → v < nodeCount bytes → nodeAt bytes v .«child_base_idx» < 2 ^ 32
+pub record FieldsFitIn (N : Nodes) : Type 0 where
+  pub imask : (v : ℕ) → v < N .count → N .node v .imask < 256
+  pub childBase : (v : ℕ) → v < N .count → N .node v .«child_base_idx» < 2 ^ 32
 
-module _ {s d : Type 0} (bytes : List ℕ) (R : Rays s d) where
+module _ {s d : Type 0} (N : Nodes) (R : Rays s d) where
   -- which slots of which nodes the ray passes
   abbrev pub slotTest : s → ℕ → ℕ → Bool
-  slotTest r v j = R .passes r v (nodeAt bytes v) j
+  slotTest r v j = R .passes r v (N .node v) j
 
   -- the slots of a record of n positions
-  abbrev pub slotsAt : ℕ → Slots s d
-  slotsAt n = record {
-    shape = shapeAt bytes n;
-    imask = λ v. nodeAt bytes v .imask;
-    positionBase = λ v. nodeAt bytes v .«primitive_base_idx»;
-    rule = λ k v. nodeRule (nodeAt bytes v) (nodeCount bytes) k v;
+  abbrev pub slotsIn : ℕ → Slots s d
+  slotsIn n = record {
+    shape = shapeIn N n;
+    imask = λ v. N .node v .imask;
+    positionBase = λ v. N .node v .«primitive_base_idx»;
+    rule = λ k v. nodeRule (N .node v) (N .count) k v;
     octant = R .octant;
     passes = slotTest;
     admits = R .admits;
@@ -59,20 +58,31 @@ module _ {s d : Type 0} (bytes : List ℕ) (R : Rays s d) where
   }
 
   -- the hit mask of node v
-  abbrev pub maskAt : s → ℕ → ℕ
-  maskAt r v = hitMaskOf (slotTest r v) (nodeAt bytes v) (R .octant r)
+  abbrev pub maskIn : s → ℕ → ℕ
+  maskIn r v = hitMaskOf (slotTest r v) (N .node v) (R .octant r)
 
   -- what a step in words reads
-  abbrev pub nodeWordsAt : NodeWords s d
-  nodeWordsAt = record {
-    rule = λ k v. nodeRule (nodeAt bytes v) (nodeCount bytes) k v;
+  abbrev pub nodeWordsIn : NodeWords s d
+  nodeWordsIn = record {
+    rule = λ k v. nodeRule (N .node v) (N .count) k v;
     told = R .told;
     forged = R .forged;
     absent = R .absent;
     skips = λ r p. not (R .admits r p);
     octant = R .octant;
-    mask = maskAt;
-    imask = λ v. nodeAt bytes v .imask;
-    childBase = λ v. nodeAt bytes v .«child_base_idx»;
-    positionBase = λ v. nodeAt bytes v .«primitive_base_idx»;
+    mask = maskIn;
+    imask = λ v. N .node v .imask;
+    childBase = λ v. N .node v .«child_base_idx»;
+    positionBase = λ v. N .node v .«primitive_base_idx»;
   }
+
+-- ---- of a record's bytes
+
+abbrev pub FieldsFit : List ℕ → Type 0
+FieldsFit bytes = FieldsFitIn (nodesAt bytes)
+
+abbrev pub slotsAt : {s d : Type 0} → List ℕ → Rays s d → ℕ → Slots s d
+slotsAt bytes R n = slotsIn (nodesAt bytes) R n
+
+abbrev pub nodeWordsAt : {s d : Type 0} → List ℕ → Rays s d → NodeWords s d
+nodeWordsAt bytes R = nodeWordsIn (nodesAt bytes) R

@@ -1,0 +1,27 @@
+-- What an accepted ray gives a walk, and a pane's distance.
+use mathlib.Core.Bool.{true, false}
+use mathlib.Core.Path.{_≡_, sym, subst}
+use Rattle.ray.specs.declared.Ray.{Ray}
+use Rattle.ray.specs.Ray.{rayOf, acceptedRay}
+use Rattle.aabb.specs.declared.Aabb.{Aabb}
+use Rattle.aabb.specs.Aabb.{acceptedBox, entryDistance}
+use Rattle.walk_record.specs.Beam.{beamOf, forgedBeam}
+use Rattle.walk_record.proofs.Beam.{begun-accepted}
+use Rattle.closest.proofs.Distances.{Number, distance-number}
+use Rattle.demands.specs.Walks.{AcceptedRay}
+
+module _ {ray : Ray} (a : AcceptedRay ray) where
+  -- what holds of every ray that is made and accepted holds of it
+  abbrev made : Ray
+  made = rayOf (a .origin) (a .direction) (a .tmin) (a .tmax)
+
+  as-made : (P : Ray → Type 0) → (acceptedRay made ≡ true → P made) → P ray
+  as-made P f = subst P (sym (a .made)) (f (subst (λ (r : Ray). acceptedRay r ≡ true) (a .made) (a .accepted)))
+
+  -- a walker just begun on it is not forged
+  pub not-forged : forgedBeam (beamOf ray) ≡ false
+  not-forged = as-made (λ r. forgedBeam (beamOf r) ≡ false) (begun-accepted (a .origin) (a .direction) (a .tmin) (a .tmax))
+
+  -- the distance of an accepted box is a number
+  pub distance-known : (b : Aabb) → acceptedBox b ≡ true → Number (entryDistance b ray)
+  distance-known b h = as-made (λ r. Number (entryDistance b r)) (distance-number b (a .origin) (a .direction) (a .tmin) (a .tmax) h)
