@@ -25,6 +25,7 @@
 //!
 //! Calls share no state: a [`Record`] may be asked from many threads at once ([`on_threads`]).
 mod answers;
+mod boxes;
 mod lengths;
 mod many;
 mod ray;
@@ -35,6 +36,7 @@ mod tree;
 mod walker;
 
 pub use answers::{AnyHit, Closest, Hit, Miss, Verdict};
+pub use boxes::{entry_distances, half_areas};
 pub use lengths::{Lengths, MAX_LEVEL, MAX_NODES, MAX_POSITIONS, NODE_BYTES};
 pub use many::{cores, on_threads};
 pub use ray::Ray;
