@@ -1,7 +1,7 @@
 -- A float is read back from its pattern, and what is not at most itself is the NaN.
 use mathlib.Core.Bool.{false}
 use mathlib.Core.Path.{_≡_, refl, ap, subst, _∙_}
-use Prim.Native.Nat.{ℕ, _%_, _^_}
+use Prim.Native.Nat.{_%_, _^_}
 use native.Mathlib.Nat.{mod-eq-of-lt}
 use lib.Dec.{T}
 use lib.Ieee.{Float, nan, inf, fin, binary32, le, isNan, fits, ofBits, toBits}

@@ -12,7 +12,8 @@ pub kept : (s : State) (w : WalkerWords Beam) (b : Bool) → b ≡ true → Leav
 unfolding Leaves
 kept s w b e = subst (λ (x : Bool). Leaves x s s w) (sym e) refl
 
-pub holds : (before after : State) (w : WalkerWords Beam) (b : Bool) → b ≡ false → walkerIn (after .head) (after .stack) ≡ w → Leaves b before after w
+pub holds : (before after : State) (w : WalkerWords Beam) (b : Bool) → b ≡ false → walkerIn (after .head) (after .stack) ≡ w
+    → Leaves b before after w
 unfolding Leaves
 holds before after w b e h = subst (λ (x : Bool). Leaves x before after w) (sym e) h
 

@@ -6,14 +6,15 @@ use Prim.Native.Nat.{ℕ, _%_}
 use lib.Dec.{T, eqb, leb}
 use lib.ListN.{length}
 use Rattle.walk.specs.Step.{Answer, tested, position, done, refused, sizesFit}
-use Rattle.walk.specs.WordStep.{WalkerWords, SteppedWords, NodeWords, leaving, pastSkips, forgedWords, onlyFirstWords, turnWords, advanceWords, stepWords}
+use Rattle.walk.specs.WordStep.{WalkerWords, SteppedWords, NodeWords, leaving, pastSkips}
+use Rattle.walk.specs.WordStep.{forgedWords, onlyFirstWords, turnWords, advanceWords, stepWords}
 use Rattle.walk.proofs.Cases.{cond-elim}
 use Rattle.walk_record.specs.Beam.{Beam, beams}
 use Rattle.walk_record.specs.Record.{nodeWordsAt}
 use Rattle.walk_record.specs.Walk.{stepAt}
 use Rattle.record_shape.specs.Record.{nodeCount}
 use Rattle.traverse.specs.Calls.{RecordOp, stepOn, tells, runEach}
-use Rattle.traverse.specs.Walker.{stepBytes, toldWalker}
+use Rattle.traverse.specs.Walker.{stepBytes}
 use Rattle.walker_state.specs.State.{State, isRefused, Leaves}
 use Rattle.walker_state.specs.Calls.{heldBy, Leads, none, steps, told}
 
@@ -56,7 +57,8 @@ bytes-stay bytes n w = go (eqb (length bytes % 80) 0)
 
 -- after a step they hold its walker, refused or not
 pub step-holds : (s t : State) (bytes : List ℕ) (n : ℕ)
-    → Leaves (isRefused (stepBytes bytes n (heldBy s) .answer)) s t (stepBytes bytes n (heldBy s) .walker) → heldBy t ≡ stepBytes bytes n (heldBy s) .walker
+    → Leaves (isRefused (stepBytes bytes n (heldBy s) .answer)) s t (stepBytes bytes n (heldBy s) .walker)
+    → heldBy t ≡ stepBytes bytes n (heldBy s) .walker
 unfolding Leaves
 step-holds s t bytes n = go (isRefused (stepBytes bytes n (heldBy s) .answer)) refl
   where

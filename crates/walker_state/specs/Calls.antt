@@ -17,5 +17,6 @@ heldBy s = walkerIn (s .head) (s .stack)
 pub data Leads : List RecordOp → State → State → Type 0 where
   none : {s : State} → Leads [] s s
   steps : {s t u : State} {bytes : List ℕ} {n : ℕ} {l : List RecordOp}
-      → Leaves (isRefused (stepBytes bytes n (heldBy s) .answer)) s t (stepBytes bytes n (heldBy s) .walker) → Leads l t u → Leads (stepOn bytes n ∷ l) s u
+      → Leaves (isRefused (stepBytes bytes n (heldBy s) .answer)) s t (stepBytes bytes n (heldBy s) .walker)
+      → Leads l t u → Leads (stepOn bytes n ∷ l) s u
   told : {s t u : State} {x : Float} {l : List RecordOp} → heldBy t ≡ toldWalker x (heldBy s) → Leads l t u → Leads (tells x ∷ l) s u

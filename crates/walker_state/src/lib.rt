@@ -1,4 +1,4 @@
-// Internal: a walker kept in words that a caller lends. It begins there, steps, and is told distances; whatever the words are, they hold some walker.
+// Internal: a walker kept in words that a caller lends: it begins there, steps, and is told distances. Any words hold some walker.
 ghost use mathlib.Core.Path.{_≡_};
 ghost use mathlib.Core.Bool.{not};
 ghost use mathlib.Core.List.{List};
