@@ -2,6 +2,10 @@
 # Builds the oracle from the published Rust: build.sh SRC_FOLDER OUT_FOLDER
 # SRC_FOLDER holds src/aabb.rs, src/cwbvh/.. as published; it is only read. No network, no cargo.
 set -eu
+if [ $# -ne 2 ]; then
+    echo "usage: oracle/build.sh SRC_FOLDER OUT_FOLDER" >&2
+    exit 2
+fi
 here=$(cd "$(dirname "$0")" && pwd)
 src=$1
 out=$2

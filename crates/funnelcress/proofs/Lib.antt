@@ -7,3 +7,4 @@ pub mod Bounds
 pub mod QueryNumbers
 pub mod QueryBounds
 pub mod QueryAnswers
+pub mod WalkerNumbers

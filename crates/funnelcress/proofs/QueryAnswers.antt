@@ -18,17 +18,17 @@ use Rattle.funnelcress.specs.Queries.{anyHitNumber, closestNumber, missN
 
 module _ (ray : List Float) where
   -- a ray made again of what the calls are given
-  abbrev again : Ray → Ray
+  abbrev pub again : Ray → Ray
   again r = rayOf (r .origin) (r .direction) (r .tmin) (r .tmax)
 
-  same-ray : (r : Ray) → r ≡ rayIn ray 0 → again r ≡ rayIn ray 0
+  pub same-ray : (r : Ray) → r ≡ rayIn ray 0 → again r ≡ rayIn ray 0
   unfolding rayIn rayOf
   same-ray r e = rw e
 
-  fit : {A : Type 0} (x y : A) → length ray ≡ 8 → y ≡ ofEight ray x y
+  pub fit : {A : Type 0} (x y : A) → length ray ≡ 8 → y ≡ ofEight ray x y
   fit x y e = ap (λ (b : Bool). cond b y x) (sym (eq-eqb _ _ e))
 
-  unfit : {A : Type 0} (x y : A) → (length ray ≡ 8 → ⊥) → x ≡ ofEight ray x y
+  pub unfit : {A : Type 0} (x y : A) → (length ray ≡ 8 → ⊥) → x ≡ ofEight ray x y
   unfit x y h = ap (λ (b : Bool). cond b y x) (sym (ne-eqb _ _ h))
 
   module _ (bytes : List ℕ) (n : ℕ) where

@@ -2,3 +2,4 @@ pub mod Lists
 pub mod Answers
 pub mod Converted
 pub mod Queries
+pub mod Walkers

@@ -1,5 +1,7 @@
 // The library for C and Rust: each function is exported under its name. Numbers that are returned are those of
 // refusals, 0 for none, but the record check's, conversion's and the queries', which also hold what they answer.
+mod walkers;
+
 ghost use mathlib.Core.Path.{_≡_};
 ghost use Prim.Native.Nat.{_+_, _*_, _/_, _≤_, _<_};
 ghost use lib.ListN.{length};

@@ -1,0 +1,67 @@
+//! What --help prints.
+
+pub const ALL: &str = "\
+usage: funnelcress COMMAND ..
+
+  tree      panes to the words of a plain binary tree over them
+  convert   a tree's words to a record and its index list
+  check     whether a record is sound
+  any-hit   the positions that each ray passes
+  closest   the nearest pane of each ray
+  miss      whether each ray meets nothing
+
+`funnelcress COMMAND --help` has the words and an example of each. The status is 0 only where nothing was refused and
+the record is sound, 1 where something was, and 2 for words that no command takes. What is wrong is said on standard
+error. Every answer is the proved library's.
+";
+
+pub const TREE: &str = "\
+usage: funnelcress tree PANES -o TREE [--limit L] [--order 0|1]
+
+PANES has a box a line, min x y z max x y z (what stands behind is left), or packed floats where its name ends in .f32.
+TREE is written as little-endian words: n, leaf limit, order, seven words a node, n index words.
+
+example: funnelcress tree house.txt -o house.tree
+";
+
+pub const CONVERT: &str = "\
+usage: funnelcress convert TREE -o NAME [--limit L] [--order 0|1] [--json]
+
+Converts a tree's words to NAME.record (n as a word, then 80 bytes a node) and NAME.list (n index words). The leaf limit,
+0 to 3, and the order are those of TREE unless given.
+
+example: funnelcress convert house.tree -o house
+";
+
+pub const CHECK: &str = "\
+usage: funnelcress check RECORD [--json]
+
+Prints `sound LEVEL`, `unsound` or `refused NUMBER`, as the program checkrecord does; the status is 0 for sound only.
+
+example: funnelcress convert house.tree -o house && funnelcress check house.record
+";
+
+pub const ANY_HIT: &str = "\
+usage: funnelcress any-hit RECORD RAYS [--json] [--threads N]
+
+A line a ray: its number, the node tests, and the positions that it passes. RAYS has eight floats a line (origin,
+direction, tmin, tmax; `inf` is a number), or packed ones where its name ends in .f32.
+
+example: funnelcress any-hit house.record rays.txt
+";
+
+pub const CLOSEST: &str = "\
+usage: funnelcress closest RECORD LIST PANES RAYS [--json] [--threads N]
+
+A line a ray: its number, the node tests, and the nearest position with its pane and distance, or `none`.
+
+example: funnelcress closest house.record house.list house.txt rays.txt
+";
+
+pub const MISS: &str = "\
+usage: funnelcress miss RECORD LIST PANES RAYS [--json] [--threads N]
+
+A line a ray: its number, the node tests, and `missed` or `blocked`.
+
+example: funnelcress miss house.record house.list house.txt rays.txt
+";

@@ -1,0 +1,149 @@
+//! Each bad input gets its refusal, and what a refused call may not write stays.
+use funnelcress::{Options, Pane, Ray, Record, Refusal, State, Step, Tree, Verdict, Walker};
+
+const PANES: [Pane; 3] =
+    [[0.0, 0.0, 0.0, 1.0, 1.0, 1.0], [2.0, 0.0, 0.0, 3.0, 1.0, 1.0], [4.0, 0.0, 0.0, 5.0, 1.0, 1.0]];
+
+fn tree() -> Tree {
+    Tree::over(&PANES)
+}
+
+fn record() -> Record {
+    tree().convert(Options::default()).unwrap()
+}
+
+fn along() -> Ray {
+    Ray::new([-1.0, 0.5, 0.5], [1.0, 0.0, 0.0])
+}
+
+/// The tree with one word changed.
+fn with(at: usize, word: u32) -> Tree {
+    let mut words = tree().words().to_vec();
+    words[at] = word;
+    Tree::from_words(words, tree().indices().to_vec())
+}
+
+fn refused(tree: Tree) -> u32 {
+    tree.convert(Options::default()).unwrap_err().number()
+}
+
+#[test]
+fn trees() {
+    let (words, indices) = (tree().words().to_vec(), tree().indices().to_vec());
+    assert_eq!(refused(Tree::from_words(words[..34].to_vec(), indices.clone())), 1);
+    assert_eq!(refused(Tree::from_words(words.clone(), vec![0, 1])), 1);
+    assert_eq!(refused(Tree::from_words(vec![0; 7 * 131_073], vec![0; 65_537])), 2);
+    assert_eq!(tree().convert_by(4, 0), Err(Refusal::Limit));
+    assert_eq!(tree().convert_by(3, 2), Err(Refusal::Limit));
+    assert_eq!(refused(with(6, 2 << 30)), 5);
+    assert_eq!(refused(with(6, 4)), 5);
+    assert_eq!(refused(with(0, f32::NAN.to_bits())), 6);
+    assert_eq!(refused(with(0, 9f32.to_bits())), 6);
+    assert_eq!(refused(with(13, 1)), 7);
+}
+
+#[test]
+fn records() {
+    let (bytes, list) = (record().bytes().to_vec(), record().indices().to_vec());
+    let check = |bytes: &[u8], n| Record::from_parts(bytes.to_vec(), vec![0; n]).check();
+    assert_eq!(check(&bytes[..79], 3), Err(Refusal::Length));
+    assert_eq!(check(&bytes, 65_537), Err(Refusal::TooMany));
+    assert_eq!(check(&bytes, 4), Ok(Verdict::Unsound));
+    let mut broken = bytes.clone();
+    broken[12] = 200;
+    assert_eq!(check(&broken, 3), Ok(Verdict::Unsound));
+    let broken = Record::from_parts(broken, list.clone());
+    assert_eq!(broken.any_hit(&along()), Err(Refusal::Record));
+    assert_eq!(broken.closest(&PANES, &along()), Err(Refusal::Record));
+    assert_eq!(broken.walk(&along()).unwrap().next(), Some(Err(Refusal::Record)));
+}
+
+#[test]
+fn rays_and_panes() {
+    let record = record();
+    for bad in [Ray { tmax: f32::NAN, ..along() }, Ray::new([f32::INFINITY, 0.0, 0.0], [1.0, 0.0, 0.0])] {
+        assert_eq!(record.any_hit(&bad), Err(Refusal::Ray));
+        assert_eq!(record.closest(&PANES, &bad), Err(Refusal::Ray));
+        assert_eq!(record.miss(&PANES, &bad), Err(Refusal::Ray));
+        assert_eq!(record.walk(&bad).unwrap_err(), Refusal::Ray);
+    }
+    assert_eq!(record.closest(&PANES[..1], &along()), Err(Refusal::Record));
+    let swapped: Vec<Pane> = PANES.iter().map(|p| [p[3], p[1], p[2], p[0], p[4], p[5]]).collect();
+    assert_eq!(record.miss(&swapped, &along()), Err(Refusal::Box));
+}
+
+#[test]
+fn a_short_list_says_what_it_needs_and_stays() {
+    let mut list = [7u32; 2];
+    assert_eq!(record().any_hit_into(&along(), &mut list), Err(Refusal::List { needed: 3 }));
+    assert_eq!(list, [7, 7]);
+    let many: Vec<Pane> = (0..2000).map(|k| [0.0, 0.0, 0.0, 1.0, 1.0, 1.0 + k as f32]).collect();
+    let met = Tree::over(&many).convert(Options::default()).unwrap().any_hit(&along()).unwrap();
+    assert_eq!(met.positions.len(), 2000);
+}
+
+/// A state with one word of its head changed is some walker, and mostly a forged one.
+#[test]
+fn forged_states() {
+    let record = record();
+    let begun = record.walk(&along()).unwrap().state().clone();
+    let alter = |at: usize, word: u64| {
+        let mut state = begun.clone();
+        state.head[at] = word;
+        state
+    };
+    let nan = f32::NAN.to_bits().into();
+    let forged = [alter(0, nan), alter(3, nan), alter(6, 0), alter(10, nan), alter(11, 3), alter(12, 2), alter(17, 33)];
+    for state in forged.into_iter().chain([State { head: [0; 18], stack: [0; 32] }]) {
+        let mut walker = Walker::resume(&record, state.clone());
+        assert_eq!(walker.step(), Err(Refusal::Record));
+        assert_eq!(walker.state(), &state);
+        assert_eq!(walker.next(), Some(Err(Refusal::Record)));
+        assert_eq!(walker.next(), None);
+    }
+    let mut walker = Walker::resume(&record, begun);
+    assert_eq!(walker.step(), Ok(Step::Tested(0)));
+}
+
+#[test]
+fn done_stays_done() {
+    let record = record();
+    let mut walker = record.walk(&along()).unwrap();
+    assert_eq!(walker.by_ref().count(), 3);
+    let state = walker.state().clone();
+    assert_eq!((walker.step(), walker.step()), (Ok(Step::Done), Ok(Step::Done)));
+    assert_eq!(walker.state(), &state);
+}
+
+/// What is told lowers the reach of a walk alone where it is below it.
+#[test]
+fn tellings() {
+    let far: Vec<Pane> = (0..64).map(|k| [2.0 * k as f32, 0.0, 0.0, 2.0 * k as f32 + 1.0, 1.0, 1.0]).collect();
+    let record = Tree::over(&far).convert(Options::default()).unwrap();
+    let reports = |told: f32| {
+        let mut walker = record.walk(&along()).unwrap();
+        let mut count = 0;
+        while let Some(position) = walker.next() {
+            position.unwrap();
+            walker.tell(told);
+            count += 1;
+        }
+        count
+    };
+    assert_eq!(reports(f32::NAN), 64);
+    assert_eq!(reports(f32::INFINITY), 64);
+    assert!(reports(2.0) < 64);
+}
+
+#[test]
+fn sentences() {
+    for number in 1..=11 {
+        let refusal = match number {
+            11 => Refusal::List { needed: 9 },
+            _ => Refusal::from_number(number),
+        };
+        assert_eq!(refusal.number(), number);
+        assert!(refusal.to_string().starts_with(&format!("refused {number}: ")));
+    }
+    assert!(Refusal::List { needed: 9 }.to_string().contains("9 are needed"));
+}

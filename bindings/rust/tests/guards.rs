@@ -1,0 +1,196 @@
+//! Nothing is written past a slice, and what a call leaves as it was comes back bit by bit, NaNs with payloads too.
+use funnelcress::{Lengths, Options, Pane, Tree, sys};
+
+const GUARDS: usize = 16;
+
+/// A quiet or signalling NaN of either sign with a payload of its own, as bits.
+fn nan(k: usize) -> u32 {
+    [0x7fc0_0000, 0xffc0_0000, 0x7f80_0000, 0xff80_0000][k % 4] + 1 + k as u32 % 0x3f_ffff
+}
+
+/// A slice with guards at both ends, and what all of it held at first.
+struct Lent<T> {
+    all: Vec<T>,
+    before: Vec<T>,
+    long: usize,
+}
+
+impl<T: Copy + PartialEq + std::fmt::Debug> Lent<T> {
+    fn new(long: usize, pattern: fn(usize) -> T) -> Lent<T> {
+        let all: Vec<T> = (0..long + 2 * GUARDS).map(pattern).collect();
+        Lent { before: all.clone(), all, long }
+    }
+
+    fn pointer(&mut self) -> *mut T {
+        self.all[GUARDS..].as_mut_ptr()
+    }
+
+    /// All but the first elements is as it was.
+    fn kept_past(&self, used: usize) {
+        assert_eq!(self.all[..GUARDS], self.before[..GUARDS]);
+        assert_eq!(self.all[GUARDS + used..], self.before[GUARDS + used..]);
+    }
+}
+
+fn byte(k: usize) -> u8 {
+    (k * 7 + 129) as u8
+}
+
+fn panes(n: usize) -> Vec<Pane> {
+    (0..n).map(|k| [2.0 * k as f32, 0.0, 0.0, 2.0 * k as f32 + 1.0, 1.0, 1.0]).collect()
+}
+
+const ALONG: [f32; 8] = [-1.0, 0.5, 0.5, 1.0, 0.0, 0.0, 0.0, f32::INFINITY];
+
+/// The four slices of conversion, each longer than needed by so much.
+struct Slices {
+    decisions: Lent<u32>,
+    costs: Lent<u32>,
+    record: Lent<u8>,
+    list: Lent<u32>,
+}
+
+impl Slices {
+    fn new(n: usize, more: usize) -> Slices {
+        let needed = Lengths::of(n);
+        Slices {
+            decisions: Lent::new(needed.tables + more, nan),
+            costs: Lent::new(needed.tables + more, nan),
+            record: Lent::new(needed.record + more, byte),
+            list: Lent::new(needed.list + more, nan),
+        }
+    }
+
+    fn convert(&mut self, tree: &Tree, limit: u32) -> u64 {
+        unsafe {
+            sys::funnelcress_bvh2_to_cwbvh(
+                tree.words().as_ptr(),
+                tree.words().len(),
+                tree.indices().as_ptr(),
+                tree.indices().len(),
+                limit,
+                1,
+                self.decisions.pointer(),
+                self.decisions.long,
+                self.costs.pointer().cast(),
+                self.costs.long,
+                self.record.pointer(),
+                self.record.long,
+                self.list.pointer(),
+                self.list.long,
+            )
+        }
+    }
+
+    fn kept_past(&self, tables: usize, record: usize, list: usize) {
+        self.decisions.kept_past(tables);
+        self.costs.kept_past(tables);
+        self.record.kept_past(record);
+        self.list.kept_past(list);
+    }
+}
+
+#[test]
+fn conversions() {
+    for n in [0, 1, 2, 3, 9, 40] {
+        for more in [0, 1, 100] {
+            let tree = Tree::over(&panes(n));
+            let needed = Lengths::of(n);
+            let mut s = Slices::new(n, more);
+            let nodes = (s.convert(&tree, 3) & 0xffff) as usize;
+            s.kept_past(needed.tables, 80 * nodes, needed.list);
+            let mut s = Slices::new(n, more);
+            assert_eq!(s.convert(&tree, 4), 0x2_0000_0003);
+            s.kept_past(0, 0, 0);
+        }
+    }
+}
+
+#[test]
+fn refused_conversions() {
+    let tree = Tree::over(&panes(9));
+    let mut s = Slices::new(8, 0);
+    assert_eq!(s.convert(&tree, 3), 0x2_0000_0004);
+    s.kept_past(0, 0, 0);
+    let mut words = tree.words().to_vec();
+    words[6] = 3 << 30;
+    let damaged = Tree::from_words(words, tree.indices().to_vec());
+    let mut s = Slices::new(9, 5);
+    assert_eq!(s.convert(&damaged, 3), 0x2_0000_0005);
+    s.kept_past(Lengths::of(9).tables, 0, 0);
+    assert!(s.decisions.all[GUARDS..GUARDS + 119].iter().chain(&s.costs.all[GUARDS..GUARDS + 119]).all(|w| *w == 0));
+}
+
+#[test]
+fn checks_and_lists() {
+    let record = Tree::over(&panes(9)).convert(Options::default()).unwrap();
+    let (bytes, n) = (record.bytes(), record.positions());
+    let used = bytes.len() / 80 + n;
+    for (room, number) in [(used, 0), (used + 3, 0), (used - 1, 0x2_0000_0004)] {
+        let mut work = Lent::new(room, nan);
+        let x = unsafe { sys::funnelcress_validate(bytes.as_ptr(), bytes.len(), n, work.pointer(), room) };
+        assert_eq!(x >> 32 << 32 | if number == 0 { 0 } else { x & 0xff }, number);
+        work.kept_past(if number == 0 { used } else { 0 });
+        assert!(number != 0 || work.all[GUARDS..GUARDS + used].iter().all(|w| *w == 0));
+    }
+    for room in [0, 8, 9, 10] {
+        let mut list = Lent::new(room, nan);
+        let x = unsafe {
+            sys::funnelcress_any_hit(bytes.as_ptr(), bytes.len(), n, ALONG.as_ptr(), 8, list.pointer(), room)
+        };
+        list.kept_past(if room < 9 { 0 } else { 9 });
+        assert_eq!(x as u32, 9);
+    }
+}
+
+#[test]
+fn distances() {
+    let panes = panes(9);
+    let record = Tree::over(&panes).convert(Options::default()).unwrap();
+    let (bytes, list, panes) = (record.bytes(), record.indices(), panes.as_flattened());
+    let mut behind = ALONG;
+    behind[3] = -1.0;
+    let mut short = ALONG;
+    short[7] = f32::NAN;
+    for (ray, room, used) in [(ALONG, 3, 1), (behind, 3, 0), (short, 3, 0), (ALONG, 0, 0)] {
+        let mut out = Lent::new(room, nan);
+        unsafe {
+            sys::funnelcress_closest(
+                bytes.as_ptr(),
+                bytes.len(),
+                list.as_ptr(),
+                list.len(),
+                panes.as_ptr(),
+                panes.len(),
+                ray.as_ptr(),
+                8,
+                out.pointer().cast(),
+                room,
+            )
+        };
+        out.kept_past(used);
+    }
+}
+
+#[test]
+fn walkers() {
+    let record = Tree::over(&panes(9)).convert(Options::default()).unwrap();
+    let (bytes, n) = (record.bytes(), record.positions());
+    let word = |k: usize| nan(k) as u64 * 0x1_0000_0001;
+    let (mut head, mut stack) = (Lent::new(18, word), Lent::new(32, word));
+    let refused = unsafe { sys::funnelcress_begin(ALONG.as_ptr(), 7, head.pointer(), stack.pointer()) };
+    let forged = unsafe { sys::funnelcress_step(head.pointer(), stack.pointer(), bytes.as_ptr(), bytes.len(), n) };
+    assert_eq!((refused, forged), (0x2_0000_0001, 0x2_0000_000a));
+    head.kept_past(0);
+    stack.kept_past(0);
+    assert_eq!(unsafe { sys::funnelcress_begin(ALONG.as_ptr(), 8, head.pointer(), stack.pointer()) }, 0);
+    let mut kinds = [0; 4];
+    for _ in 0..100 {
+        let x = unsafe { sys::funnelcress_step(head.pointer(), stack.pointer(), bytes.as_ptr(), bytes.len(), n) };
+        unsafe { sys::funnelcress_tell(head.pointer(), stack.pointer(), f32::NAN) };
+        kinds[(x >> 32) as usize] += 1;
+    }
+    assert_eq!(kinds[1..3], [9, 0]);
+    head.kept_past(18);
+    stack.kept_past(32);
+}

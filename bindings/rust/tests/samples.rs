@@ -1,0 +1,118 @@
+//! The samples of the requirements, through the safe types.
+use funnelcress::{Hit, Link, Node, Options, Pane, Ray, Record, Refusal, Tree, Verdict};
+
+const PANES: [Pane; 2] = [[0.0, 0.0, 0.0, 1.0, 1.0, 1.0], [2.0, 0.0, 0.0, 3.0, 1.0, 1.0]];
+
+fn node(min: [f32; 3], max: [f32; 3], link: Link) -> Node {
+    Node { min, max, link }
+}
+
+/// The sample tree: a root over two leaves.
+fn sample() -> Tree {
+    let nodes = [
+        node([0.0; 3], [3.0, 1.0, 1.0], Link::Inner(1)),
+        node([0.0; 3], [1.0; 3], Link::Leaf(0)),
+        node([2.0, 0.0, 0.0], [3.0, 1.0, 1.0], Link::Leaf(1)),
+    ];
+    Tree::from_nodes(&nodes, vec![0, 1]).unwrap()
+}
+
+/// One leaf with a box from 0 to an extent on x.
+fn lone(extent: f32) -> Tree {
+    Tree::from_nodes(&[node([0.0; 3], [extent, 0.0, 0.0], Link::Leaf(0))], vec![0]).unwrap()
+}
+
+/// A chain of n leaves, all at one point.
+fn chain(n: u32) -> Tree {
+    let leaf = |k| node([1.0; 3], [1.0; 3], Link::Leaf(k));
+    let mut nodes = vec![];
+    for k in 0..n - 1 {
+        if k == 0 {
+            nodes.push(node([1.0; 3], [1.0; 3], Link::Inner(1)));
+        }
+        nodes.push(leaf(k));
+        let last = k == n - 2;
+        nodes.push(if last { leaf(n - 1) } else { node([1.0; 3], [1.0; 3], Link::Inner(2 * k + 3)) });
+    }
+    Tree::from_nodes(&nodes, (0..n).collect()).unwrap()
+}
+
+fn next_up(x: f32) -> f32 {
+    f32::from_bits(x.to_bits() + 1)
+}
+
+#[test]
+fn exponents() {
+    let byte = |extent| lone(extent).convert(Options::default()).unwrap().bytes()[12];
+    assert_eq!(sample().convert(Options::default()).unwrap().bytes()[12..15], [121, 120, 120]);
+    assert_eq!((byte(255.0), byte(next_up(255.0))), (127, 128));
+    assert_eq!((byte(261_120.0), byte(next_up(261_120.0))), (137, 138));
+    assert_eq!(byte(0.0), 53);
+}
+
+#[test]
+fn the_record() {
+    let record = sample().convert(Options { limit: 3, ordered: false }).unwrap();
+    let hex: String = record.bytes().iter().map(|b| format!("{b:02x}")).collect();
+    let head = "0000000000000000000000007978780001000000000000002021000000000000";
+    let ends = "008000000000000040c00000000000000000000000000000808000000000000000000000000000008080000000000000";
+    assert_eq!(hex, format!("{head}{ends}"));
+    assert_eq!(record.indices(), [0, 1]);
+    assert_eq!(record.check(), Ok(Verdict::Sound(0)));
+}
+
+#[test]
+fn ordering_seats_the_second_leaf_in_slot_4() {
+    let record = sample().convert(Options::default()).unwrap();
+    assert_eq!(record.bytes()[24..32], [0x20, 0, 0, 0, 0x21, 0, 0, 0]);
+}
+
+#[test]
+fn queries() {
+    let record = sample().convert(Options { limit: 3, ordered: false }).unwrap();
+    let ray = Ray::new([-1.0, 0.5, 0.5], [1.0, 0.0, 0.0]);
+    let met = record.any_hit(&ray).unwrap();
+    assert_eq!((met.positions, met.tests), (vec![1, 0], 1));
+    let closest = record.closest(&PANES, &ray).unwrap();
+    assert_eq!((closest.hit, closest.tests), (Some(Hit { position: 0, distance: 1.0 }), 1));
+    assert!(!record.miss(&PANES, &ray).unwrap().missed);
+    let positions: Vec<u32> = record.walk(&ray).unwrap().map(Result::unwrap).collect();
+    assert_eq!(positions, [1, 0]);
+}
+
+/// A direction with −0.0 misses today; a later request reads it as +0.0.
+#[test]
+fn a_negative_zero() {
+    let record = sample().convert(Options { limit: 3, ordered: false }).unwrap();
+    let met = record.any_hit(&Ray::new([-1.0, 0.5, 0.5], [1.0, -0.0, 0.0])).unwrap();
+    assert_eq!((met.positions, met.tests), (vec![], 1));
+}
+
+#[test]
+fn no_leaves() {
+    let record = Tree::from_words(vec![], vec![]).convert(Options::default()).unwrap();
+    assert_eq!((record.bytes().len(), record.check()), (0, Ok(Verdict::Sound(0))));
+    let met = record.any_hit(&Ray::new([0.0; 3], [1.0, 0.0, 0.0])).unwrap();
+    assert_eq!((met.positions, met.tests), (vec![], 0));
+    assert!(record.miss(&[], &Ray::new([0.0; 3], [1.0, 0.0, 0.0])).unwrap().missed);
+    assert_eq!(record.walk(&Ray::new([0.0; 3], [1.0, 0.0, 0.0])).unwrap().count(), 0);
+}
+
+#[test]
+fn limits() {
+    assert!(sample().convert(Options { limit: 3, ordered: true }).is_ok());
+    assert_eq!(sample().convert(Options { limit: 4, ordered: true }), Err(Refusal::Limit));
+    let bound = 2f32.powi(40);
+    assert!(lone(bound).convert(Options::default()).is_ok());
+    assert_eq!(lone(next_up(bound)).convert(Options::default()), Err(Refusal::Box));
+    let deep = chain(33).convert(Options { limit: 1, ordered: false }).unwrap();
+    assert_eq!(deep.check(), Ok(Verdict::Sound(31)));
+    assert_eq!(chain(34).convert(Options { limit: 1, ordered: false }), Err(Refusal::Level));
+}
+
+#[test]
+fn a_record_kept_and_read_again() {
+    let record = sample().convert(Options::default()).unwrap();
+    let again = Record::from_parts(record.bytes().to_vec(), record.indices().to_vec());
+    assert_eq!(again, record);
+}

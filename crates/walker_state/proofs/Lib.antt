@@ -1,0 +1,4 @@
+pub mod Answers
+pub mod Floats
+pub mod Left
+pub mod Runs
