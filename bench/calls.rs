@@ -58,6 +58,8 @@ unsafe extern "C" {
         ray: *const f32,
         ray_len: usize,
     ) -> u64;
+    fn funnelcress_begin(ray: *const f32, ray_len: usize, head: *mut u64, stack: *mut u64) -> u64;
+    fn funnelcress_step(head: *mut u64, stack: *mut u64, record: *const u8, record_len: usize, n: usize) -> u64;
     fn measured_steps(record: *const u8, record_len: usize, n: usize, ray: *const f32, ray_len: usize) -> u64;
     fn measured_hit_masks(
         record: *const u8,
@@ -195,6 +197,25 @@ pub fn steps(record: &[u8], n: usize, ray: &[f32; 8]) -> (u32, u32) {
     let x = unsafe { measured_steps(record.as_ptr(), record.len(), n, ray.as_ptr(), 8) };
     assert_ne!(x, u64::MAX);
     ((x >> 32) as u32, x as u32)
+}
+
+/// The same of a walker kept in lent words, a call for each step.
+#[inline(always)]
+pub fn lent_steps(record: &[u8], n: usize, ray: &[f32; 8]) -> (u32, u32) {
+    let (mut head, mut stack) = ([0u64; 18], [0u64; 32]);
+    assert_eq!(unsafe { funnelcress_begin(ray.as_ptr(), 8, head.as_mut_ptr(), stack.as_mut_ptr()) }, 0);
+    let (mut reports, mut tests) = (0, 0);
+    loop {
+        let x = unsafe { funnelcress_step(head.as_mut_ptr(), stack.as_mut_ptr(), record.as_ptr(), record.len(), n) };
+        match x >> 32 {
+            0 => tests += 1,
+            1 => reports += 1,
+            kind => {
+                assert_eq!(kind, 3);
+                return (reports, tests);
+            }
+        }
+    }
 }
 
 pub fn hit_masks(record: &[u8], ray: &[f32], out: &mut [u32]) -> usize {

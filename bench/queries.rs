@@ -198,12 +198,20 @@ fn misses(s: &Scene, name: &str, rays: &[[f32; 8]]) {
     );
 }
 
-/// A walker stepped to its end, whose reports are counted; the published any-hit counts them in its callback.
 fn walks(s: &Scene, name: &str, rays: &[[f32; 8]]) {
+    walked(s, name, rays, calls::steps);
+}
+
+fn lent_walks(s: &Scene, name: &str, rays: &[[f32; 8]]) {
+    walked(s, name, rays, calls::lent_steps);
+}
+
+/// A walker stepped to its end, whose reports are counted; the published any-hit counts them in its callback.
+fn walked(s: &Scene, name: &str, rays: &[[f32; 8]], steps: impl Fn(&[u8], usize, &[f32; 8]) -> (u32, u32)) {
     let n = s.list.len();
     let mut tests = 0;
     for r in rays {
-        let (reports, t) = calls::steps(&s.record, n, r);
+        let (reports, t) = steps(&s.record, n, r);
         let mut count = 0;
         any_hit(s, r, |_| count += 1);
         assert_eq!(reports, count);
@@ -215,7 +223,7 @@ fn walks(s: &Scene, name: &str, rays: &[[f32; 8]]) {
         tests,
         &mut || {
             for r in black_box(rays) {
-                black_box(calls::steps(&s.record, n, r));
+                black_box(steps(&s.record, n, r));
             }
         },
         &mut || {
@@ -230,7 +238,8 @@ fn walks(s: &Scene, name: &str, rays: &[[f32; 8]]) {
 
 type Rows = fn(&Scene, &str, &[[f32; 8]]);
 
-const QUERIES: [(&str, Rows); 4] = [("any-hit", any_hits), ("closest", closests), ("miss", misses), ("steps", walks)];
+const QUERIES: [(&str, Rows); 5] =
+    [("any-hit", any_hits), ("closest", closests), ("miss", misses), ("steps", walks), ("lent steps", lent_walks)];
 
 pub fn rows() {
     let class = |name, least, most, rays| Class { name, least, most, rays };

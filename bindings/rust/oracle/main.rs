@@ -61,7 +61,7 @@ use calls::{agreed_steps, told};
 use checks::damage;
 use conversions::some_tree;
 use convert::{Converted, convert};
-use funnelcress::{Pane, Record, Refusal, State, Verdict, Walker as Walk};
+use funnelcress::{ObvhsNode, Pane, Record, Refusal, State, TreeError, Verdict, Walker as Walk};
 use generate::ray;
 use obvhs::ray::Ray;
 use queries::{odd_ray, scene, target_box};
@@ -150,9 +150,23 @@ fn steps(mut walker: Walk, told: &[f32]) -> Vec<Step> {
     }
 }
 
+/// The published tree's nodes, handed over.
+fn handed_over(t: &Tree) -> Result<funnelcress::Tree, TreeError> {
+    let bvh2 = t.bvh2();
+    let node = |n: &obvhs::bvh2::node::Bvh2Node| ObvhsNode {
+        min: [n.aabb.min.x, n.aabb.min.y, n.aabb.min.z],
+        max: [n.aabb.max.x, n.aabb.max.y, n.aabb.max.z],
+        prim_count: n.prim_count,
+        first_index: n.first_index,
+    };
+    let nodes: Vec<ObvhsNode> = bvh2.nodes.iter().map(node).collect();
+    funnelcress::Tree::from_obvhs(&nodes, bvh2.primitive_indices.clone())
+}
+
 /// The published conversion's record, or refusal 8.
 fn converted(t: &Tree, c: &Converted, limit: u32, order: bool) -> Option<Record> {
     let tree = funnelcress::Tree::from_words(t.nodes.clone(), t.indices.clone());
+    assert_eq!(Ok(&tree), handed_over(t).as_ref());
     let got = tree.convert_by(limit, order as u32);
     if c.deepest > 31 {
         assert_eq!(got, Err(Refusal::Level));

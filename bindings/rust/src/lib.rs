@@ -24,6 +24,8 @@
 //! Who would lend slices of its own calls the functions of [`sys`].
 //!
 //! Calls share no state: a [`Record`] may be asked from many threads at once ([`on_threads`]).
+#![warn(missing_docs)]
+
 mod answers;
 mod boxes;
 mod lengths;

@@ -103,7 +103,8 @@ impl Tree {
         Ok(Tree { words, indices })
     }
 
-    /// A tree of obvhs' nodes and its primitive indices.
+    /// A tree of obvhs' nodes and its primitive indices, as in `Tree::from_obvhs(&nodes, bvh2.primitive_indices)` where
+    /// each node's `aabb.min`, `aabb.max`, `prim_count` and `first_index` were copied.
     ///
     /// ```
     /// use funnelcress::{ObvhsNode, Tree, TreeError};

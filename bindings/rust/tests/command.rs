@@ -119,3 +119,15 @@ fn words() {
     assert_eq!(failed(&at, "check no-such-file").0, 1);
     assert!(failed(&at, "any-hit house.record panes.txt").2.contains("line 1: first is no number"));
 }
+
+/// A disk that is full is seen.
+#[test]
+fn a_full_disk() {
+    let at = house("full");
+    let full = std::fs::File::options().write(true).open("/dev/full").unwrap();
+    let mut command = Command::new(env!("CARGO_BIN_EXE_funnelcress"));
+    let ended = command.args(["check", "house.record"]).current_dir(&at).stdout(full).output().unwrap();
+    assert_eq!(ended.status.code(), Some(1));
+    assert!(String::from_utf8_lossy(&ended.stderr).contains("standard output: No space left"));
+    assert!(failed(&at, "tree panes.txt -o /dev/full").2.contains("/dev/full: No space left"));
+}

@@ -1,0 +1,128 @@
+/* Each cause of refusal from C, with guards around what is lent: prints a line a call, and fails where one is not refused
+ * as it must be or a guard was written.
+ *
+ *   cc -std=c11 -O2 -Iinclude examples/refusals.c target/staticlib/libfunnelcress.a -o target/refusals && target/refusals */
+#include "funnelcress.h"
+#include <math.h>
+#include <stdio.h>
+#include <string.h>
+
+enum { MOST = 256 };
+
+static const float T[3][6] = {{0, 0, 0, 3, 1, 1}, {0, 0, 0, 1, 1, 1}, {2, 0, 0, 3, 1, 1}};
+static const float along[8] = {-1, 0.5f, 0.5f, 1, 0, 0, 0, INFINITY};
+
+static uint32_t words[21], indices[2] = {0, 1};
+static uint32_t decisions[MOST], list[MOST], work[MOST];
+static float costs[MOST], out[MOST];
+static uint8_t record[MOST];
+static int failures;
+
+/* A sample tree of two leaves in `words`, and patterns in all that is lent. */
+static void fresh(void) {
+    const uint32_t links[3] = {FUNNELCRESS_INNER(1), FUNNELCRESS_LEAF(0), FUNNELCRESS_LEAF(1)};
+    for (int v = 0; v < 3; v++) {
+        memcpy(words + 7 * v, T[v], sizeof T[v]);
+        words[7 * v + 6] = links[v];
+    }
+    memset(decisions, 0xa5, sizeof decisions);
+    memset(costs, 0xa5, sizeof costs);
+    memset(record, 0xa5, sizeof record);
+    memset(list, 0xa5, sizeof list);
+    memset(work, 0xa5, sizeof work);
+    memset(out, 0xa5, sizeof out);
+}
+
+/* Whether the bytes from a place on are as `fresh` left them. */
+static int kept(const void *all, size_t from, size_t size) {
+    const uint8_t *bytes = all;
+    for (size_t i = from; i < size; i++) {
+        if (bytes[i] != 0xa5) {
+            return 0;
+        }
+    }
+    return 1;
+}
+
+static void expect(const char *call, uint32_t cause, uint64_t number, int stayed) {
+    int good = funnelcress_cause(number) == cause && stayed;
+    printf("%-44s refused %2u%s\n", call, funnelcress_cause(number), good ? "" : "   WRONG");
+    failures += !good;
+}
+
+/* Conversion with so many words, indices and room, and its outputs untouched. */
+static void convert(const char *call, uint32_t cause, size_t words_len, size_t n, uint32_t limit, uint32_t order, size_t room) {
+    uint64_t number =
+        funnelcress_bvh2_to_cwbvh(words, words_len, indices, n, limit, order, decisions, room, costs, 21, record, 80, list, 2);
+    size_t used = cause >= 5 ? 21 * sizeof(uint32_t) : 0;
+    int zero = 1;
+    for (size_t i = 0; i < used / sizeof(uint32_t); i++) {
+        zero = zero && decisions[i] == 0 && costs[i] == 0;
+    }
+    expect(call, cause, number,
+           zero && kept(decisions, used, sizeof decisions) && kept(costs, used, sizeof costs) && kept(record, 0, MOST) && kept(list, 0, sizeof list));
+    fresh();
+}
+
+static void trees(void) {
+    float nan = NAN;
+    convert("convert, a word short", 1, 20, 2, 3, 1, 21);
+    convert("convert, leaf limit 4", 3, 21, 2, 4, 1, 21);
+    convert("convert, order 2", 3, 21, 2, 3, 2, 21);
+    convert("convert, decisions short", 4, 21, 2, 3, 1, 20);
+    words[6] = FUNNELCRESS_INNER(2);
+    convert("convert, a link beyond the tree", 5, 21, 2, 3, 1, 21);
+    memcpy(words + 7, &nan, sizeof nan);
+    convert("convert, a box with a NaN", 6, 21, 2, 3, 1, 21);
+    words[20] = FUNNELCRESS_LEAF(0);
+    convert("convert, a position held twice", 7, 21, 2, 3, 1, 21);
+}
+
+/* The queries on the sample's record, with something wrong. */
+static void queries(const uint8_t *good, const uint32_t *good_list) {
+    float ray[8];
+    uint8_t bad[80];
+    memcpy(ray, along, sizeof ray);
+    ray[7] = NAN;
+    memcpy(bad, good, sizeof bad);
+    bad[12] = 255;
+    expect("check, a byte short", 1, funnelcress_validate(good, 79, 2, work, 3), kept(work, 0, sizeof work));
+    expect("check, too many positions", 2, funnelcress_validate(good, 80, 65537, work, 3), kept(work, 0, sizeof work));
+    expect("check, no working words", 4, funnelcress_validate(good, 80, 2, NULL, 0), 1);
+    expect("any-hit, a ray of seven", 1, funnelcress_any_hit(good, 80, 2, along, 7, list, 2), kept(list, 0, sizeof list));
+    expect("any-hit, tmax a NaN", 9, funnelcress_any_hit(good, 80, 2, ray, 8, list, 2), kept(list, 0, sizeof list));
+    expect("any-hit, a damaged record", 10, funnelcress_any_hit(bad, 80, 2, along, 8, list, 2), kept(list, 0, sizeof list));
+    uint64_t lacking = funnelcress_any_hit(good, 80, 2, along, 8, list, 1);
+    int eleven = funnelcress_kind(lacking) == 1 && funnelcress_value(lacking) == 2 && kept(list, 0, sizeof list);
+    printf("%-44s refused 11, %u needed%s\n", "any-hit, a short list", funnelcress_value(lacking), eleven ? "" : "   WRONG");
+    failures += !eleven;
+    expect("closest, no float lent", 4, funnelcress_closest(good, 80, good_list, 2, T[1], 12, along, 8, NULL, 0), 1);
+    expect("closest, an index past the panes", 10, funnelcress_closest(good, 80, good_list, 2, T[1], 6, along, 8, out, 1), kept(out, 0, sizeof out));
+    expect("miss, panes of seven floats", 1, funnelcress_miss(good, 80, good_list, 2, T[1], 7, along, 8), 1);
+}
+
+static void walkers(const uint8_t *good) {
+    funnelcress_walker w, before;
+    memset(&w, 0xa5, sizeof w);
+    expect("begin, a ray of nine", 1, funnelcress_begin(along, 9, w.head, w.stack), kept(&w, 0, sizeof w));
+    expect("step, words that no walk left", 10, funnelcress_step(w.head, w.stack, good, 80, 2), kept(&w, 0, sizeof w));
+    failures += funnelcress_begin(along, 8, w.head, w.stack) != 0;
+    before = w;
+    expect("step, a byte short", 1, funnelcress_step(w.head, w.stack, good, 79, 2), memcmp(&w, &before, sizeof w) == 0);
+    expect("step, too many positions", 2, funnelcress_step(w.head, w.stack, good, 80, 65537), memcmp(&w, &before, sizeof w) == 0);
+}
+
+int main(void) {
+    uint8_t good[80];
+    uint32_t good_list[2];
+    fresh();
+    trees();
+    if (funnelcress_bvh2_to_cwbvh(words, 21, indices, 2, 3, 1, decisions, 21, costs, 21, good, 80, good_list, 2) != 1) {
+        return 1;
+    }
+    fresh();
+    queries(good, good_list);
+    walkers(good);
+    printf("%d wrong\n", failures);
+    return failures != 0;
+}
