@@ -94,7 +94,8 @@ fn gather(
             n,
         );
         let reply = turn.answer;
-        walk = advance::walk_after(turn);
+        let next = advance::walk_after(turn);
+        walk = next;
         match reply {
             Answer::Done => {
                 let state = State::Done;
