@@ -1,4 +1,4 @@
--- What the core of a walk says of the walker whose numbers it takes (01, "Walking").
+-- Internal: all but `answerOf`, `groupOf` and `walkerOf`. What the core of a walk says of the walker whose numbers it takes (01, "Walking").
 use mathlib.Core.Bool.{Bool, not, _&&_, _||_, cond}
 use mathlib.Core.List.{List}
 use mathlib.Core.Path.{_≡_}

@@ -1,4 +1,4 @@
--- A walk that gathers positions and may be gone on with: what holds between two of its nodes, and where it ends.
+-- Internal: a walk that gathers positions and may be gone on with: what holds between two of its nodes, and where it ends.
 use mathlib.Core.List.{List}
 use mathlib.Core.Path.{_≡_}
 use Prim.Native.Nat.{ℕ, _+_, _*_, _≤_, _<_}

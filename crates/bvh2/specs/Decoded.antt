@@ -1,4 +1,4 @@
--- What the words of an accepted tree decode to (01, "Words, bytes and bounds"): proofs/Decoded has that a tree is accepted exactly if it
+-- Internal: what the words of an accepted tree decode to (01, "Words, bytes and bounds"): proofs/Decoded has that a tree is accepted exactly if it
 -- decodes so.
 use mathlib.Core.Path.{_≡_}
 use mathlib.Core.Bool.{true}

@@ -1,5 +1,5 @@
--- A labelled tree as words (01, "Words, bytes and bounds"): the node labelled v is written from word 7v on. proofs/Encode has that such words
--- decode to the tree again.
+-- Internal: a labelled tree as words (01, "Words, bytes and bounds"): the node labelled v is written from word 7v on. proofs/Encode has that such
+-- words decode to the tree again.
 use mathlib.Core.Path.{_≡_}
 use mathlib.Core.List.{List, [], _∷_, Perm}
 use Prim.Native.Nat.{ℕ, _+_, _*_, _<_}

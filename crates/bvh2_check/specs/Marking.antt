@@ -1,5 +1,4 @@
--- The walk that marks a tree's nodes and positions in working words, as the code makes it: what its private functions promise. What the public
--- functions promise does not lean on it.
+-- Internal: the walk that marks a tree's nodes and positions in working words, as the code makes it.
 use mathlib.Core.Bool.{Bool, true, false}
 use mathlib.Core.List.{List}
 use Prim.Native.Nat.{ℕ, zero, suc, _+_, _<_, _≤_}

@@ -1,5 +1,5 @@
--- What `checkrecord` keeps of input of any length. Past the longest that a record can have no byte matters, and of the length only what is over whole
--- nodes (01, "Causes of refusal": 1 comes before 2).
+-- Internal: what `checkrecord` keeps of input of any length. Past the longest that a record can have no byte matters, and of the length only what is
+-- over whole nodes (01, "Causes of refusal": 1 comes before 2).
 use mathlib.Core.Bool.{true, false}
 use mathlib.Core.List.{List, [], _∷_}
 use mathlib.Core.Path.{_≡_}

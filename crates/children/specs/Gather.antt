@@ -1,4 +1,4 @@
--- The children that a node of a binary tree gives to a wide node (01, "Corners of each file", bvh2_to_cwbvh.rs), in gathered order.
+-- Internal: the children that a node of a binary tree gives to a wide node (01, "Corners of each file", bvh2_to_cwbvh.rs), in gathered order.
 use mathlib.Core.List.{List, [], _∷_, _++_}
 use Prim.Native.Nat.{ℕ}
 use Rattle.bvh2.specs.Tree.{Tree, leaf, inner, positions}

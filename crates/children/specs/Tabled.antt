@@ -1,4 +1,4 @@
--- What the code that gathers asks and gives.
+-- Internal: what the code that gathers asks and gives.
 use mathlib.Core.Path.{_≡_}
 use mathlib.Core.List.{List, map}
 use Prim.Native.Nat.{ℕ, _+_, _*_, _/_, _≤_}

@@ -1,4 +1,5 @@
--- Tables in slices (01, "Words, bytes and bounds"): a decision word and a cost for each of seven entries, from place 7 * v on for node v.
+-- Internal: all but `row` and `fill`. Tables in slices (01, "Words, bytes and bounds"): a decision word and a cost for each of seven entries, from
+-- place 7 * v on for node v.
 use mathlib.Core.Path.{_≡_}
 use mathlib.Core.List.{List}
 use mathlib.Core.Logic.{_⊎_}

@@ -11,10 +11,11 @@ use Rattle.closest.proofs.Distances.{Number, distance-number}
 use Rattle.demands.specs.Walks.{AcceptedRay}
 
 module _ {ray : Ray} (a : AcceptedRay ray) where
-  -- what holds of every ray that is made and accepted holds of it
+  -- the ray from its parts
   abbrev made : Ray
   made = rayOf (a .origin) (a .direction) (a .tmin) (a .tmax)
 
+  -- what holds of that, being accepted, holds of the ray
   as-made : (P : Ray → Type 0) → (acceptedRay made ≡ true → P made) → P ray
   as-made P f = subst P (sym (a .made)) (f (subst (λ (r : Ray). acceptedRay r ≡ true) (a .made) (a .accepted)))
 

@@ -75,9 +75,9 @@ module _ {bytes : List ℕ} {n d : ℕ} {ray : Ray} (good : Good bytes n d) (acc
   -- with room for what is found
   with-room : (before : List ℕ) → length (found bytes ray n) ≤ length before → Lists bytes ray n before
   with-room before room =
-      let same = list-found bytes n ray before (good .layout) (good .positions) (good .nodes) (accepted .accepted) (met .ends) room in
+      let same = list-found good accepted before (met .ends) room in
       record {
-        answer = answers-listed bytes n ray before (good .layout) (good .positions) (good .nodes) (accepted .accepted) (met .ends) room;
+        answer = answers-listed good accepted before (met .ends) room;
         listing = same ∙ met .lists;
         passed-once = λ p q. ap (count p) same ∙ listed-once p q;
         no-other = λ p q. ap (count p) same ∙ not-listed p q;

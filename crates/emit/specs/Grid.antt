@@ -1,4 +1,4 @@
--- A node's grid: its lower corner, the exponent byte of each axis, and the reciprocal of each scale.
+-- Internal: a node's grid: its lower corner, the exponent byte of each axis, and the reciprocal of each scale.
 use Rattle.aabb.specs.declared.Aabb.{Aabb}
 use Rattle.quantization.specs.Exponent.{exponentOf}
 use lib.Ieee.{Float, binary32, sub, mul}

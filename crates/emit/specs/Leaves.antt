@@ -1,4 +1,4 @@
--- The index words of a subtree's leaves (01, "Corners of each file", bvh2_to_cwbvh.rs: count_primitives).
+-- Internal: the index words of a subtree's leaves (01, "Corners of each file", bvh2_to_cwbvh.rs: count_primitives).
 use mathlib.Core.Path.{_≡_}
 use mathlib.Core.List.{List}
 use Prim.Native.Nat.{ℕ, _+_, _≤_}

@@ -1,5 +1,5 @@
--- A node's own slots, worked through one after another (01, "Corners of each file", bvh2_to_cwbvh.rs): meta bytes, boxes on the grid, the mask
--- of inner children, and the index words of the leaf children, in slot order.
+-- Internal: a node's own slots, worked through one after another (01, "Corners of each file", bvh2_to_cwbvh.rs): meta bytes, boxes on the grid, the
+-- mask of inner children, and the index words of the leaf children, in slot order.
 use mathlib.Core.Bool.{Bool, true, false}
 use mathlib.Core.List.{List}
 use mathlib.Core.Path.{_≡_}

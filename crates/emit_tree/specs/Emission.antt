@@ -1,5 +1,5 @@
--- Conversion of a binary tree in words with the tables of its decisions (01, "Corners of each file", bvh2_to_cwbvh.rs): the slots of a node, and
--- the record and index list that are written from a node on.
+-- Internal: conversion of a binary tree in words with the tables of its decisions (01, "Corners of each file", bvh2_to_cwbvh.rs): the slots of a
+-- node, and the record and index list that are written from a node on.
 use mathlib.Core.Path.{_≡_}
 use mathlib.Core.Bool.{Bool, not, _&&_}
 use mathlib.Core.List.{List, map}

@@ -1,4 +1,4 @@
--- How large a float is: bounds a / c on its size, as the laws of `proofs/Magnitude.antt` carry them through sums, products and quotients.
+-- Internal: how large a float is: bounds a / c on its size, as the laws of `proofs/Magnitude.antt` carry them through sums, products and quotients.
 -- `fin s m e` is ±m * 2 ^ e, and 2 ^ e is the fraction up e / down e.
 use mathlib.Core.Path.{_≡_}
 use mathlib.Core.Bool.{true, false}

@@ -1,4 +1,4 @@
--- How many levels a wide tree has, by the decisions of the binary tree alone (01, "Corners of each file", bvh2_to_cwbvh.rs).
+-- Internal: how many levels a wide tree has, by the decisions of the binary tree alone (01, "Corners of each file", bvh2_to_cwbvh.rs).
 use Prim.Native.Nat.{ℕ, suc, max}
 use Rattle.bvh2.specs.Tree.{Tree, leaf, inner}
 use Rattle.cost.specs.Table.{Kind, LEAF, INTERNAL, DISTRIBUTE, table}

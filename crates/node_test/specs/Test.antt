@@ -1,4 +1,4 @@
--- The test of a node (01, "Walking"; "Causes of refusal", 10): its rule first, then its hit mask.
+-- Internal: the test of a node (01, "Walking"; "Causes of refusal", 10): its rule first, then its hit mask.
 use mathlib.Core.Bool.{true, false, cond}
 use Prim.Native.Nat.{ℕ}
 use Rattle.ray.specs.declared.Ray.{Ray}

@@ -1,4 +1,4 @@
--- A pair with its cost, as the code's private functions hand it on. No public contract cites these.
+-- Internal: a pair with its cost, as the code's private functions hand it on.
 use mathlib.Core.Bool.{cond}
 use mathlib.Core.List.{List, [], _∷_}
 use Prim.Native.Nat.{ℕ}

@@ -1,4 +1,4 @@
--- What a walk over a record asks of it (01, "Words, bytes and bounds").
+-- Internal: what a walk over a record asks of it (01, "Words, bytes and bounds").
 use mathlib.Core.List.{List}
 use mathlib.Core.Path.{_≡_}
 use Prim.Native.Nat.{ℕ, _%_, _≤_, _<_}

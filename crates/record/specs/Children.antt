@@ -1,4 +1,4 @@
--- A node's children one by one: what stands in each slot, and what it gives to the node's fields.
+-- Internal: a node's children one by one: what stands in each slot, and what it gives to the node's fields.
 use mathlib.Core.List.{List, [], _++_}
 use Prim.Native.Nat.{ℕ, zero, suc, _+_, _^_}
 use lib.ListN.{length}

@@ -1,5 +1,5 @@
--- What an accepted tree ensures of its wide tree (01, "Words, bytes and bounds"; "Causes of refusal", 2 and 6): every node fits a record's fields,
--- whatever the levels are.
+-- Internal: what an accepted tree ensures of its wide tree (01, "Words, bytes and bounds"; "Causes of refusal", 2 and 6): every node fits a record's
+-- fields, whatever the levels are.
 use Prim.Native.Nat.{ℕ, _≤_}
 use lib.Dec.{T}
 use lib.Ieee.{binary32, fits}

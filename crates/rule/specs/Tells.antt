@@ -1,4 +1,4 @@
--- A test's answer and what it says, for the contracts of the parts of a test.
+-- Internal: a test's answer and what it says, for the contracts of the parts of a test.
 use mathlib.Core.Bool.{Bool, true, false}
 
 -- true says P, and false that P does not hold

@@ -1,4 +1,4 @@
--- What the test of eight meta bytes at once says of each, for the contracts of its parts.
+-- Internal: what the test of eight meta bytes at once says of each, for the contracts of its parts.
 use mathlib.Core.Path.{_≡_}
 use Prim.Native.Nat.{ℕ, _+_, _/_, _%_, _^_, _<_, _≤_}
 use Rattle.words.specs.Fields.{field}

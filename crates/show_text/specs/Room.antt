@@ -1,4 +1,4 @@
--- The lent slices are long enough for any tree that `showrecord` takes: 256 leaves, so 511 tree nodes and a record of at most 255 nodes.
+-- Internal: the lent slices are long enough for any tree that `showrecord` takes: 256 leaves, so 511 tree nodes and a record of at most 255 nodes.
 use Prim.Native.Nat.{ℕ, _+_, _*_, _≤_}
 
 pub record Room (decisions costs bytes list out : ℕ) : Type 0 where

@@ -1,4 +1,4 @@
--- What the parts of the test of eight slots compute, for their contracts.
+-- Internal: what the parts of the test of eight slots compute, for their contracts.
 use mathlib.Core.Bool.{Bool, cond}
 use mathlib.Core.List.{List}
 use mathlib.Core.Path.{_≡_}

@@ -1,4 +1,4 @@
--- The nodes below a node, and the positions of its subtree (01, "Words, bytes and bounds": a child range's node is their parent).
+-- Internal: the nodes below a node, and the positions of its subtree (01, "Words, bytes and bounds": a child range's node is their parent).
 use mathlib.Core.Path.{_≡_}
 use Prim.Native.Nat.{ℕ, zero, suc}
 use Rattle.soundness.specs.Shape.{Shape, Child, Holds}

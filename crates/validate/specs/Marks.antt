@@ -1,5 +1,5 @@
--- What the pass over the nodes writes into the working words, for the contracts of its parts. Words of nodes come first, then those of positions. A
--- node's word becomes its level plus 1 when its parent is met, a position's word becomes 1.
+-- Internal: what the pass over the nodes writes into the working words, for the contracts of its parts. Words of nodes come first, then those of
+-- positions. A node's word becomes its level plus 1 when its parent is met, a position's word becomes 1.
 use mathlib.Core.Bool.{Bool, true, false}
 use mathlib.Core.List.{List}
 use mathlib.Core.Logic.{_⊎_}

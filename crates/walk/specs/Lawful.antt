@@ -1,4 +1,4 @@
--- What holds of the tests of a record of a given shape, where its nodes meet the rule: the record's bytes and the slot test give it.
+-- Internal: what holds of the tests of a record of a given shape, where its nodes meet the rule: the record's bytes and the slot test give it.
 use mathlib.Core.Bool.{true, false}
 use mathlib.Core.Path.{_≡_}
 use Prim.Native.Nat.{ℕ, _≤_, _<_}

@@ -1,4 +1,4 @@
--- Hit masks (01, "Rust forms and their replacements"): what the bits of a node's mask say of its slots, where the node meets the rule.
+-- Internal: hit masks (01, "Rust forms and their replacements"): what the bits of a node's mask say of its slots, where the node meets the rule.
 use mathlib.Core.Bool.{true, false, not}
 use mathlib.Core.Path.{_≡_}
 use Prim.Native.Nat.{ℕ, _+_, _^_, _<_}

@@ -104,13 +104,6 @@ module _ {s d : Type 0} (pane : ℕ → s → Pane d) (nearer : d → s → Bool
   abbrev pub miss : ℕ → s → Found d → Reaction d (Found d)
   miss p r x = blockAt (pane p r) p r x
 
-  module _ (m : ℕ) (T : Tests s d) (n : ℕ) (ray : s) where
-    abbrev pub closestOf : Outcome s (Found d)
-    closestOf = query m T closest (stepsFor m) n (fresh ray) none
-
-    abbrev pub missOf : Outcome s (Found d)
-    missOf = query m T miss (stepsFor m) n (fresh ray) none
-
 -- ---- how a query ends
 
 -- there is a next step

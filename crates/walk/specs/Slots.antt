@@ -85,6 +85,7 @@ module _ {s d : Type 0} (W : Slots s d) where
     pub passes : W .passes ray v slot ≡ true
     pub admitted : W .admits ray p ≡ true
 
+  -- the nodes that the ray reaches by such slots, and the positions that it passes in them
   abbrev pub ReachedBySlots : s → ℕ → Type 0
   ReachedBySlots ray = ReachedBy (W .shape .nodes) (PassesChild ray)
 

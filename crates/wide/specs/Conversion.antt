@@ -1,5 +1,5 @@
--- The same as conversion runs (01, "Corners of each file", bvh2_to_cwbvh.rs): a node is written, then its inner children are converted in slot
--- order, and the node count and the index count are handed on. What writing a node does is left open.
+-- Internal: a layout as conversion runs (01, "Corners of each file", bvh2_to_cwbvh.rs): a node is written, then its inner children are converted in
+-- slot order, and the node count and the index count are handed on. What writing a node does is left open.
 use mathlib.Core.List.{List, [], _∷_, map}
 use Prim.Native.Nat.{ℕ, _+_}
 use Rattle.lists.specs.Splice.{splice}

@@ -1,4 +1,4 @@
--- The child ranges and leaf ranges of a layout (01, "Words, bytes and bounds"), each range written out.
+-- Internal: the child ranges and leaf ranges of a layout (01, "Words, bytes and bounds"), each range written out.
 use mathlib.Core.List.{List, [], _∷_, _++_}
 use mathlib.Core.Path.{_≡_}
 use Prim.Native.Nat.{ℕ, _+_}

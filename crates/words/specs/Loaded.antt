@@ -1,4 +1,4 @@
--- What a load gives.
+-- Internal: what a load gives.
 use Prim.Native.Nat.{ℕ, _+_, _*_, _<_}
 use mathlib.Core.List.{List}
 use mathlib.Core.Path.{_≡_}

@@ -1,4 +1,4 @@
--- r is the place of the highest set digit of n, of w digits.
+-- Internal: r is the place of the highest set digit of n, of w digits.
 use Prim.Native.Nat.{ℕ, _+_, _^_, _≤_, _<_}
 
 pub record Top (w n r : ℕ) : Type 0 where
