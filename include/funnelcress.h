@@ -8,18 +8,18 @@
  * - No function keeps a pointer, allocates, or has state of its own: calls may run on many threads at once, as long as
  *   none writes what another reads or writes.
  * - Any values are allowed in the slices. What can't be used is refused, with a number that says why:
- *     1  a length does not fit the layout (tree 7 words a node, record 80 bytes a node, pane 6 floats, ray 8), or the
- *        nodes are not 2n - 1
+ *     1  some length is wrong for its layout (tree 7 words a node, record 80 bytes a node, pane 6 floats, ray 8), or the
+ *        tree has not 2n - 1 nodes
  *     2  more than 65,536 positions or 65,535 record nodes
- *     3  a leaf limit over 3, or an order neither 0 nor 1
- *     4  an output or working slice is short
- *     5  a link of kind 2 or 3, or one beyond the tree or the index list
+ *     3  the leaf limit exceeds 3, or the order is neither 0 nor 1
+ *     4  too little room was lent for outputs or work
+ *     5  a link of no known kind, or one that leads out of the tree or the index list
  *     6  a box, or a pane met, that is not finite, past 2^40 either way, or with a lower end above its upper one
  *     7  a node or position that is not reached exactly once, or a path of over 127 edges
- *     8  the record would have a level over 31
+ *     8  some node of the record would lie deeper than level 31
  *     9  a ray whose origin or direction is not finite or past 2^40 either way, or whose tmax is a NaN
  *    10  a damaged record, an index that names no pane, or a forged walker
- *    11  the list of any-hit is short
+ *    11  any-hit meets more positions than its list has room for
  *   Causes are looked at in rising number; those of a walk come where the walk meets them.
  * - Unless said otherwise a refused call leaves all slices as they were, and no call writes past what it says.
  *

@@ -1,7 +1,7 @@
 //! Many rays at once: how any-hit over one record grows with the threads that share the rays.
 //!
 //!     cargo run --release --example many_rays [PANES [RAYS]]
-use funnelcress::{AnyHit, Options, Pane, Ray, Refusal, Tree, cores, on_threads};
+use funnelcress::{AnyHit, Options, Pane, Ray, Record, Refusal, Tree, cores, on_threads};
 use std::time::Instant;
 
 /// Numbers from 0 to 1, the same in each run.
@@ -31,6 +31,19 @@ fn rays(drawn: &mut Drawn, count: usize, side: f32) -> Vec<Ray> {
     (0..count).map(&mut one).collect()
 }
 
+/// The best time of seven runs, and how many positions were met.
+fn timed(record: &Record, rays: &[Ray], threads: usize) -> Result<(f64, usize), Refusal> {
+    let mut best = (f64::INFINITY, 0);
+    for _ in 0..7 {
+        let begun = Instant::now();
+        let answers: Result<Vec<AnyHit>, Refusal> =
+            on_threads(threads, rays, |r| record.any_hit(r)).into_iter().collect();
+        let time = begun.elapsed().as_secs_f64();
+        best = (best.0.min(time), answers?.iter().map(|a| a.positions.len()).sum());
+    }
+    Ok(best)
+}
+
 fn main() -> Result<(), Refusal> {
     let mut args = std::env::args().skip(1).map(|a| a.parse().expect("a number"));
     let (panes_count, rays_count) = (args.next().unwrap_or(20_000), args.next().unwrap_or(200_000));
@@ -38,14 +51,10 @@ fn main() -> Result<(), Refusal> {
     let panes = panes(drawn, panes_count);
     let rays = rays(drawn, rays_count, (panes_count as f32).sqrt());
     let record = Tree::over(&panes).convert(Options::default())?;
-    println!("{panes_count} panes, {rays_count} rays");
+    println!("{panes_count} panes, {rays_count} rays, the best of seven runs");
     let mut alone = None;
     for threads in (0..).map(|k| 1 << k).take_while(|t| *t <= cores()) {
-        let begun = Instant::now();
-        let answers: Result<Vec<AnyHit>, Refusal> =
-            on_threads(threads, &rays, |r| record.any_hit(r)).into_iter().collect();
-        let time = begun.elapsed().as_secs_f64();
-        let met: usize = answers?.iter().map(|a| a.positions.len()).sum();
+        let (time, met) = timed(&record, &rays, threads)?;
         let growth = *alone.get_or_insert(time) / time;
         let rate = rays_count as f64 / time / 1e6;
         println!(

@@ -6,27 +6,27 @@ use std::fmt;
 #[derive(Clone, Copy, Debug, PartialEq, Eq, Hash)]
 #[non_exhaustive]
 pub enum Refusal {
-    /// 1: a length does not fit the layout.
+    /// 1: some length is wrong for its layout.
     Length,
     /// 2: more positions or nodes than a record can have.
     TooMany,
-    /// 3: a leaf limit over 3, or an order neither 0 nor 1.
+    /// 3: the leaf limit exceeds 3, or the order is neither 0 nor 1.
     Limit,
-    /// 4: an output or working slice is short.
+    /// 4: too little room was lent.
     Room,
-    /// 5: a link of no known kind, or past the tree or the list.
+    /// 5: a link of no known kind, or one that leads out of the tree or the list.
     Link,
     /// 6: a box that is not finite, past the bounds, or with its ends swapped.
     Box,
     /// 7: the links make no tree, or one too deep.
     Structure,
-    /// 8: the record would have a level over 31.
+    /// 8: some node of the record would lie deeper than level 31.
     Level,
     /// 9: a ray that is not finite or past the bounds.
     Ray,
     /// 10: a damaged record, an index past the panes, or a forged walker.
     Record,
-    /// 11: a list shorter than the positions met, with the length needed.
+    /// 11: more positions than the list has room for, with the length needed.
     List {
         /// How many positions there are.
         needed: u32,
@@ -74,21 +74,21 @@ impl Refusal {
     /// What is wrong.
     pub fn wrong(self) -> &'static str {
         match self {
-            Refusal::Length => "a length does not fit the layout",
+            Refusal::Length => "some length is wrong for its layout, or the tree has not 2n - 1 nodes",
             Refusal::TooMany => "there are more than 65,536 positions or 65,535 record nodes",
-            Refusal::Limit => "the leaf limit is over 3, or the order is neither 0 nor 1",
-            Refusal::Room => "an output or working slice is too short",
-            Refusal::Link => "a link is of no known kind, or leads beyond the tree or the index list",
+            Refusal::Limit => "the leaf limit exceeds 3, or the order is neither 0 nor 1",
+            Refusal::Room => "too little room was lent for outputs or work",
+            Refusal::Link => "a link is of no known kind, or leads out of the tree or the index list",
             Refusal::Box => "a box is not finite, goes past 2^40 either way, or has a lower end above its upper one",
             Refusal::Structure => {
                 "the links do not make one tree, or a path has over 127 edges, or a position is not held by exactly one leaf"
             }
-            Refusal::Level => "the record would have a level over 31",
+            Refusal::Level => "some node of the record would lie deeper than level 31",
             Refusal::Ray => {
                 "the ray's origin or direction is not finite or goes past 2^40 either way, or its tmax is no number"
             }
             Refusal::Record => "the record is damaged, an index names no pane, or the walker is forged",
-            Refusal::List { .. } => "the list is shorter than the positions met",
+            Refusal::List { .. } => "more positions are met than the list has room for",
             Refusal::Other(_) => "the call was refused for a cause that these bindings do not know",
         }
     }

@@ -130,7 +130,7 @@ impl Tree {
         Tree { words, indices }
     }
 
-    /// A plain tree over panes, halved at the middle of the longest extent of the boxes' centres. For large models
+    /// A plain tree over panes, halved again and again by their centres along the longest side of the box around them. For large models
     /// build one with obvhs, whose trees are quicker to walk; answers are as sure over either.
     pub fn over(panes: &[Pane]) -> Tree {
         let mut order: Vec<u32> = (0..panes.len() as u32).collect();

@@ -6,15 +6,18 @@ use Prim.Native.Nat.{ℕ, _%_}
 use lib.Dec.{T, eqb, leb}
 use lib.ListN.{length}
 use Rattle.walk.specs.Step.{Answer, tested, position, done, refused, sizesFit}
-use Rattle.walk.specs.WordStep.{WalkerWords, SteppedWords, NodeWords, leaving, pastSkips}
+use Rattle.ray.specs.declared.Ray.{Ray}
+use Rattle.ray.specs.Ray.{acceptedRay}
+use Rattle.walk.specs.WordStep.{WalkerWords, SteppedWords, RunWords, NodeWords, freshWords, leaving, pastSkips}
 use Rattle.walk.specs.WordStep.{forgedWords, onlyFirstWords, turnWords, advanceWords, stepWords}
 use Rattle.walk.proofs.Cases.{cond-elim}
-use Rattle.walk_record.specs.Beam.{Beam, beams}
+use Rattle.walk_record.specs.Beam.{Beam, beamOf, beams}
 use Rattle.walk_record.specs.Record.{nodeWordsAt}
 use Rattle.walk_record.specs.Walk.{stepAt}
 use Rattle.record_shape.specs.Record.{nodeCount}
 use Rattle.traverse.specs.Calls.{RecordOp, stepOn, tells, runEach}
-use Rattle.traverse.specs.Walker.{stepBytes}
+use Rattle.traverse.specs.Walker.{started, stepBytes}
+use Rattle.traverse.proofs.Begun.{starts-fresh}
 use Rattle.walker_state.specs.State.{State, isRefused, Leaves}
 use Rattle.walker_state.specs.Calls.{heldBy, Leads, none, steps, told}
 
@@ -67,10 +70,22 @@ step-holds s t bytes n = go (isRefused (stepBytes bytes n (heldBy s) .answer)) r
     go true e h = ap heldBy h ∙ sym (bytes-stay bytes n (heldBy s) e)
     go false e h = h
 
--- after any list of calls they hold the walker of that run
-pub run-holds : (l : List RecordOp) (s u : State) → Leads l s u → heldBy u ≡ runEach l (heldBy s) .walker
+-- a run with an answer before its own
+abbrev after : Answer → RunWords Beam → RunWords Beam
+after a r = record { walker = r .walker; answers = a ∷ r .answers }
+
+-- after any list of calls they hold the walker of that run, and the answers are the run's
+pub run-holds : (l : List RecordOp) (s u : State) (answers : List Answer) → Leads l s u answers
+    → record { walker = heldBy u; answers = answers } ≡ runEach l (heldBy s)
 unfolding runEach
-run-holds [] s u none = refl
-run-holds (stepOn bytes n ∷ l) s u (steps {t = t} h k) =
-    run-holds l t u k ∙ ap (λ (w : WalkerWords Beam). runEach l w .walker) (step-holds s t bytes n h)
-run-holds (tells x ∷ l) s u (told {t = t} h k) = run-holds l t u k ∙ ap (λ (w : WalkerWords Beam). runEach l w .walker) h
+run-holds [] s u answers none = refl
+run-holds (stepOn bytes n ∷ l) s u answers (steps {t = t} {answers = bs} h k) =
+    ap (after (stepBytes bytes n (heldBy s) .answer)) (run-holds l t u bs k ∙ ap (runEach l) (step-holds s t bytes n h))
+run-holds (tells x ∷ l) s u answers (told {t = t} h k) = run-holds l t u answers k ∙ ap (runEach l) h
+
+-- from words in which a walker was begun on an accepted ray it is the run of a walker just begun
+pub run-begun : (r : Ray) → acceptedRay r ≡ true → (before s u : State) → Leaves false before s (started r .walker)
+    → (l : List RecordOp) (answers : List Answer) → Leads l s u answers
+    → record { walker = heldBy u; answers = answers } ≡ runEach l (freshWords (beamOf r))
+unfolding Leaves
+run-begun r a before s u h l answers k = run-holds l s u answers k ∙ ap (runEach l) (h ∙ starts-fresh r a)

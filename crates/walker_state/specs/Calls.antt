@@ -3,6 +3,7 @@ use mathlib.Core.List.{List, [], _∷_}
 use mathlib.Core.Path.{_≡_}
 use Prim.Native.Nat.{ℕ}
 use lib.Ieee.{Float}
+use Rattle.walk.specs.Step.{Answer}
 use Rattle.walk.specs.WordStep.{WalkerWords}
 use Rattle.walk_record.specs.Beam.{Beam}
 use Rattle.traverse.specs.Calls.{RecordOp, stepOn, tells}
@@ -13,10 +14,11 @@ use Rattle.walker_state.specs.State.{State, walkerIn, isRefused, Leaves}
 abbrev pub heldBy : State → WalkerWords Beam
 heldBy s = walkerIn (s .head) (s .stack)
 
--- from the words s a list of calls leaves the words u
-pub data Leads : List RecordOp → State → State → Type 0 where
-  none : {s : State} → Leads [] s s
-  steps : {s t u : State} {bytes : List ℕ} {n : ℕ} {l : List RecordOp}
+-- from the words s a list of calls leaves the words u, its steps having answered so
+pub data Leads : List RecordOp → State → State → List Answer → Type 0 where
+  none : {s : State} → Leads [] s s []
+  steps : {s t u : State} {bytes : List ℕ} {n : ℕ} {l : List RecordOp} {answers : List Answer}
       → Leaves (isRefused (stepBytes bytes n (heldBy s) .answer)) s t (stepBytes bytes n (heldBy s) .walker)
-      → Leads l t u → Leads (stepOn bytes n ∷ l) s u
-  told : {s t u : State} {x : Float} {l : List RecordOp} → heldBy t ≡ toldWalker x (heldBy s) → Leads l t u → Leads (tells x ∷ l) s u
+      → Leads l t u answers → Leads (stepOn bytes n ∷ l) s u (stepBytes bytes n (heldBy s) .answer ∷ answers)
+  told : {s t u : State} {x : Float} {l : List RecordOp} {answers : List Answer} → heldBy t ≡ toldWalker x (heldBy s)
+      → Leads l t u answers → Leads (tells x ∷ l) s u answers
