@@ -197,6 +197,6 @@ pub fn node_rule(s: &[u8], i: usize, m: usize, n: usize) -> bool
     requires { ⌜ 80 * i + 80 ≤ length (now s) ⌝ }
     ensures { λ r. ⌜ r ≡ nodeRule (nodeAt (now (s .entry)) i) m n i ⌝ }
 {
-    let o = 80 * i;
+    let o = node::BYTES * i;
     meets_rule(s, o, node::metas(s, o), node::imask(s, o), i, m, n)
 }
