@@ -16,7 +16,7 @@ use ray::Ray;
 use slot::Ends;
 
 // Bits 31 to 24 of a group are its children.
-const CHILDREN: u32 = 0x100_0000;
+pub const CHILDREN: u32 = 0x100_0000;
 
 // Bits counted from a base: positions, or children in bits 31 to 24 by slot XOR octant over an imask.
 pub struct Group {
@@ -105,7 +105,7 @@ fn waiting_depth(stack: &[u64], depth: u32) -> u32
     let mut d = depth;
     while d > 0 {
         let group = faststack::top(stack, d as usize);
-        if group / 0x1_0000_0000 >= 0x100_0000 {
+        if group / words::UPPER >= CHILDREN as u64 {
             return d;
         }
         d -= 1;
@@ -133,8 +133,8 @@ pub fn due_group(current: Group, depth: u32, stack: &[u64]) -> Due
     }
     let word = faststack::top(stack, d as usize);
     let group = Group {
-        base: (word % 0x1_0000_0000) as u32,
-        bits: (word / 0x1_0000_0000) as u32,
+        base: (word % words::UPPER) as u32,
+        bits: (word / words::UPPER) as u32,
     };
     Due {
         group,
@@ -171,7 +171,7 @@ fn wait(stack: &mut [u64], depth: u32, rest: Group) -> u32
     if rest.bits < CHILDREN {
         return depth;
     }
-    let word = rest.bits as u64 * 0x1_0000_0000 + rest.base as u64;
+    let word = rest.bits as u64 * words::UPPER + rest.base as u64;
     faststack::push(stack, depth as usize, word);
     depth + 1
 }
@@ -212,7 +212,7 @@ fn visit(
     let group = g.group;
     let rest = rest_of(group);
     let child = first_child(group, octant);
-    let m = record.len() / 80;
+    let m = record.len() / node::BYTES;
     if lacks_room(g.depth, rest.bits) {
         return Turn {
             answer: Answer::Refused(10),

@@ -6,6 +6,9 @@ ghost use Rattle.bvh2.specs.Words.{wordAt, floatAt, boxAt};
 use aabb::Aabb;
 use ray::Vec3;
 
+// The most leaves of a tree.
+pub const MAX_LEAVES: usize = 65536;
+
 // Coordinate i of node v's box.
 fn coordinate(words: &[u32], v: usize, i: usize) -> f32
     requires { ⌜ v * 7 + i < length (now words) ⌝ }

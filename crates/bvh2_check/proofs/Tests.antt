@@ -56,17 +56,3 @@ read-link n w u x a e = rw e at a
 
 pub read-box : (b d : Aabb) (x : Bool) → x ≡ acceptedBox b → b ≡ d → x ≡ acceptedBox d
 read-box b d x a e = rw e at a
-
--- zeros from the first on
-replicate-more : (i : ℕ) → replicate {A = ℕ} (suc i) 0 ≡ replicate i 0 ++ (0 ∷ [])
-replicate-more zero = refl
-replicate-more (suc i) = rw (replicate-more i)
-
-pub clear-more : (l : List ℕ) (i : ℕ) → i < length l → take i l ≡ replicate i 0 → take (i + 1) (set l i 0) ≡ replicate (i + 1) 0
-clear-more l i h e = rw (add-one i, take-suc-set l i 0 h, e, replicate-more i)
-
-pub clear-all : (l : List ℕ) (i len : ℕ) → i ≤ length l → length l ≤ i → length l ≡ len → take i l ≡ replicate i 0 → l ≡ replicate len 0
-clear-all l i len a b e h =
-    let j : i ≡ length l = omega arith in
-    let k : take (length l) l ≡ replicate (length l) 0 = rw j at h in
-    rw (← e) (sym (take-length l) ∙ k)

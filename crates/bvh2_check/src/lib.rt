@@ -27,7 +27,7 @@ pub fn sizes(words: &[u32], n: usize) -> u32
     if words.len() / 7 - n != n - 1 {
         return 1;
     }
-    if n > 65536 {
+    if n > bvh2::MAX_LEAVES {
         return 2;
     }
     0
@@ -38,11 +38,11 @@ fn link_inside(link: u32, n: usize) -> bool
     requires { ⌜ (0 < n) × (n ≤ 65536) ⌝ }
     ensures { λ r. ⌜ r ≡ isInside n (linkOf link) ⌝ }
 {
-    let low = (link % 0x4000_0000) as usize;
-    if link / 0x4000_0000 == 0 {
+    let low = (link % words::KIND) as usize;
+    if link / words::KIND == 0 {
         return low + 1 < 2 * n - 1;
     }
-    if link / 0x4000_0000 == 1 {
+    if link / words::KIND == 1 {
         return low < n;
     }
     false
@@ -90,8 +90,8 @@ fn visit(words: &[u32], marks: &mut [u32], n: usize, node: usize, depth: u32) ->
     }
     marks[node] = 1;
     let link = bvh2::link_word(words, node);
-    if link / 0x4000_0000 != 0 {
-        let place = 2 * n - 1 + (link % 0x4000_0000) as usize;
+    if link / words::KIND != 0 {
+        let place = 2 * n - 1 + (link % words::KIND) as usize;
         if marks[place] != 0 {
             return false;
         }
@@ -101,7 +101,7 @@ fn visit(words: &[u32], marks: &mut [u32], n: usize, node: usize, depth: u32) ->
     if depth == 0 {
         return false;
     }
-    let first = (link % 0x4000_0000) as usize;
+    let first = (link % words::KIND) as usize;
     if visit(words, marks, n, first, depth - 1) {
         visit(words, marks, n, first + 1, depth - 1)
     } else {
@@ -122,17 +122,6 @@ fn all_marked(marks: &[u32], k: usize) -> bool
         i += 1;
     }
     true
-}
-
-// Set all marks to zero.
-fn clear(marks: &mut [u32])
-    ensures { λ _. ⌜ now (marks .exit) ≡ replicate (length (now (marks .entry))) 0 ⌝ }
-{
-    let mut i = 0;
-    while i < marks.len() {
-        marks[i] = 0;
-        i += 1;
-    }
 }
 
 // Causes 5 to 7, or 0, from marks that are zero.
@@ -161,9 +150,9 @@ fn judge_cleared(words: &[u32], n: usize, marks: &mut [u32]) -> u32
     ensures { λ r. ⌜ r ≡ structureCause (now (words .entry)) n ⌝ }
     ensures { λ _. ⌜ now (marks .exit) ≡ replicate (markCount n) 0 ⌝ }
 {
-    clear(marks);
+    words::clear(marks);
     let cause = judge(words, n, marks);
-    clear(marks);
+    words::clear(marks);
     cause
 }
 

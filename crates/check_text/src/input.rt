@@ -26,7 +26,7 @@ fn held_length(held: usize, more: usize) -> usize
     if long <= LONGEST {
         return long;
     }
-    LONGEST + 1 + (long - (LONGEST + 1)) % 80
+    LONGEST + 1 + (long - (LONGEST + 1)) % node::BYTES
 }
 
 // The length held where a descriptor is at the end of the input; 0 where it is not, since a read failed: what can't be read whole is no whole record.

@@ -23,7 +23,7 @@ fn open_child(
     ensures { λ r. ⌜ ((limit : ℕ) → Holds (wordOf limit) 0 (now (decisions .entry)) (treeAt (now (words .entry)) depth v) → Gathered (part limit (treeAt (now (words .entry)) depth v) entry) count (now (children .entry)) (now (children .exit)) r) ⌝ }
 {
     let word = decisions[v * 7 + entry];
-    if word / 0x4000_0000 != 2 {
+    if word / words::KIND != 2 {
         children[count] = v as u32;
         return count + 1;
     }
@@ -48,7 +48,7 @@ fn open_node(
     let word = decisions[v * 7 + entry];
     let left = (word / 256 % 256) as usize;
     let right = (word % 256) as usize;
-    let first = (bvh2::link_word(words, v) % 0x4000_0000) as usize;
+    let first = (bvh2::link_word(words, v) % words::KIND) as usize;
     let half = open_child(words, decisions, first, left, depth - 1, children, count);
     open_child(
         words,
@@ -75,7 +75,7 @@ pub fn get_children(
     ensures { λ r. ⌜ ((limit : ℕ) → Holds (wordOf limit) 0 (now (decisions .entry)) (treeAt (now (words .entry)) depth v) → Gathered (gather limit (treeAt (now (words .entry)) depth v) 0) 0 (now (children .entry)) (now (children .exit)) r) ⌝ }
 {
     let link = bvh2::link_word(words, v);
-    if link / 0x4000_0000 != 0 {
+    if link / words::KIND != 0 {
         children[0] = v as u32;
         return 1;
     }

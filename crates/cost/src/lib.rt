@@ -8,6 +8,11 @@ ghost use Rattle.bvh2.specs.Words.{boxAt, treeAt};
 ghost use Rattle.cost.specs.Table.{better, bestSplit, firstDecision, leafDecision, word, wordOf, costOf};
 ghost use Rattle.cost.specs.Rows.{row, fill, costsAt, entryFrom, stored, nextEntry, Small, Room, Ready};
 
+// The decision word without its splits of a wide node, and of a node whose children stand in its place; a leaf child's is 0.
+const INTERNAL: u32 = words::KIND;
+
+const DISTRIBUTE: u32 = 2 * words::KIND;
+
 // The cheapest split found so far. `left` is 255 while there is none.
 pub struct Split {
     pub cost: f32,
@@ -63,7 +68,7 @@ fn first_entry(area: f32, count: u32, limit: u32, s: Split) -> Entry
 {
     let internal = s.cost + area;
     let splits = s.left * 256 + s.right;
-    let wide = 0x4000_0000 + splits;
+    let wide = INTERNAL + splits;
     if count <= limit {
         let leaf = (count as f32) * area * 0.3;
         if leaf < internal {
@@ -90,7 +95,7 @@ fn next_entry(before: Entry, s: Split) -> Entry
     let splits = s.left * 256 + s.right;
     Entry {
         cost: s.cost,
-        word: 0x8000_0000 + splits,
+        word: DISTRIBUTE + splits,
     }
 }
 
@@ -166,8 +171,8 @@ pub fn calculate_cost(
 {
     let area = node_area(words, v);
     let link = bvh2::link_word(words, v);
-    if link / 0x4000_0000 == 0 {
-        let first = (link % 0x4000_0000) as usize;
+    if link / words::KIND == 0 {
+        let first = (link % words::KIND) as usize;
         let a = calculate_cost(words, first, depth - 1, limit, decisions, costs);
         let b = calculate_cost(words, first + 1, depth - 1, limit, decisions, costs);
         let count = a + b;

@@ -26,6 +26,17 @@ use closest::Occlusion;
 use ray::Ray;
 use validate::Validity;
 
+// An answer's number: a query's node tests count TESTS each, the kind of answer KIND, and what it holds is added.
+const TESTS: u64 = 0x1_0000_0000_0000;
+
+const KIND: u64 = 0x1_0000_0000;
+
+// A refusal is of kind 2.
+const REFUSED: u64 = 2 * KIND;
+
+// A level of a converted tree counts so much: the nodes stand below it.
+const LEVEL: u64 = 65536;
+
 // What refuses a list of boxes with room for an answer to each.
 fn list_refusal(boxes: &[f32], out: &[f32]) -> u32
     ensures { λ r. ⌜ r ≡ refusal (now (boxes .entry)) (now (out .entry)) ⌝ }
@@ -96,7 +107,7 @@ pub extern "C" fn funnelcress_entry_distances(boxes: &[f32], ray: &[f32], out: &
 fn refusal_number(number: u32) -> u64
     ensures { λ r. ⌜ r ≡ 0x2_0000_0000 + number ⌝ }
 {
-    0x2_0000_0000 + number as u64
+    REFUSED + number as u64
 }
 
 // The record check's answer as a number.
@@ -108,7 +119,7 @@ fn answer_number(v: Validity) -> u64
             return level as u64;
         }
         Validity::Unsound => {
-            return 0x1_0000_0000;
+            return KIND;
         }
         Validity::Refused(number) => {
             return refusal_number(number);
@@ -131,7 +142,7 @@ fn conversion_number(c: Conversion) -> u64
 {
     match c {
         Conversion::Converted(nodes, level) => {
-            return level as u64 * 65536 + nodes as u64;
+            return level as u64 * LEVEL + nodes as u64;
         }
         Conversion::Refused(number) => {
             return refusal_number(number);
@@ -183,7 +194,7 @@ fn query_number(tests: u32, kind: u64, held: u32) -> u64
     requires { ⌜ (tests ≤ 65535) × (kind ≤ 1) ⌝ }
     ensures { λ r. ⌜ r ≡ numberOf tests kind held ⌝ }
 {
-    tests as u64 * 0x1_0000_0000_0000 + kind * 0x1_0000_0000 + held as u64
+    tests as u64 * TESTS + kind * KIND + held as u64
 }
 
 // Any-hit's answer as a number.

@@ -1,7 +1,7 @@
 // Internal: the deepest level of the wide tree that a binary tree becomes, found by the decisions of its cost tables before anything is written.
 ghost use mathlib.Core.Path.{_≡_};
 ghost use mathlib.Core.Bool.{Bool};
-ghost use Prim.Native.Nat.{ℕ, _≤_, max};
+ghost use Prim.Native.Nat.{ℕ, _≤_};
 ghost use Rattle.bvh2.specs.Words.{treeAt, treeOf};
 ghost use Rattle.cost.specs.Table.{wordOf};
 ghost use Rattle.cost.specs.Rows.{Holds};
@@ -9,15 +9,6 @@ ghost use Rattle.children.specs.Tabled.{Tabled};
 ghost use Rattle.wide.specs.Layout.{level};
 ghost use Rattle.wide_tree.specs.Ordered.{wideTree};
 ghost use Rattle.level.specs.Levels.{added};
-
-fn greater(a: u32, b: u32) -> u32
-    ensures { λ r. ⌜ r ≡ max a b ⌝ }
-{
-    if a < b {
-        return b;
-    }
-    a
-}
 
 // How many levels node v adds at an entry below the wide node above it: none as a leaf child, and else those below its two children, with one more
 // where it is an inner child. `depth` is how many edges lie below v at most.
@@ -28,14 +19,14 @@ fn added_levels(words: &[u32], decisions: &[u32], v: usize, entry: usize, depth:
     ensures { λ r. ⌜ ((limit : ℕ) → Holds (wordOf limit) 0 (now (decisions .entry)) (treeAt (now (words .entry)) depth v) → r ≡ added limit (treeAt (now (words .entry)) depth v) entry) ⌝ }
 {
     let word = decisions[v * 7 + entry];
-    let kind = word / 0x4000_0000;
+    let kind = word / words::KIND;
     if kind == 0 {
         return 0;
     }
     let left = (word / 256 % 256) as usize;
     let right = (word % 256) as usize;
-    let first = (bvh2::link_word(words, v) % 0x4000_0000) as usize;
-    let below = greater(
+    let first = (bvh2::link_word(words, v) % words::KIND) as usize;
+    let below = words::greater(
         added_levels(words, decisions, first, left, depth - 1),
         added_levels(words, decisions, first + 1, right, depth - 1),
     );
@@ -51,12 +42,12 @@ pub fn deepest_level(words: &[u32], decisions: &[u32]) -> u32
     ensures { λ r. ⌜ ((limit : ℕ) (ordered : Bool) → Holds (wordOf limit) 0 (now (decisions .entry)) (treeOf (now (words .entry))) → r ≡ level (wideTree ordered limit (treeOf (now (words .entry))))) ⌝ }
 {
     let link = bvh2::link_word(words, 0);
-    if link / 0x4000_0000 == 0 {
-        let first = (link % 0x4000_0000) as usize;
+    if link / words::KIND == 0 {
+        let first = (link % words::KIND) as usize;
         let word = decisions[0];
         let left = (word / 256 % 256) as usize;
         let right = (word % 256) as usize;
-        return greater(
+        return words::greater(
             added_levels(words, decisions, first, left, 126),
             added_levels(words, decisions, first + 1, right, 126),
         );

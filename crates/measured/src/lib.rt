@@ -18,7 +18,8 @@ fn fill_masks(record: &[u8], ray: Ray, octant: u32, m: usize, out: &mut [u32])
     let e = slot::near_ends(ray.direction);
     let mut i: usize = 0;
     while i < m {
-        out[i] = slot::intersect_ray(record, 80 * i, node::metas(record, 80 * i), ray, e, octant);
+        let o = node::BYTES * i;
+        out[i] = slot::intersect_ray(record, o, node::metas(record, o), ray, e, octant);
         i += 1;
     }
 }
@@ -26,7 +27,7 @@ fn fill_masks(record: &[u8], ray: Ray, octant: u32, m: usize, out: &mut [u32])
 // The hit mask of each node of a record for a ray of eight floats, at the front of the answers; how many there are.
 #[no_mangle]
 pub extern "C" fn measured_hit_masks(record: &[u8], ray: &[f32], out: &mut [u32]) -> usize {
-    let m = record.len() / 80;
+    let m = record.len() / node::BYTES;
     if ray.len() != packed::RAY {
         return 0;
     }
@@ -55,7 +56,7 @@ fn walked(record: &[u8], n: usize, start: Walker) -> u64 {
         match answer {
             Answer::Tested(_) => {}
             Answer::Position(_) => reports += 1,
-            Answer::Done => return reports as u64 * 0x1_0000_0000 + walker.walk.tests as u64,
+            Answer::Done => return reports as u64 * words::UPPER + walker.walk.tests as u64,
             Answer::Refused(_) => return REFUSED,
         }
         walker = stepped.walker;
@@ -81,7 +82,7 @@ pub extern "C" fn measured_steps(record: &[u8], n: usize, ray: &[f32]) -> u64 {
 // How many nodes of a record of n positions meet the node rule.
 #[no_mangle]
 pub extern "C" fn measured_rules(record: &[u8], n: usize) -> usize {
-    let m = record.len() / 80;
+    let m = record.len() / node::BYTES;
     let mut met: usize = 0;
     let mut i: usize = 0;
     while i < m {

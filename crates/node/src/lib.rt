@@ -7,6 +7,9 @@ ghost use lib.ListN.{length, getD, set};
 ghost use Rattle.lists.specs.Splice.{splice};
 ghost use Rattle.node.specs.Node.{eight, slotOffset, nodeFrom, MetaWord, innerBit, codeCount, putSlot, putSlots, headBytes, nodeBytes};
 
+// How many bytes a node takes.
+pub const BYTES: usize = 80;
+
 // The six bytes of a slot's box on the node's grid.
 pub struct Slot {
     pub min_x: u8,
@@ -213,7 +216,7 @@ pub fn write_node(s: &mut [u8], i: usize, n: Node)
     requires { ⌜ 80 * i + 80 ≤ length (now s) ⌝ }
     ensures { λ r. ⌜ now (s .exit) ≡ splice (now (s .entry)) (80 * i) (nodeBytes n) ⌝ }
 {
-    let o = 80 * i;
+    let o = BYTES * i;
     let slots = n.slots;
     write_head(s, o, n);
     write_slots(s, o, slots);

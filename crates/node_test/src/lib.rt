@@ -34,7 +34,7 @@ pub fn test_node(s: &[u8], i: usize, m: usize, n: usize, ray: Ray, e: Ends, octa
     requires { ⌜ (80 * i + 80 ≤ length (now s)) × (e ≡ endsOf (ray .direction)) × (octant < 8) ⌝ }
     ensures { λ r. ⌜ r ≡ tested (nodeAt (now (s .entry)) i) m n i ray octant ⌝ }
 {
-    let o = 80 * i;
+    let o = node::BYTES * i;
     let meta8 = node::metas(s, o);
     let imask = node::imask(s, o);
     if !rule::meets_rule(s, o, meta8, imask, i, m, n) {

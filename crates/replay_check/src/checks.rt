@@ -71,7 +71,7 @@ fn answers_with(case: &[u8], record: &[u8], words: &mut [u32]) -> bool {
     if v.value != word(case, 4) {
         return false;
     }
-    words_left(words, v.kind, record.len() / 80 + n)
+    words_left(words, v.kind, record.len() / node::BYTES + n)
 }
 
 fn answers(case: &[u8], record: &[u8]) -> bool {

@@ -50,9 +50,9 @@ fn record_size(n: usize) -> usize
         return 0;
     }
     if n == 1 {
-        return 80;
+        return node::BYTES;
     }
-    80 * (n - 1)
+    node::BYTES * (n - 1)
 }
 
 fn is_converted(answer: Conversion, nodes: u32, deepest: u32) -> bool {
@@ -98,7 +98,7 @@ fn same_slices(
     if !lent::written_costs(case, tables + size, costs, size) {
         return false;
     }
-    if !lent::written_bytes(case, outputs, record, 80 * nodes) {
+    if !lent::written_bytes(case, outputs, record, node::BYTES * nodes) {
         return false;
     }
     lent::written_words(case, outputs + 20 * nodes, list, n)

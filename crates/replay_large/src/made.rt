@@ -80,7 +80,7 @@ fn put_leaves(words: &mut [u32], n: u32, seed: u32, reach: u32)
     let mut k: u32 = 0;
     while k < n {
         let v = (n - 1 + k) as usize;
-        let link = 0x4000_0000 + (n - 1 - k);
+        let link = words::KIND + (n - 1 - k);
         put_node(words, v, ends_of(seed, reach, k), link);
         k += 1;
     }
@@ -90,10 +90,6 @@ fn lesser(a: u32, b: u32) -> u32 {
     if a < b { a } else { b }
 }
 
-fn greater(a: u32, b: u32) -> u32 {
-    if a > b { a } else { b }
-}
-
 // The ends of two nodes together, whose words start at a and b.
 fn union(words: &[u32], a: usize, b: usize) -> [u32; 6]
     requires { ⌜ (a ≤ 1048576) × (b ≤ 1048576) ⌝ }
@@ -101,9 +97,9 @@ fn union(words: &[u32], a: usize, b: usize) -> [u32; 6]
     let x = lesser(at(words, a), at(words, b));
     let y = lesser(at(words, a + 1), at(words, b + 1));
     let z = lesser(at(words, a + 2), at(words, b + 2));
-    let high_x = greater(at(words, a + 3), at(words, b + 3));
-    let high_y = greater(at(words, a + 4), at(words, b + 4));
-    let high_z = greater(at(words, a + 5), at(words, b + 5));
+    let high_x = words::greater(at(words, a + 3), at(words, b + 3));
+    let high_y = words::greater(at(words, a + 4), at(words, b + 4));
+    let high_z = words::greater(at(words, a + 5), at(words, b + 5));
     [x, y, z, high_x, high_y, high_z]
 }
 

@@ -59,7 +59,7 @@ fn same_rays(case: &[u8], record: &[u8], list: &[u32], panes: &[f32]) -> bool {
 
 // Whether the first `nodes` nodes of what was lent for a record are as stored, and all that is asked of them.
 fn same_record(case: &[u8], space: &[u8], list: &[u32], panes: &[f32]) -> bool {
-    let bytes = word(case, 5) as usize * 80;
+    let bytes = word(case, 5) as usize * node::BYTES;
     if bytes > space.len() {
         return false;
     }
@@ -150,9 +150,9 @@ fn record_size(n: usize) -> usize
     ensures { λ r. ⌜ r ≤ 1599920 ⌝ }
 {
     if n == 1 {
-        return 80;
+        return node::BYTES;
     }
-    80 * (n - 1)
+    node::BYTES * (n - 1)
 }
 
 // The same for a tree that is made in these words.

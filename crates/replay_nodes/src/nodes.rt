@@ -36,8 +36,8 @@ fn copy_node(case: &[u8], bytes: &mut [u8], i: usize)
     requires { ⌜ (80 ≤ length (now case)) × (80 * i + 80 ≤ length (now bytes)) ⌝ }
 {
     let mut k: usize = 0;
-    while k < 80 {
-        bytes[80 * i + k] = case[k];
+    while k < node::BYTES {
+        bytes[node::BYTES * i + k] = case[k];
         k += 1;
     }
 }

@@ -33,7 +33,7 @@ fn group_at(walk: &[u8], i: usize) -> Group {
 
 // A group as a word of the stack.
 fn packed(g: Group) -> u64 {
-    g.bits as u64 * 0x1_0000_0000 + g.base as u64
+    g.bits as u64 * words::UPPER + g.base as u64
 }
 
 // The stack whose first groups, `count` of them, stand from word 20 on; the others are zero.
@@ -203,7 +203,7 @@ pub fn came_to(end: &[u8], w: Walker) -> bool {
     if word(end, 2) != u32::count_ones(walk.positions.bits) {
         return false;
     }
-    if word(end, 3) != u32::count_ones(walk.current.bits / 0x100_0000) {
+    if word(end, 3) != u32::count_ones(walk.current.bits / advance::CHILDREN) {
         return false;
     }
     word(end, 4) == walk.depth

@@ -115,10 +115,10 @@ fn same_below(
         return false;
     }
     let link = bvh2::link_word(words, v);
-    if link / 0x4000_0000 != 0 {
+    if link / words::KIND != 0 {
         return true;
     }
-    let first = (link % 0x4000_0000) as usize;
+    let first = (link % words::KIND) as usize;
     if same_below(case, from, words, decisions, first, depth - 1) {
         return same_below(case, from, words, decisions, first + 1, depth - 1);
     }

@@ -198,7 +198,7 @@ pub fn node_rule(s: &[u8], i: usize, m: usize, n: usize) -> bool
     requires { ⌜ 80 * i + 80 ≤ length (now s) ⌝ }
     ensures { λ r. ⌜ r ≡ nodeRule (nodeAt (now (s .entry)) i) m n i ⌝ }
 {
-    let o = 80 * i;
+    let o = node::BYTES * i;
     let imask = node::imask(s, o);
     if !head_ok(s, o) {
         return false;

@@ -38,8 +38,8 @@ fn put_nodes(out: &mut [u8], at: usize, record: &[u8], m: usize) -> usize
 {
     let mut p = at;
     for i in 0..m {
-        let start = 80 * i;
-        let end = start + 80;
+        let start = node::BYTES * i;
+        let end = start + node::BYTES;
         p = put_node(out, p, i as u32, &record[start..end]);
     }
     p

@@ -108,21 +108,6 @@ pub marked-tells : (o : List ℕ) (m n : ℕ) → Tells ((x : ℕ) → x < n →
 unfolding allMarked
 marked-tells o m n = below-tells (λ x. 0 < getD o (m + x) 0) (λ x. ltb 0 (getD o (m + x) 0)) (λ x. ltb-tells 0 (getD o (m + x) 0)) n
 
--- ---- zeros, from the first word up
-
-replicate-more : (i : ℕ) → replicate {A = ℕ} (suc i) 0 ≡ replicate i 0 ++ (0 ∷ [])
-replicate-more zero = refl
-replicate-more (suc i) = rw (replicate-more i)
-
-pub clear-more : (l : List ℕ) (i : ℕ) → i < length l → take i l ≡ replicate i 0 → take (i + 1) (set l i 0) ≡ replicate (i + 1) 0
-clear-more l i h e = rw (add-one i, take-suc-set l i 0 h, e, replicate-more i)
-
-pub clear-all : (l : List ℕ) (i long : ℕ) → i ≤ length l → length l ≤ i → length l ≡ long → take i l ≡ replicate i 0 → l ≡ replicate long 0
-clear-all l i long a b e h =
-    let j : i ≡ length l = omega arith in
-    let k : take (length l) l ≡ replicate (length l) 0 = rw j at h in
-    rw (← e) (sym (take-length l) ∙ k)
-
 pub zero-at : (long k : ℕ) → _≡_ {A = ℕ} (getD (replicate long 0) k 0) 0
 zero-at long k = go (decLt k long)
   where

@@ -1,7 +1,7 @@
 // The record check: whether a record is sound, and its deepest level (cwbvh/mod.rs, validate). One pass over the nodes, with a working word for each
 // node and each position.
 ghost use mathlib.Core.Path.{_≡_};
-ghost use Prim.Native.Nat.{_+_, _≤_, _<_, max};
+ghost use Prim.Native.Nat.{_+_, _≤_, _<_};
 ghost use lib.ListN.{length, getD, replicate};
 ghost use Rattle.node.specs.Node.{innerBit};
 ghost use Rattle.record_shape.specs.Record.{leafCount, shapeAt};
@@ -48,7 +48,7 @@ fn mark_slot(record: &[u8], i: usize, slot: usize, m: usize, n: usize, work: &mu
     requires { ⌜ Ruled (now «record») n i m (length (now work)) × (slot < 8) ⌝ }
     ensures { λ r. ⌜ MarksSlot r (shapeAt (now («record» .entry)) n) i slot (now (work .entry)) (now (work .exit)) ⌝ }
 {
-    let o = 80 * i;
+    let o = node::BYTES * i;
     let meta = node::child_meta(record, o, slot);
     let count = leaf_count(node::imask(record, o), slot as u32, meta);
     let start = node::child_primitives(node::primitive_base_idx(record, o), meta).start;
@@ -76,7 +76,7 @@ fn mark_node(record: &[u8], i: usize, m: usize, n: usize, work: &mut [u32]) -> b
     ensures { λ r. ⌜ MarksNode r (shapeAt (now («record» .entry)) n) i (now (work .entry)) (now (work .exit)) ⌝ }
 {
     let v = work[i];
-    let o = 80 * i;
+    let o = node::BYTES * i;
     let base = node::child_base_idx(record, o);
     let count = rule::child_count(node::imask(record, o));
     if !fill(work, base as usize, count as usize, v + 1) {
@@ -98,26 +98,6 @@ fn all_marked(work: &[u32], m: usize, n: usize) -> bool
         x += 1;
     }
     true
-}
-
-fn greater(a: u32, b: u32) -> u32
-    ensures { λ r. ⌜ r ≡ max a b ⌝ }
-{
-    if a < b {
-        return b;
-    }
-    a
-}
-
-// Set all words to zero.
-fn clear(work: &mut [u32])
-    ensures { λ _. ⌜ now (work .exit) ≡ replicate (length (now (work .entry))) 0 ⌝ }
-{
-    let mut i: usize = 0;
-    while i < work.len() {
-        work[i] = 0;
-        i += 1;
-    }
 }
 
 // The first of the causes 1, 2 and 4 that holds, or 0.
@@ -161,7 +141,7 @@ fn pass(record: &[u8], m: usize, n: usize, work: &mut [u32]) -> Validity
         if !mark_node(record, i, m, n, work) {
             return Validity::Unsound;
         }
-        deepest = greater(deepest, v - 1);
+        deepest = words::greater(deepest, v - 1);
         i += 1;
     }
     if !all_marked(work, m, n) {
@@ -176,7 +156,7 @@ fn run(record: &[u8], m: usize, n: usize, work: &mut [u32]) -> Validity
     ensures { λ r. ⌜ answerOf r ≡ soundnessOf (now («record» .entry)) n ⌝ }
     ensures { λ _. ⌜ now (work .exit) ≡ replicate (m + n) 0 ⌝ }
 {
-    clear(work);
+    words::clear(work);
     if m == 0 {
         if n == 0 {
             return Validity::Sound(0);
@@ -184,7 +164,7 @@ fn run(record: &[u8], m: usize, n: usize, work: &mut [u32]) -> Validity
         return Validity::Unsound;
     }
     let r = pass(record, m, n, work);
-    clear(work);
+    words::clear(work);
     r
 }
 

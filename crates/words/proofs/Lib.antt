@@ -1,4 +1,5 @@
 pub mod Fields
+pub mod Cleared
 pub mod HighestBit
 pub mod Le
 pub mod Masks

@@ -1,13 +1,19 @@
 // Internal: words as fields of bits, counts of ones, the highest bit, and numbers in a slice of bytes, the lowest byte first.
 // The laws that u32 and u64 share stand in proofs/, with the width as parameter.
 ghost use mathlib.Core.Path.{_≡_};
-ghost use Prim.Native.Nat.{_+_, _-_, _^_, _%_, _<_, _≤_};
-ghost use lib.ListN.{length};
+ghost use Prim.Native.Nat.{_+_, _-_, _^_, _%_, _<_, _≤_, max};
+ghost use lib.ListN.{length, replicate};
 ghost use Rattle.words.specs.Fields.{field};
 ghost use Rattle.words.specs.Le.{storeLe};
 ghost use Rattle.words.specs.Loaded.{Joined, Loaded};
 ghost use Rattle.words.specs.Ones.{onesBelow};
 ghost use Rattle.words.specs.Top.{Top};
+
+// A word's kind stands in its bits 31 and 30: it is the quotient by this, and the rest is the remainder.
+pub const KIND: u32 = 0x4000_0000;
+
+// Of two words in one of 64 bits the upper is the quotient by this, and the lower the remainder.
+pub const UPPER: u64 = 0x1_0000_0000;
 
 // The rank of a slot: how many ones of the mask stand below it.
 pub fn rank(imask: u32, slot: u32) -> u32
@@ -33,6 +39,27 @@ pub fn clear_highest(bits: u32, r: u32) -> u32
     bits & !(1u32 << r)
 }
 
+// The greater of two words.
+pub fn greater(a: u32, b: u32) -> u32
+    ensures { λ r. ⌜ r ≡ max a b ⌝ }
+{
+    if a < b {
+        return b;
+    }
+    a
+}
+
+// Sets all words of a slice to zero.
+pub fn clear(s: &mut [u32])
+    ensures { λ _. ⌜ now (s .exit) ≡ replicate (length (now (s .entry))) 0 ⌝ }
+{
+    let mut i: usize = 0;
+    while i < s.len() {
+        s[i] = 0;
+        i += 1;
+    }
+}
+
 // Four bytes as a word, the lowest first.
 pub fn join4(a: u8, b: u8, c: u8, d: u8) -> u32
     ensures { λ r. ⌜ Joined a b c d r ⌝ }
@@ -55,7 +82,7 @@ pub fn load_u64(s: &[u8], at: usize) -> u64
 {
     let low = join4(s[at], s[at + 1], s[at + 2], s[at + 3]);
     let high = join4(s[at + 4], s[at + 5], s[at + 6], s[at + 7]);
-    high as u64 * 0x1_0000_0000 + low as u64
+    high as u64 * UPPER + low as u64
 }
 
 // Writes a word at a place of a slice.

@@ -22,6 +22,9 @@ cast-top c = search needs
 top-requires : tie.Need-top-requires Inv-loop μ-loop
 top-requires c κs = c .before .before .before .pre .1
 
+cast-if1 : tie.Need-cast-if1 Inv-loop μ-loop
+cast-if1 c = search needs
+
 returns : tie.Need-returns Inv-loop μ-loop
 returns c =
     let l = c .before .before .before in
@@ -44,4 +47,4 @@ returns-2 c =
     waiting-none (l .before .before .args .stack .now) (l .loop .d) (omega arith) ∙ l .loop .inv .1
 
 pub waiting-depth-spec : {M : Type 1} → statement M
-waiting-depth-spec = tie.close (tie.spec Inv-loop μ-loop loop-holds cast-top top-requires returns sub-d loop-less loop-again returns-2)
+waiting-depth-spec = tie.close (tie.spec Inv-loop μ-loop loop-holds cast-top top-requires cast-if1 returns sub-d loop-less loop-again returns-2)

@@ -11,7 +11,7 @@ use Rattle.level.proofs.added_levels.Reads as added-levels
 use Rattle.level.proofs.added_levels.Kinds as added-levels-kinds
 use Rattle.level.proofs.+added_levels.Lts-added_levels as added-levels-lts
 use Rattle.bvh2.proofs.link_word.Reads as link-word-reads
-use Rattle.level.proofs.greater.Reads as greater-reads
+use Rattle.words.proofs.greater.Reads as greater-reads
 use Rattle.level.proofs.+added_levels.{statement}
 use Rattle.level.proofs.+added_levels.Tie.{close}
 

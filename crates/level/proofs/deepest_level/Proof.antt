@@ -11,7 +11,7 @@ use Rattle.level.proofs.deepest_level.Reads as reads
 use Rattle.level.proofs.deepest_level.Lts as lts
 use Rattle.bvh2.proofs.link_word.Reads as link-word-reads
 use Rattle.level.proofs.added_levels.Reads as added-levels-reads
-use Rattle.level.proofs.greater.Reads as greater-reads
+use Rattle.words.proofs.greater.Reads as greater-reads
 
 abbrev Given : lts.Claims
 Given = (link-word-reads.Asked, link-word-reads.Learnt, added-levels-reads.Asked, added-levels-reads.Learnt, greater-reads.Asked, greater-reads.Learnt)

@@ -19,11 +19,8 @@ near-ends-requires c κs = search needs
 loop-holds : tie.Need-loop-holds Inv-loop μ-loop
 loop-holds c = search needs
 
-mul-intersect-ray : tie.Need-mul-intersect-ray Inv-loop μ-loop
-mul-intersect-ray c = search needs
-
-mul-metas : tie.Need-mul-metas Inv-loop μ-loop
-mul-metas c = search needs
+mul-o : tie.Need-mul-o Inv-loop μ-loop
+mul-o c = search needs
 
 metas-requires : tie.Need-metas-requires Inv-loop μ-loop
 metas-requires c κs = search needs
@@ -60,8 +57,7 @@ fill-masks-spec =
     μ-loop
     near-ends-requires
     loop-holds
-    mul-intersect-ray
-    mul-metas
+    mul-o
     metas-requires
     intersect-ray-requires
     mul-out

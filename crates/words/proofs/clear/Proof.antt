@@ -1,28 +1,29 @@
+use native.Mathlib.Omega.{arith}
+use borrow.Author.Needs.{needs}
 use mathlib.Core.Path.{_≡_, refl}
 use Prim.Native.Nat.{_≤_, _-_}
-use native.Mathlib.Omega.{arith}
 use lib.ListN.{length, take, replicate, length-set}
-use Rattle.bvh2_check.proofs.Tests.{clear-more, clear-all}
-use Rattle.bvh2_check.proofs.clear.Statement.{statement}
-use Rattle.bvh2_check.proofs.clear.Tie as tie
+use Rattle.words.proofs.Cleared.{clear-more, clear-all}
+use Rattle.words.proofs.clear.Statement.{statement}
+use Rattle.words.proofs.clear.Tie as tie
 
 abbrev Inv-loop : tie.InvT-loop
-Inv-loop marks₀ i₀ marks i = (i ≤ length marks) × (length marks ≡ length marks₀) × (take i marks ≡ replicate i 0)
+Inv-loop s₀ i₀ s i = (i ≤ length s) × (length s ≡ length s₀) × (take i s ≡ replicate i 0)
 
 abbrev μ-loop : tie.MeasureT-loop
-μ-loop marks₀ i₀ marks i = length marks - i
+μ-loop s₀ i₀ s i = length s - i
 
 loop-holds : tie.Need-loop-holds Inv-loop μ-loop
 loop-holds c = (omega arith, refl, refl)
 
-mul-marks : tie.Need-mul-marks Inv-loop μ-loop
-mul-marks c = omega arith
+mul-s : tie.Need-mul-s Inv-loop μ-loop
+mul-s c = search needs
 
-slice-write-marks : tie.Need-slice-write-marks Inv-loop μ-loop
-slice-write-marks c = omega arith
+slice-write-s : tie.Need-slice-write-s Inv-loop μ-loop
+slice-write-s c = search needs
 
 add-i : tie.Need-add-i Inv-loop μ-loop
-add-i c = omega arith
+add-i c = search needs
 
 loop-less : tie.Need-loop-less Inv-loop μ-loop
 loop-less c = simp length-set (omega arith)
@@ -43,8 +44,8 @@ clear-spec =
     Inv-loop
     μ-loop
     loop-holds
-    mul-marks
-    slice-write-marks
+    mul-s
+    slice-write-s
     add-i
     loop-less
     loop-again
