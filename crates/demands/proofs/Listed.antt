@@ -1,7 +1,7 @@
 -- Any-hit's answer and list where its walk ends without a refusal and the list is long enough.
 use mathlib.Core.Bool.{Bool, true, false}
 use mathlib.Core.List.{List}
-use mathlib.Core.Path.{_≡_, refl, sym, ap, _∙_}
+use mathlib.Core.Path.{_≡_, refl, ap, _∙_}
 use Prim.Native.Nat.{ℕ, zero, suc, _+_, _/_, _%_, _≤_}
 use lib.ListN.{length, take, drop}
 use lib.Seq.{take-at}
@@ -32,7 +32,8 @@ module _ (bytes : List ℕ) (n : ℕ) (r : Ray) (before : List ℕ) (whole : len
 
   pub answers-listed : anyHitOf bytes n r (length before) ≡ listed (length found) tests
   unfolding anyHitOf
-  answers-listed = ap by (sym (entry-none true (length bytes) n r refl whole few small accepted)) ∙ answer-listed
+  answers-listed =
+      ap by (entry-none true (length bytes) n 0 r refl (record { whole = whole; few = few; small = small }) refl accepted) ∙ answer-listed
     where
       by : ℕ → Answer
       by k = elim k [ suc k ↦ refused (suc k) | zero ↦ walkOf bytes n (beamOf r) (length before) ]

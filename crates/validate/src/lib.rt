@@ -124,14 +124,9 @@ fn clear(work: &mut [u32])
 fn cause(long: usize, n: usize, words: usize) -> u32
     ensures { λ r. ⌜ r ≡ causeOf long n words ⌝ }
 {
-    if long % 80 != 0 {
-        return 1;
-    }
-    if n > 65536 {
-        return 2;
-    }
-    if long / 80 > 65535 {
-        return 2;
+    let sizes = causes::record_cause(long, n);
+    if sizes != 0 {
+        return sizes;
     }
     if words < long / 80 + n {
         return 4;

@@ -4,7 +4,8 @@ use mathlib.Core.List.{List}
 use mathlib.Core.Path.{_≡_}
 use Prim.Native.Nat.{ℕ, _<_}
 use Rattle.record_shape.specs.Record.{nodeCount, shapeAt}
-use Rattle.walk.specs.Step.{done, refused, sizesFit, stepOf}
+use Rattle.causes.specs.Sizes.{sizesFit}
+use Rattle.walk.specs.Step.{done, refused, stepOf}
 use Rattle.walk.specs.Queries.{Reaction, Going}
 use Rattle.walk.specs.Slots.{positionsOf, childrenOf, testsOf}
 use Rattle.walk.specs.WordStep.{WalkerWords, stayWords, forgedWords, decodedStep, decoded, InRange, Decodes}
