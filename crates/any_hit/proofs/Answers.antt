@@ -114,15 +114,15 @@ module _ (bytes : List ℕ) (n : ℕ) (r : Ray) (list : List ℕ) where
   afterEntry c = elim c [ suc j ↦ refused (suc j) | zero ↦ walkOf bytes n (beamOf r) (length list) ]
 
   -- refused on entry
-  pub answers-entry : (k : ℕ) → k ≡ entryCause true (length bytes) n r → (k ≡ 0 → ⊥) → Answers (refused k) list
+  pub answers-entry : (k : ℕ) → k ≡ entryCause true (length bytes) n 0 r → (k ≡ 0 → ⊥) → Answers (refused k) list
   unfolding anyHitOf listAfter listFor
-  answers-entry k e h = go (entryCause true (length bytes) n r) e
+  answers-entry k e h = go (entryCause true (length bytes) n 0 r) e
     where
       go : (c : ℕ) → k ≡ c → (refused k ≡ afterEntry c) × (list ≡ listFor (afterEntry c) (anyHitAt bytes beams n (beamOf r) .noted) list)
       go zero q = absurd (h q)
       go (suc j) q = (ap refused q, refl)
 
-  module _ (entered : entryCause true (length bytes) n r ≡ 0) where
+  module _ (entered : entryCause true (length bytes) n 0 r ≡ 0) where
     -- else the answer is the walk's
     pub answers-walk : {a : Answer} {after : List ℕ} → Ends bytes n r list a after → Answers a after
     unfolding anyHitOf listAfter listOf

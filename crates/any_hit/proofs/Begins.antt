@@ -14,13 +14,14 @@ use Rattle.query.specs.Entry.{entryCause}
 use Rattle.query.specs.Walk.{Sized}
 use Rattle.query.proofs.Entry.{Entered, entered}
 
-module _ (origin direction : Vec3) (near far : Float) (bytes : List ℕ) (n : ℕ) (none : entryCause true (length bytes) n (rayOf origin direction near far) ≡ 0) where
-  pub enters : Entered true (length bytes) n (rayOf origin direction near far)
-  enters = entered true (length bytes) n (rayOf origin direction near far) none
+module _ (origin direction : Vec3) (near far : Float) (bytes : List ℕ) (n : ℕ)
+    (none : entryCause true (length bytes) n 0 (rayOf origin direction near far) ≡ 0) where
+  pub enters : Entered true (length bytes) n 0 (rayOf origin direction near far)
+  enters = entered true (length bytes) n 0 (rayOf origin direction near far) none
 
   pub unforged : forgedBeam (beamOf (rayOf origin direction near far)) ≡ false
   unforged = begun-accepted origin direction near far (enters .accepted)
 
   -- a walk may begin, where there are nodes
   pub sized : (length bytes ≡ 0 → ⊥) → Sized bytes n
-  sized some = let h = enters in record { whole = h .whole; some = omega (arith, h .whole, some); nodes = h .small; positions = h .few }
+  sized some = let h = enters .sizes in record { whole = h .whole; some = omega (arith, h .whole, some); nodes = h .small; positions = h .few }

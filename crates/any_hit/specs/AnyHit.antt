@@ -10,7 +10,8 @@ use Rattle.walk.specs.Step as S
 use Rattle.walk.specs.WordQueries.{OutcomeWords}
 use Rattle.walk_record.specs.Beam.{Beam, beamOf, beams}
 use Rattle.walk_record.specs.Walk.{anyHitAt}
-use Rattle.query.specs.Entry.{entryCause}
+use Rattle.causes.specs.Causes.{firstCause}
+use Rattle.query.specs.Entry.{entryConditions, entryCause}
 use Rattle.any_hit.specs.declared.AnyHit.{AnyHit}
 use Rattle.any_hit.specs.declared.AnyHit.the-variants.{Listed, Short, Refused}
 
@@ -45,8 +46,8 @@ walkOf bytes n b room = let o = anyHitAt bytes beams n b in walked o (o .ended) 
 
 -- the answer for a record, n positions, a ray, and room for so many positions
 unfoldable pub anyHitOf : List ℕ → ℕ → Ray → ℕ → Answer
-unfolding entryCause walkOf
-anyHitOf bytes n r room = elim (entryCause true (length bytes) n r) [ suc k ↦ refused (suc k) | zero ↦ walkOf bytes n (beamOf r) room ]
+unfolding entryConditions firstCause walkOf
+anyHitOf bytes n r room = elim (entryCause true (length bytes) n 0 r) [ suc k ↦ refused (suc k) | zero ↦ walkOf bytes n (beamOf r) room ]
 
 -- the list at the end: the positions in front of what was there, and at a refusal as it was
 unfoldable pub listFor : Answer → List ℕ → List ℕ → List ℕ

@@ -265,7 +265,7 @@ pub fn any_hit(
     ensures { λ _. ⌜ now (list .exit) ≡ listAfter (now («record» .entry)) n (rayOf origin direction tmin tmax) (now (list .entry)) ⌝ }
 {
     let ray = Ray::new(origin, direction, tmin, tmax);
-    let cause = query::entry_cause(true, record.len(), n, ray);
+    let cause = query::entry_cause(true, record.len(), n, 0, ray);
     if cause != 0 {
         return AnyHit::Refused(cause);
     }

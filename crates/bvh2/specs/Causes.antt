@@ -55,7 +55,3 @@ pub record Sized (ws : List ℕ) (n : ℕ) : Type 0 where
 -- the tree is accepted: no cause holds
 abbrev pub Accepted : List ℕ → ℕ → Type 0
 Accepted ws n = (k : ℕ) → Cause ws n k → ⊥
-
--- cause k holds, and none with a lower number
-abbrev pub First : List ℕ → ℕ → ℕ → Type 0
-First ws n k = Cause ws n k × ((j : ℕ) → j < k → Cause ws n j → ⊥)

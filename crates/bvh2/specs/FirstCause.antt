@@ -1,19 +1,20 @@
 -- The number of the first cause, computed; 0 where there is none (proofs/First has that it is the first cause of specs/Causes).
--- Conversion looks at other causes between 2 and 5, so it is computed in two parts.
-use mathlib.Core.Bool.{Bool, true, false, _&&_}
-use mathlib.Core.List.{List}
+-- Conversion looks at other causes between 2 and 5, so the conditions stand in two lists.
+use mathlib.Core.Bool.{Bool, false, _&&_}
+use mathlib.Core.List.{List, [], _∷_, _++_}
 use Prim.Native.Nat.{ℕ, zero, suc, _+_, _*_}
 use lib.ListN.{length}
 use lib.Dec.{eqb, leb, ltb}
 use Rattle.lists.specs.Below.{allBelow}
 use Rattle.lists.specs.Counts.{count}
+use Rattle.causes.specs.Causes.{Condition, _unless_, firstCause}
 use Rattle.aabb.specs.Aabb.{acceptedBox}
 use Rattle.bvh2.specs.Tree.{Tree, leaf, inner, labels, positions}
 use Rattle.bvh2.specs.Words.{nodeCount, Link, children, position, malformed, linkAt, boxAt, treeOf}
 
 -- causes 1 and 2, for a number of words
-unfoldable pub sizesCause : ℕ → ℕ → ℕ
-sizesCause words n = elim (eqb words (nodeCount n * 7)) [ false ↦ 1 | true ↦ elim (leb n 65536) [ false ↦ 2 | true ↦ 0 ] ]
+unfoldable pub sizeConditions : (words n : ℕ) → List Condition
+sizeConditions words n = 1 unless eqb words (nodeCount n * 7) ∷ 2 unless leb n 65536 ∷ []
 
 -- cause 5 does not hold of a link
 unfoldable pub isInside : ℕ → Link → Bool
@@ -48,15 +49,25 @@ eachOnce k l = allBelow (λ x. eqb (count x l) 1) k
 unfoldable pub isTree : ℕ → List ℕ → Tree ℕ → Bool
 isTree n ws t = isWhole ws t && eachOnce (nodeCount n) (labels t) && eachOnce n (positions t)
 
--- causes 5 to 7, each over all nodes before the next
-unfoldable pub structureCause : List ℕ → ℕ → ℕ
-structureCause ws zero = 0
-structureCause ws (suc n) =
-    elim (linksInside ws (suc n)) [
-      | false ↦ 5
-      | true ↦ elim (boxesAccepted ws (suc n)) [ false ↦ 6 | true ↦ elim (isTree (suc n) ws (treeOf ws)) [ false ↦ 7 | true ↦ 0 ] ]
-    ]
+-- causes 5 to 7, each over all nodes before the next; without nodes there is nothing that they could hold of
+unfoldable pub structureConditions : List ℕ → ℕ → List Condition
+structureConditions ws zero = []
+structureConditions ws (suc n) =
+    let links = linksInside ws (suc n) in
+    let boxes = boxesAccepted ws (suc n) in
+    let tree = isTree (suc n) ws (treeOf ws) in
+    5 unless links ∷ 6 unless boxes ∷ 7 unless tree ∷ []
 
 -- all of them
-unfoldable pub treeCause : List ℕ → ℕ → ℕ
-treeCause ws n = elim (sizesCause (length ws) n) [ zero ↦ structureCause ws n | suc k ↦ suc k ]
+abbrev pub treeConditions : List ℕ → ℕ → List Condition
+treeConditions ws n = sizeConditions (length ws) n ++ structureConditions ws n
+
+-- the numbers
+abbrev pub sizesCause : (words n : ℕ) → ℕ
+sizesCause words n = firstCause (sizeConditions words n)
+
+abbrev pub structureCause : List ℕ → ℕ → ℕ
+structureCause ws n = firstCause (structureConditions ws n)
+
+abbrev pub treeCause : List ℕ → ℕ → ℕ
+treeCause ws n = firstCause (treeConditions ws n)

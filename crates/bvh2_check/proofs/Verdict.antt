@@ -1,15 +1,17 @@
 -- What the tests and the walk make of the cause, and what is left in the marks.
 use mathlib.Core.Path.{_≡_, refl, sym, ap, _∙_}
 use mathlib.Core.Bool.{Bool, true, false, not, _&&_}
-use mathlib.Core.List.{List, _++_}
+use mathlib.Core.List.{List, [], _∷_, _++_}
 use Prim.Native.Nat.{ℕ, zero, suc, _*_, _-_, _<_, _≤_}
 use native.Mathlib.Omega.{arith}
 use lib.ListN.{length, take, drop, replicate, length-replicate}
 use lib.Seq.{length-take-le}
 use Rattle.lists.proofs.Tells.{told, tells-same}
+use Rattle.causes.specs.Causes.{_unless_, firstCause}
+use Rattle.causes.proofs.Causes.{first-here, first-later}
 use Rattle.bvh2.specs.Words.{nodeCount, treeAt, treeOf}
 use Rattle.bvh2.specs.Causes.{Sized}
-use Rattle.bvh2.specs.FirstCause.{linksInside, boxesAccepted, isTree, structureCause}
+use Rattle.bvh2.specs.FirstCause.{linksInside, boxesAccepted, isTree, structureConditions, structureCause}
 use Rattle.bvh2.proofs.Paths.{AllInside, within-inside}
 use Rattle.bvh2.proofs.Once.{once-tells}
 use Rattle.bvh2.proofs.First.{all-inside-tells}
@@ -19,19 +21,20 @@ use Rattle.bvh2_check.proofs.Tests.{was-false, was-true}
 
 -- the links and the boxes
 pub judge-5 : (ws : List ℕ) (n : ℕ) → 0 < n → linksInside ws n ≡ false → 5 ≡ structureCause ws n
-unfolding structureCause
+unfolding structureConditions
 judge-5 ws zero p e = absurd (omega arith)
-judge-5 ws (suc n) p e = rw (structureCause, e)
+judge-5 ws (suc n) p e = sym (first-here _ e)
 
 pub judge-6 : (ws : List ℕ) (n : ℕ) → 0 < n → linksInside ws n ≡ true → boxesAccepted ws n ≡ false → 6 ≡ structureCause ws n
-unfolding structureCause
+unfolding structureConditions
 judge-6 ws zero p e f = absurd (omega arith)
-judge-6 ws (suc n) p e f = rw (structureCause, e, f)
+judge-6 ws (suc n) p e f = sym (first-later 5 _ e ∙ first-here _ f)
 
-judge-rest : (ws : List ℕ) (n : ℕ) (x : Bool) → 0 < n → linksInside ws n ≡ true → boxesAccepted ws n ≡ true → isTree n ws (treeOf ws) ≡ x → elim x [ false ↦ 7 | true ↦ 0 ] ≡ structureCause ws n
-unfolding structureCause
+judge-rest : (ws : List ℕ) (n : ℕ) (x : Bool) → 0 < n → linksInside ws n ≡ true → boxesAccepted ws n ≡ true → isTree n ws (treeOf ws) ≡ x
+    → firstCause (7 unless x ∷ []) ≡ structureCause ws n
+unfolding structureConditions
 judge-rest ws zero x p e f g = absurd (omega arith)
-judge-rest ws (suc n) x p e f g = rw (structureCause, e, f, g)
+judge-rest ws (suc n) x p e f g = sym (first-later 5 _ e ∙ first-later 6 _ f ∙ ap (λ (y : Bool). firstCause (7 unless y ∷ [])) g)
 
 -- what is known when the walk begins
 pub record Begun (ws : List ℕ) (n : ℕ) (o : List ℕ) : Type 0 where
@@ -58,7 +61,7 @@ marks-enough o₁ b h = let e = marks-length b in let p = b .pos in omega arith
 
 -- where the walk has ended
 module _ (ws : List ℕ) (n : ℕ) (o o₁ : List ℕ) (went : Bool) (b : Begun ws n o) (r : outcome went o₁ ≡ walk ws (nodeCount n) (treeAt ws 127 0) o) where
-  ended : elim (went && allMarked (markCount n) o₁) [ false ↦ 7 | true ↦ 0 ] ≡ structureCause ws n
+  ended : firstCause (7 unless (went && allMarked (markCount n) o₁) ∷ []) ≡ structureCause ws n
   ended =
       let p = b .pos in
       let w = within-inside ws n (inside b) 127 0 (omega arith) in
@@ -66,12 +69,15 @@ module _ (ws : List ℕ) (n : ℕ) (o o₁ : List ℕ) (went : Bool) (b : Begun 
       judge-rest ws n (went && allMarked (markCount n) o₁) p (b .links) (b .boxes) (tells-same (once-tells ws n) t)
 
   pub stopped : not went ≡ true → 7 ≡ structureCause ws n
+  unfolding firstCause
   stopped h = rw (was-false went went refl h) at ended
 
   pub unmarked : (k : ℕ) (full : Bool) → k ≡ markCount n → not went ≡ false → full ≡ allMarked k o₁ → not full ≡ true → 7 ≡ structureCause ws n
+  unfolding firstCause
   unmarked k full j h e i = rw (was-true went went refl h, was-false full (allMarked (markCount n) o₁) (rw j at e) i) at ended
 
   pub complete : (k : ℕ) (full : Bool) → k ≡ markCount n → not went ≡ false → full ≡ allMarked k o₁ → not full ≡ false → 0 ≡ structureCause ws n
+  unfolding firstCause
   complete k full j h e i = rw (was-true went went refl h, was-true full (allMarked (markCount n) o₁) (rw j at e) i) at ended
 
 -- zeros before and after
@@ -83,7 +89,7 @@ zeroed-again n o₀ o₁ o₂ l e h k g = zeroed n o₂ l (k ∙ ap length (zero
 
 -- no nodes, no marks
 pub none : (ws : List ℕ) (n : ℕ) → n ≡ 0 → 0 ≡ structureCause ws n
-unfolding structureCause
+unfolding structureConditions firstCause
 none ws zero e = refl
 none ws (suc n) e = absurd (omega arith)
 

@@ -101,11 +101,15 @@ module _ (ws indices : List ℕ) (limit : ℕ) (ordered : Bool) (ds : List ℕ) 
   unfolding conversionOf
   answered m d e = let z = zero-cause cause m d e in converts m d (z .0) (z .1) (z .2)
 
-  pub answers : Prepared ws n limit (length ds) (length cs) (length bytes) (length list) → levelOf ws n limit ordered ≤ 31
+  pub answers-none : cause ≡ 0
       → conversionOf ws indices limit ordered ds cs bytes list .answer ≡ converted (nodesOf ws n limit ordered) (levelOf ws n limit ordered)
   unfolding conversionOf answerFor
+  answers-none e = ap (answerFor ws n limit ordered) e
+
+  pub answers : Prepared ws n limit (length ds) (length cs) (length bytes) (length list) → levelOf ws n limit ordered ≤ 31
+      → conversionOf ws indices limit ordered ds cs bytes list .answer ≡ converted (nodesOf ws n limit ordered) (levelOf ws n limit ordered)
   answers h l =
-      ap (answerFor ws n limit ordered)
+      answers-none
       (cause-none ws n limit ordered (length ds) (length cs) (length bytes) (length list) (prepared-none ws n limit (length ds) (length cs) (length bytes) (length list) h) l)
 
   -- ---- refused 8

@@ -1,15 +1,18 @@
 -- The four ways in which a conversion ends, and the outcome of each.
 use mathlib.Core.Path.{_≡_, refl, sym, ap, ap₂, _∙_}
-use mathlib.Core.Bool.{Bool, true, false}
-use mathlib.Core.List.{List, []}
+use mathlib.Core.Bool.{Bool}
+use mathlib.Core.List.{List, [], _∷_}
 use Prim.Native.Nat.{ℕ, zero, suc, _^_, _≤_, _<_}
 use native.Mathlib.Omega.{arith}
+use lib.Dec.{leb}
 use lib.ListN.{length}
 use lib.Ieee.{Float}
 use borrow.Author.Tests.{le-leb, lt-leb}
 use Rattle.float.specs.Compare.{plusZero}
 use Rattle.lists.specs.Splice.{splice}
 use Rattle.lists.proofs.Splice.{splice-none}
+use Rattle.causes.specs.Causes.{Condition, _unless_, firstCause}
+use Rattle.causes.proofs.Causes.{first-here, passed-none, append-first, append-later}
 use Rattle.bvh2.specs.Words.{treeOf}
 use Rattle.bvh2.specs.Decoded.{Decoded}
 use Rattle.bvh2.proofs.Decoded.{accepted-decoded}
@@ -21,45 +24,34 @@ use Rattle.wide_tree.specs.Ordered.{wideTree}
 use Rattle.record.specs.Record.{recordBytes}
 use Rattle.emit_tree.specs.declared.Next.{Next}
 use Rattle.emit_tree.specs.Emission.{Whole, Emitted}
-use Rattle.tables.specs.Tables.{tableSize, prepareCause, cleared, workAfter}
+use Rattle.tables.specs.Tables.{tableSize, prepareConditions, prepareCause, cleared, workAfter}
+use Rattle.tables.proofs.Causes.{prepare-passed}
 use Rattle.tables.proofs.Prepared.{prepared, work-length}
 use Rattle.tables.proofs.Refilled.{work-refilled}
-use Rattle.bvh2_to_cwbvh.specs.Conversion.{wideAt, recordOf, nodesOf, levelOf, positionsOf, listOf, Answer, converted, refused, levelCause, conversionCause, answerFor, outputAfter, conversionOf}
+use Rattle.bvh2_to_cwbvh.specs.Conversion.{wideAt, recordOf, nodesOf, levelOf, positionsOf, listOf, Answer, converted, refused}
+use Rattle.bvh2_to_cwbvh.specs.Conversion.{conversionConditions, conversionCause, answerFor, outputAfter, conversionOf}
 use Rattle.bvh2_to_cwbvh.proofs.Ready.{holds, room, tabled, whole}
 
 -- ---- the first cause, from the causes up to 7
-pub cause-early : (ws : List ℕ) (n limit : ℕ) (ordered : Bool) (d c b l k : ℕ) → k ≡ prepareCause ws n limit d c b l → (k ≡ 0 → ⊥) → conversionCause ws n limit ordered d c b l ≡ k
-unfolding conversionCause
-cause-early ws n limit ordered d c b l k e h = ap by (sym e) ∙ pick k h
-  where
-    by : ℕ → ℕ
-    by k = elim k [ zero ↦ levelCause ws n limit ordered | suc j ↦ suc j ]
+module _ (ws : List ℕ) (n limit : ℕ) (ordered : Bool) (d c b l : ℕ) where
+  -- behind those
+  abbrev pub last : List Condition
+  last = 8 unless leb (levelOf ws n limit ordered) 31 ∷ []
 
-    pick : (k : ℕ) → (k ≡ 0 → ⊥) → by k ≡ k
-    pick zero h = absurd (h refl)
-    pick (suc k) h = refl
+  pub cause-early : (k : ℕ) → k ≡ prepareCause ws n limit d c b l → (k ≡ 0 → ⊥) → conversionCause ws n limit ordered d c b l ≡ k
+  unfolding conversionConditions
+  cause-early k e h = append-first (prepareConditions ws n limit d c b l) last (λ z. h (e ∙ z)) ∙ sym e
 
-module _ (ws : List ℕ) (n limit : ℕ) (ordered : Bool) (d c b l : ℕ) (none : prepareCause ws n limit d c b l ≡ 0) where
-  late : conversionCause ws n limit ordered d c b l ≡ levelCause ws n limit ordered
-  unfolding conversionCause
-  late = ap by none
-    where
-      by : ℕ → ℕ
-      by k = elim k [ zero ↦ levelCause ws n limit ordered | suc j ↦ suc j ]
+  module _ (none : prepareCause ws n limit d c b l ≡ 0) where
+    late : conversionCause ws n limit ordered d c b l ≡ firstCause last
+    unfolding conversionConditions
+    late = append-later (prepareConditions ws n limit d c b l) last (prepare-passed ws n limit d c b l none)
 
-  pub cause-none : levelOf ws n limit ordered ≤ 31 → conversionCause ws n limit ordered d c b l ≡ 0
-  unfolding levelCause
-  cause-none h = late ∙ ap by (le-leb (levelOf ws n limit ordered) 31 h)
-    where
-      by : Bool → ℕ
-      by p = elim p [ true ↦ 0 | false ↦ 8 ]
+    pub cause-none : levelOf ws n limit ordered ≤ 31 → conversionCause ws n limit ordered d c b l ≡ 0
+    cause-none h = late ∙ passed-none last (le-leb (levelOf ws n limit ordered) 31 h, tt)
 
-  pub cause-eight : 31 < levelOf ws n limit ordered → conversionCause ws n limit ordered d c b l ≡ 8
-  unfolding levelCause
-  cause-eight h = late ∙ ap by (lt-leb (levelOf ws n limit ordered) 31 h)
-    where
-      by : Bool → ℕ
-      by p = elim p [ true ↦ 0 | false ↦ 8 ]
+    pub cause-eight : 31 < levelOf ws n limit ordered → conversionCause ws n limit ordered d c b l ≡ 8
+    cause-eight h = late ∙ first-here [] (lt-leb (levelOf ws n limit ordered) 31 h)
 
 -- where there are leaves
 some-level : (ws : List ℕ) (n limit : ℕ) (ordered : Bool) → 0 < n → levelOf ws n limit ordered ≡ level (wideAt ws limit ordered)

@@ -1,12 +1,13 @@
 -- The conversion of a binary tree to a record (01, "Words, bytes and bounds"; "Causes of refusal"): what it answers, and what the lent slices
 -- hold then. n is the number of index words.
-use mathlib.Core.Bool.{Bool, true, false}
-use mathlib.Core.List.{List, []}
+use mathlib.Core.Bool.{Bool}
+use mathlib.Core.List.{List, [], _∷_, _++_}
 use Prim.Native.Nat.{ℕ, zero, suc}
 use lib.Dec.{leb}
 use lib.ListN.{length}
 use lib.Ieee.{Float}
 use Rattle.lists.specs.Splice.{splice}
+use Rattle.causes.specs.Causes.{Condition, _unless_, firstCause}
 use Rattle.float.specs.Compare.{plusZero}
 use Rattle.bvh2.specs.Words.{treeOf}
 use Rattle.cost.specs.Table.{wordOf, costOf}
@@ -14,7 +15,7 @@ use Rattle.wide.specs.Wide.{Wide}
 use Rattle.wide.specs.Layout.{nodes, indexList, level, wordsAt}
 use Rattle.wide_tree.specs.Ordered.{wideTree}
 use Rattle.record.specs.Record.{recordBytes}
-use Rattle.tables.specs.Tables.{prepareCause, workAfter}
+use Rattle.tables.specs.Tables.{prepareConditions, workAfter}
 
 -- ---- what an accepted tree becomes
 
@@ -54,16 +55,16 @@ pub data Answer : Type 0 where
   converted : (nodes level : ℕ) → Answer
   refused : ℕ → Answer
 
--- cause 8: a level over 31
-unfoldable pub levelCause : List ℕ → (n limit : ℕ) → Bool → ℕ
-unfolding levelOf
-levelCause ws n limit ordered = elim (leb (levelOf ws n limit ordered) 31) [ true ↦ 0 | false ↦ 8 ]
+-- for the lengths of decisions, costs, record and list: what the tables ask, and no level over 31
+unfoldable pub conversionConditions : List ℕ → (n limit : ℕ) → Bool → (decisions costs bytes list : ℕ) → List Condition
+unfolding prepareConditions levelOf
+conversionConditions ws n limit ordered decisions costs bytes list =
+    let low = leb (levelOf ws n limit ordered) 31 in
+    prepareConditions ws n limit decisions costs bytes list ++ 8 unless low ∷ []
 
--- the first of causes 1 to 8 for the lengths of decisions, costs, record and list; 0 where there is none
-unfoldable pub conversionCause : List ℕ → (n limit : ℕ) → Bool → (decisions costs bytes list : ℕ) → ℕ
-unfolding levelCause
-conversionCause ws n limit ordered decisions costs bytes list =
-    elim (prepareCause ws n limit decisions costs bytes list) [ zero ↦ levelCause ws n limit ordered | suc k ↦ suc k ]
+-- the first of causes 1 to 8; 0 where there is none
+abbrev pub conversionCause : List ℕ → (n limit : ℕ) → Bool → (decisions costs bytes list : ℕ) → ℕ
+conversionCause ws n limit ordered decisions costs bytes list = firstCause (conversionConditions ws n limit ordered decisions costs bytes list)
 
 -- the answer for a cause
 unfoldable pub answerFor : List ℕ → (n limit : ℕ) → Bool → ℕ → Answer
@@ -87,7 +88,7 @@ pub record Outcome : Type 0 where
   pub list : List ℕ
 
 unfoldable pub conversionOf : (ws indices : List ℕ) (limit : ℕ) → Bool → (decisions : List ℕ) (costs : List Float) (bytes list : List ℕ) → Outcome
-unfolding conversionCause answerFor recordOf listOf outputAfter workAfter
+unfolding conversionConditions firstCause answerFor recordOf listOf outputAfter workAfter
 conversionOf ws indices limit ordered decisions costs bytes list =
     let n = length indices in
     let cause = conversionCause ws n limit ordered (length decisions) (length costs) (length bytes) (length list) in

@@ -1,7 +1,7 @@
 -- The text of each case, and the answer to the input.
 use mathlib.Core.Bool.{Bool, true, false}
 use mathlib.Core.List.{List}
-use mathlib.Core.Path.{_≡_, sym, ap, _∙_}
+use mathlib.Core.Path.{_≡_, refl, sym, ap, _∙_}
 use Prim.Native.Nat.{ℕ, zero, suc, _+_, _-_, _<_, _≤_}
 use native.Mathlib.Omega.{arith}
 use lib.Dec.{ltb}
@@ -10,10 +10,12 @@ use lib.Seq.{take-length, length-take-le}
 use Rattle.io.specs.Counts.{Counts}
 use Rattle.lists.specs.Splice.{splice}
 use Rattle.lists.proofs.Tells.{Tells, passes, fails, ltb-tells}
+use Rattle.causes.specs.Sizes.{recordCause}
+use Rattle.causes.proofs.Sizes.{none-record}
 use Rattle.words.specs.Le.{leAt}
 use Rattle.show.specs.Show.{soundText, unsoundText, refusalText}
 use Rattle.record_shape.specs.Check.{refused, causeOf, soundnessOf, checkOf}
-use Rattle.record_shape.proofs.Check.{Cause, layout, many, short, none, cause-is, cause-one}
+use Rattle.record_shape.proofs.Check.{cause-sizes, cause-none}
 use Rattle.validate.specs.declared.Validity.{Validity}
 use Rattle.validate.specs.declared.Validity.the-variants.{Sound, Unsound, Refused}
 use Rattle.validate.specs.Validity.{answerOf}
@@ -46,13 +48,13 @@ wrote-short input r s t l h = go (ltb (length input) 4) (ltb-tells (length input
 
 -- the words are enough, so that how many there are does not matter
 enough : (long n words : ℕ) → allWords ≤ words → causeOf long n words ≡ causeOf long n allWords
-enough long n words h = go (causeOf long n words) (cause-is long n words)
+enough long n words h = go (recordCause long n) refl
   where
-    go : (c : ℕ) → Cause long n words c → c ≡ causeOf long n allWords
-    go c (layout a) = cause-one long n allWords 1 (layout a)
-    go c (many a b) = cause-one long n allWords 2 (many a b)
-    go c (short a b d f) = absurd (omega arith)
-    go c (none a b d f) = cause-one long n allWords 0 (none a b d (omega arith))
+    go : (c : ℕ) → recordCause long n ≡ c → causeOf long n words ≡ causeOf long n allWords
+    go zero e = let f = none-record long n e in cause-none long n words f (omega arith) ∙ sym (cause-none long n allWords f (omega arith))
+    go (suc c) e =
+        let some : recordCause long n ≡ 0 → ⊥ = λ z. omega (arith, e, z) in
+        cause-sizes long n words some ∙ sym (cause-sizes long n allWords some)
 
 -- the input behind the word
 behind : (input : List ℕ) → take (length input - 4) (drop 4 input) ≡ drop 4 input

@@ -1,7 +1,6 @@
 -- Input of any length is answered by what is kept of it: past the longest that a record can have the length alone decides.
 use mathlib.Core.Bool.{Bool, true, false}
 use mathlib.Core.List.{List, [], _∷_, _++_}
-use mathlib.Core.Logic.{inr}
 use mathlib.Core.Path.{_≡_, refl, sym, ap, _∙_}
 use Prim.Native.Nat.{ℕ, _+_, _-_, _%_, _<_, _≤_}
 use native.Mathlib.Nat.{add-zero, add-assoc}
@@ -11,9 +10,11 @@ use lib.ListN.{length, take, drop, length-append, length-drop}
 use lib.Seq.{take-all, take-take, take-append-le, length-take-le}
 use Rattle.lists.proofs.Tells.{Tells, passes, fails, eqb-tells, leb-tells, ltb-tells}
 use Rattle.lists.specs.Sums.{sumOver}
+use Rattle.causes.specs.Sizes.{recordCause}
+use Rattle.causes.proofs.Sizes.{record-unfit, record-over}
 use Rattle.words.specs.Le.{leAt}
 use Rattle.record_shape.specs.Check.{refused, causeOf, checkOf}
-use Rattle.record_shape.proofs.Check.{Cause, layout, many, short, none, cause-is, cause-one, check-refuses}
+use Rattle.record_shape.proofs.Check.{cause-sizes, check-refuses}
 use Rattle.check_text.specs.CheckText.{allWords, answerAt, checkText}
 use Rattle.check_text.specs.Held.{longest, heldLength, heldAfter, Holds, overCause}
 
@@ -85,13 +86,21 @@ reads-hold first rest counts room read =
 
 -- ---- answers
 
-over-cause : (input : List ℕ) (n : ℕ) → longest < length input → Cause (length (drop 4 input)) n allWords (overCause (length input))
+over-cause : (input : List ℕ) (n : ℕ) → longest < length input → overCause (length input) ≡ recordCause (length (drop 4 input)) n
 unfolding overCause
 over-cause input n l = go (eqb ((length input - 4) % 80) 0) (eqb-tells ((length input - 4) % 80) 0)
   where
-    go : (b : Bool) → Tells ((length input - 4) % 80 ≡ 0) b → Cause (length (drop 4 input)) n allWords (elim b [ false ↦ 1 | true ↦ 2 ])
-    go true (passes p) = many (simp length-drop p) (inr (simp length-drop (omega arith)))
-    go false (fails p) = layout (simp length-drop p)
+    go : (b : Bool) → Tells ((length input - 4) % 80 ≡ 0) b → elim b [ false ↦ 1 | true ↦ 2 ] ≡ recordCause (length (drop 4 input)) n
+    go true (passes p) = sym (record-over _ n (simp length-drop p) (λ h. omega (arith, h .1, length-drop 4 input)))
+    go false (fails p) = sym (record-unfit _ n (simp length-drop p))
+
+over-some : (long : ℕ) → 0 < overCause long
+unfolding overCause
+over-some long = go (eqb ((long - 4) % 80) 0)
+  where
+    go : (b : Bool) → 0 < elim b as (λ (x : Bool). ℕ) [ false ↦ 1 | true ↦ 2 ]
+    go true = omega arith
+    go false = omega arith
 
 same-over : (a b : ℕ) → (a - 4) % 80 ≡ (b - 4) % 80 → overCause a ≡ overCause b
 unfolding overCause
@@ -105,19 +114,15 @@ over-long input l = go (ltb (length input) 4) (ltb-tells (length input) 4)
     n : ℕ
     n = leAt 4 input 0
 
-    some : (c : ℕ) → Cause (length (drop 4 input)) n allWords c → 0 < c
-    some c (layout a) = omega arith
-    some c (many a b) = omega arith
-    some c (short a b d f) = omega arith
-    some c (none a b d f) = absurd (omega (arith, length-drop 4 input))
-
     same : overCause (length input) ≡ causeOf (length (drop 4 input)) n allWords
-    same = cause-one _ n allWords _ (over-cause input n l)
+    same =
+        let e = over-cause input n l in
+        e ∙ sym (cause-sizes (length (drop 4 input)) n allWords (λ z. omega (arith, over-some (length input), e, z)))
 
     go : (b : Bool) → Tells (length input < 4) b
         → elim b [ true ↦ refused 1 | false ↦ checkOf (drop 4 input) n allWords ] ≡ refused (overCause (length input))
     go true (passes p) = absurd (omega arith)
-    go false (fails p) = rw same (check-refuses (drop 4 input) n allWords (some _ (cause-is _ n allWords)))
+    go false (fails p) = rw same (check-refuses (drop 4 input) n allWords (omega (arith, over-some (length input), same)))
 
 -- whatever the input's length, what stands for it has its answer,
 pub held-answer : (input held : List ℕ) → Holds input held → answerAt held ≡ answerAt input

@@ -49,8 +49,8 @@ module _ {bytes indices : List ℕ} {panes : List Float} {o d : Vec3} {near far 
     start-walked h = without-cause refuse cause (paneCause bytes indices panes ray) (walk ray) (s .cause-is) h ∙ as-asked
 
   module _ (h : cause ≤ 0) where
-    holds : Entry.Entered (eqb (length panes % 6) 0) (length bytes) (length indices) ray
-    holds = Entry.entered _ _ _ _ (sym (s .cause-is) ∙ omega arith)
+    holds : Entry.Entered (eqb (length panes % 6) 0) (length bytes) (length indices) 0 ray
+    holds = Entry.entered _ _ _ _ _ (sym (s .cause-is) ∙ omega arith)
 
     -- the walk may begin,
     pub start-accepted : forgedBeam (beamOf ray) ≡ false
@@ -59,13 +59,13 @@ module _ {bytes indices : List ℕ} {panes : List Float} {o d : Vec3} {near far 
         (begun-accepted o d near far (subst (λ (r : Ray). acceptedRay r ≡ true) (s .ray-is) (holds .accepted)))
 
     pub start-sized : 0 < length bytes → Sized bytes (length indices)
-    start-sized g = let q = holds in record { whole = q .whole; some = omega (arith, q .whole); nodes = q .small; positions = q .few }
+    start-sized g = let q = holds .sizes in record { whole = q .whole; some = omega (arith, q .whole); nodes = q .small; positions = q .few }
 
     -- and without nodes it is done
     pub start-empty : {A : Type 0} → length bytes ≡ 0 → FieldsFit bytes → (react : ℕ → Beam → Found Float → Reaction Float (Found Float)) (refuse : ℕ → A) (found : Found Float → ℕ → Result A)
         → let w = queryAt bytes beams react none (length indices) (beamOf ray) in found none 0 ≡ walked refuse found w (w .ended)
     unfolding walked
     start-empty z fit react refuse found =
-        let q = query-empty bytes (length indices) fit react none ray start-accepted (omega arith) (holds .few) in
+        let q = query-empty bytes (length indices) fit react none ray start-accepted (omega arith) (holds .sizes .few) in
         let w = queryAt bytes beams react none (length indices) (beamOf ray) in
         ap (λ (x : Found Float). found x 0) (sym (q .noted)) ∙ ap (found (w .noted)) (sym (q .tests)) ∙ ap (walked refuse found w) (sym (q .ended))

@@ -15,7 +15,8 @@ use Rattle.walk.specs.Queries.{Pane, distance, faulty, Found, none, hit, fault,
 use Rattle.walk.specs.WordQueries.{OutcomeWords}
 use Rattle.walk_record.specs.Beam.{Beam, beamOf, beams}
 use Rattle.walk_record.specs.Walk.{queryAt}
-use Rattle.query.specs.Entry.{entryCause}
+use Rattle.causes.specs.Causes.{firstCause}
+use Rattle.query.specs.Entry.{entryConditions, entryCause}
 use Rattle.closest.specs.declared.ClosestHit.{ClosestHit}
 use Rattle.closest.specs.declared.ClosestHit.the-variants as C
 use Rattle.closest.specs.declared.Occlusion.{Occlusion}
@@ -89,7 +90,7 @@ entered refuse (suc k) w = record { answer = refuse (suc k); tests = 0 }
 module _ (bytes indices : List ℕ) (panes : List Float) (r : Ray) where
   -- the first of causes 1, 2 and 9
   abbrev pub paneCause : ℕ
-  paneCause = entryCause (eqb (length panes % 6) 0) (length bytes) (length indices) r
+  paneCause = entryCause (eqb (length panes % 6) 0) (length bytes) (length indices) 0 r
 
   -- the walks that they take: closest notes and tells each distance below the reach, so of equal ones the first counts; miss stops at the first
   unfoldable pub closestWalk : OutcomeWords Beam (Found Float)
@@ -108,11 +109,11 @@ module _ (bytes indices : List ℕ) (panes : List Float) (r : Ray) where
   missWalked = walked refusedMiss missFound missWalk (missWalk .ended)
 
   unfoldable pub closestOf : Result ClosestAnswer
-  unfolding entryCause walked closestFound closestWalk entered
+  unfolding entryConditions firstCause walked closestFound closestWalk entered
   closestOf = entered refusedClosest paneCause closestWalked
 
   unfoldable pub missOf : Result MissAnswer
-  unfolding entryCause walked missFound missWalk entered
+  unfolding entryConditions firstCause walked missFound missWalk entered
   missOf = entered refusedMiss paneCause missWalked
 
 -- ---- the cases of the results in the requirements' terms

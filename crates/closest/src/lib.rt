@@ -155,7 +155,7 @@ pub fn closest(
 {
     let ray = Ray::new(origin, direction, tmin, tmax);
     let fits = panes.len() % packed::BOX == 0;
-    let cause = query::entry_cause(fits, record.len(), indices.len(), ray);
+    let cause = query::entry_cause(fits, record.len(), indices.len(), 0, ray);
     if cause > 0 {
         return refused_closest(cause);
     }
@@ -252,7 +252,7 @@ pub fn miss(
 {
     let ray = Ray::new(origin, direction, tmin, tmax);
     let fits = panes.len() % packed::BOX == 0;
-    let cause = query::entry_cause(fits, record.len(), indices.len(), ray);
+    let cause = query::entry_cause(fits, record.len(), indices.len(), 0, ray);
     if cause > 0 {
         return refused_miss(cause);
     }

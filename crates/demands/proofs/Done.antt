@@ -8,7 +8,8 @@ use native.Mathlib.Omega.{arith}
 use lib.Dec.{eqb}
 use lib.ListN.{length}
 use Rattle.record_shape.specs.Record.{nodeCount, nodesAt}
-use Rattle.walk.specs.Step.{Answer, done, refused, sizesFit}
+use Rattle.walk.specs.Step.{Answer, done, refused}
+use Rattle.causes.specs.Sizes.{sizesFit}
 use Rattle.walk.specs.Calls.{All}
 use Rattle.walk.specs.WordStep.{WalkerWords, SteppedWords, stayWords, forgedWords}
 use Rattle.walk.proofs.WordKept.{Finished, Leaves, tell-finished}

@@ -1,11 +1,12 @@
 -- A leaf limit of 0 acts as 1 (01, "Corners of each file", bvh2_to_cwbvh.rs), in all that a conversion answers and leaves.
-use mathlib.Core.Bool.{Bool, true, false}
-use mathlib.Core.List.{List}
+use mathlib.Core.Bool.{Bool}
+use mathlib.Core.List.{List, [], _∷_, _++_}
 use mathlib.Core.Path.{_≡_, refl, ap, ap₂, fun-ext}
 use Prim.Native.Nat.{ℕ, zero, suc}
 use lib.Dec.{leb}
 use lib.ListN.{length}
 use lib.Ieee.{Float}
+use Rattle.causes.specs.Causes.{_unless_, firstCause}
 use Rattle.bvh2.specs.Tree.{Tree, leaf, inner, boxOf}
 use Rattle.bvh2.specs.Words.{treeOf}
 use Rattle.cost.specs.Table.{Decision, word, wordOf, costOf}
@@ -13,9 +14,9 @@ use Rattle.cost.proofs.Splits.{limit-zero}
 use Rattle.wide.specs.Layout.{wordsAt}
 use Rattle.wide_tree.specs.WideTree.{Placing, Child, slotsOf, childrenOf, wideOf}
 use Rattle.wide_tree.specs.Ordered.{placing}
-use Rattle.tables.specs.Tables.{prepareCause}
+use Rattle.tables.specs.Tables.{prepareConditions}
 use Rattle.bvh2_to_cwbvh.specs.Conversion.{wideAt, recordOf, nodesOf, levelOf, positionsOf, listOf}
-use Rattle.bvh2_to_cwbvh.specs.Conversion.{levelCause, conversionCause, converted, answerFor, Outcome, conversionOf}
+use Rattle.bvh2_to_cwbvh.specs.Conversion.{conversionConditions, conversionCause, converted, answerFor, Outcome, conversionOf}
 
 -- ---- the tables, and the wide tree
 words-zero : wordOf {A = ℕ} 0 ≡ wordOf 1
@@ -53,9 +54,9 @@ list-zero ws indices ordered = ap (wordsAt indices) (same ws (length indices) or
 
 -- ---- the cause and the answer
 cause-zero : (ws : List ℕ) (n : ℕ) (ordered : Bool) (d c b l : ℕ) → conversionCause ws n 0 ordered d c b l ≡ conversionCause ws n 1 ordered d c b l
-unfolding conversionCause levelCause prepareCause
+unfolding conversionConditions prepareConditions
 cause-zero ws n ordered d c b l =
-    ap (λ (x : ℕ). elim (prepareCause ws n 1 d c b l) [ zero ↦ elim (leb x 31) [ true ↦ 0 | false ↦ 8 ] | suc k ↦ suc k ]) (same ws n ordered .level)
+    ap (λ (x : ℕ). firstCause (prepareConditions ws n 1 d c b l ++ 8 unless leb x 31 ∷ [])) (same ws n ordered .level)
 
 answer-zero : (ws : List ℕ) (n : ℕ) (ordered : Bool) (k : ℕ) → answerFor ws n 0 ordered k ≡ answerFor ws n 1 ordered k
 unfolding answerFor

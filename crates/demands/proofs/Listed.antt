@@ -1,7 +1,7 @@
 -- Any-hit's answer and list where its walk ends without a refusal and the list is long enough.
 use mathlib.Core.Bool.{Bool, true, false}
 use mathlib.Core.List.{List}
-use mathlib.Core.Path.{_≡_, refl, sym, ap, _∙_}
+use mathlib.Core.Path.{_≡_, refl, ap, _∙_}
 use Prim.Native.Nat.{ℕ, zero, suc, _+_, _≤_}
 use lib.ListN.{length, take, drop}
 use lib.Seq.{take-at}
@@ -35,7 +35,8 @@ module _ {bytes : List ℕ} {n d : ℕ} {r : Ray} (good : Good bytes n d) (accep
   pub answers-listed : anyHitOf bytes n r (length before) ≡ listed (length met) tests
   unfolding anyHitOf
   answers-listed =
-      ap by (sym (entry-none true (length bytes) n r refl (good .layout) (good .positions) (good .nodes) (accepted .accepted)))
+      ap by
+      (entry-none true (length bytes) n 0 r refl (record { whole = good .layout; few = good .positions; small = good .nodes }) refl (accepted .accepted))
       ∙ answer-listed
     where
       by : ℕ → Answer

@@ -1,240 +1,178 @@
--- The number refused is the first cause's: each cause is looked at before any with a higher number.
+-- The number refused is the first cause's, in the order of causes; and what each refusal leaves.
 use mathlib.Core.Bool.{Bool, true, false}
 use mathlib.Core.List.{List}
-use mathlib.Core.Logic.{_↔_}
-use mathlib.Core.Path.{_≡_, refl, sym, _∙_, subst}
+use mathlib.Core.Logic.{_⊎_, inl, inr, _↔_}
+use mathlib.Core.Path.{_≡_, refl, sym, _∙_}
 use Prim.Native.Nat.{ℕ, zero, suc, _≤_, _<_}
 use native.Mathlib.Decide.{decLt}
 use native.Mathlib.Omega.{arith}
-use lib.Dec.{T}
+use lib.Dec.{T, leb}
 use lib.ListN.{length}
-use borrow.Author.Tests.{le-leb}
-use Rattle.bvh2.specs.Causes.{Cause, length-unfit, too-many, link-outside, box-refused, not-one-path, too-deep, not-one-leaf, Sized}
-use Rattle.bvh2.specs.FirstCause.{sizesCause, structureCause}
-use Rattle.bvh2.proofs.First.{sizes-none, sizes-first, structure-first}
+use borrow.Author.Tests.{le-leb, lt-leb, leb-false}
+use Rattle.lists.proofs.Tells.{clash}
+use Rattle.causes.specs.Causes.{Condition, placeOf}
+use Rattle.causes.proofs.Causes.{Passed, sorted, allNumbers}
+use Rattle.causes.proofs.First.{Shows, Fails, shows-append, shows-as, fails-first, fails-later, fails-parts, found-fails, first-none, first-is}
+use Rattle.bvh2.specs.Causes.{Cause}
+use Rattle.bvh2.specs.FirstCause.{sizeConditions, structureConditions}
+use Rattle.bvh2.proofs.First.{sizes-show, structure-shows, cause-fails}
 use Rattle.float.specs.Compare.{plusZero}
 use Rattle.cost.specs.Table.{wordOf, costOf}
-use Rattle.tables.specs.Tables.{tableSize, recordSize, hasRoom, prepareCause, cleared}
+use Rattle.tables.specs.Tables.{tableSize, recordSize, hasRoom, prepareConditions, prepareCause, cleared}
 use Rattle.tables.proofs.Room.{room-parts, room-list}
-use Rattle.tables.proofs.Causes.{sizes-most, cause-size, cause-limit, cause-room, cause-structure, work-kept, work-cleared}
-use Rattle.tables.proofs.Prepared.{prepared}
-use Rattle.bvh2_to_cwbvh.specs.Conversion.{refused, conversionCause, nodesOf}
-use Rattle.bvh2_to_cwbvh.proofs.Endings.{cause-early, cause-none, cause-eight}
+use Rattle.tables.proofs.Causes.{rest, work-kept, work-cleared}
+use Rattle.tables.proofs.Prepared.{prepared, passed-prepared, prepared-none}
+use Rattle.bvh2_to_cwbvh.specs.Conversion.{refused, conversionConditions, nodesOf}
+use Rattle.bvh2_to_cwbvh.proofs.Endings.{last, cause-none}
 use Rattle.bvh2_to_cwbvh.proofs.Answers as A
 use Rattle.demands.specs.Call.{Call, outcome, Answers, leafCount, deepestLevel, Convertible}
 use Rattle.demands.specs.Refusals.{Refusal, tree-refused, limit-over, decisions-short, costs-short, bytes-short, list-short, level-over, FirstRefusal}
 use Rattle.demands.proofs.Levels.{over-deepest}
 
--- no cause of a tree has a number over 7
-most : {ws : List ℕ} {n k : ℕ} → Cause ws n k → k ≤ 7
-most (length-unfit h) = omega arith
-most (too-many h) = omega arith
-most (link-outside v l h) = omega arith
-most (box-refused v l h) = omega arith
-most (not-one-path v l h) = omega arith
-most (too-deep v p l r h) = omega arith
-most (not-one-leaf p l h) = omega arith
+-- ---- the list of conditions, with or without leaves
+in-order : (ws : List ℕ) (n limit : ℕ) (ordered : Bool) (d c b l : ℕ) → T (sorted 0 (conversionConditions ws n limit ordered d c b l))
+unfolding conversionConditions sizeConditions structureConditions sorted
+in-order ws zero limit ordered d c b l = tt
+in-order ws (suc n) limit ordered d c b l = tt
 
--- without causes 1 and 2 none is below 5
-low : {ws : List ℕ} {n : ℕ} → Sized ws n → (k : ℕ) → k < 5 → Cause ws n k → ⊥
-low s k l (length-unfit h) = h (s .fit)
-low s k l (too-many h) = omega (arith, s .few)
-low s k l (link-outside v p h) = omega arith
-low s k l (box-refused v p h) = omega arith
-low s k l (not-one-path v p h) = omega arith
-low s k l (too-deep v q p r h) = omega arith
-low s k l (not-one-leaf p q h) = omega arith
+none-after-eight : (ws : List ℕ) (n limit d c b l : ℕ) → T (allNumbers (λ k. leb (placeOf k) (placeOf 8)) (prepareConditions ws n limit d c b l))
+unfolding prepareConditions sizeConditions structureConditions allNumbers placeOf
+none-after-eight ws zero limit d c b l = tt
+none-after-eight ws (suc n) limit d c b l = tt
 
 module _ (c : Call) where
   abbrev n : ℕ
   n = leafCount c
 
-  abbrev early : ℕ
-  early = prepareCause (c .words) n (c .limit) (length (c .decisions)) (length (c .costs)) (length (c .bytes)) (length (c .list))
+  abbrev sizes : List Condition
+  sizes = sizeConditions (length (c .words)) n
 
-  abbrev cause : ℕ
-  cause = conversionCause (c .words) n (c .limit) (c .ordered) (length (c .decisions)) (length (c .costs)) (length (c .bytes)) (length (c .list))
+  abbrev others : List Condition
+  others = rest (c .words) n (c .limit) (length (c .decisions)) (length (c .costs)) (length (c .bytes)) (length (c .list))
+
+  abbrev early : List Condition
+  early = prepareConditions (c .words) n (c .limit) (length (c .decisions)) (length (c .costs)) (length (c .bytes)) (length (c .list))
+
+  abbrev level : List Condition
+  level = last (c .words) n (c .limit) (c .ordered) (length (c .decisions)) (length (c .costs)) (length (c .bytes)) (length (c .list))
+
+  abbrev all : List Condition
+  all = conversionConditions (c .words) n (c .limit) (c .ordered) (length (c .decisions)) (length (c .costs)) (length (c .bytes)) (length (c .list))
 
   abbrev enough : Bool
   enough = hasRoom n (length (c .decisions)) (length (c .costs)) (length (c .bytes)) (length (c .list))
 
-  -- what a number says of the causes
-  Verdict : ℕ → Type 0
-  Verdict zero = (j : ℕ) → Refusal c j → ⊥
-  Verdict (suc k) = FirstRefusal c (suc k)
-
-  -- ---- causes 1 to 7
-  Early : ℕ → Type 0
-  Early zero = Convertible c
-  Early (suc k) = FirstRefusal c (suc k)
-
-  size-first : (k : ℕ) → suc k ≤ 2 → sizesCause (length (c .words)) n ≡ suc k → FirstRefusal c (suc k)
-  size-first k l e =
-      let f = sizes-first (c .words) n (suc k) (omega arith) (omega arith) .0 e in
-      (tree-refused (f .0), λ j h r. lower j h r (f .1))
+  -- ---- a test that fails shows its cause
+  short : enough ≡ false → Refusal c 4
+  short e =
+      pick (decLt (length (c .decisions)) (tableSize n)) (decLt (length (c .costs)) (tableSize n))
+      (decLt (length (c .bytes)) (recordSize n)) (decLt (length (c .list)) n)
     where
-      lower : (j : ℕ) → j < suc k → Refusal c j → ((j : ℕ) → j < suc k → Cause (c .words) n j → ⊥) → ⊥
-      lower j h (tree-refused q) f = f j h q
-      lower j h (limit-over p) f = omega arith
-      lower j h (decisions-short p) f = omega arith
-      lower j h (costs-short p) f = omega arith
-      lower j h (bytes-short p) f = omega arith
-      lower j h (list-short p) f = omega arith
-      lower j h (level-over a p) f = omega arith
+      pick : Dec (length (c .decisions) < tableSize n) → Dec (length (c .costs) < tableSize n) → Dec (length (c .bytes) < recordSize n)
+          → Dec (length (c .list) < n) → Refusal c 4
+      pick (yes p) q r t = decisions-short p
+      pick (no p) (yes q) r t = costs-short q
+      pick (no p) (no q) (yes r) t = bytes-short r
+      pick (no p) (no q) (no r) (yes t) = list-short t
+      pick (no p) (no q) (no r) (no t) =
+          clash (sym e
+          ∙ sym (room-list n (length (c .decisions)) (length (c .costs)) (length (c .bytes)) (length (c .list))
+          (omega arith) (omega arith) (omega arith))
+          ∙ le-leb n (length (c .list)) (omega arith))
 
-  limit-first : Sized (c .words) n → 3 < c .limit → FirstRefusal c 3
-  limit-first s l = (limit-over l, lower)
+  early-shows : Shows (Refusal c) early
+  unfolding prepareConditions
+  early-shows =
+      shows-append (Refusal c) sizes others (shows-as (Cause (c .words) n) (Refusal c) (λ k. tree-refused) sizes (sizes-show (c .words) n))
+      (λ p. (
+        λ e. limit-over (leb-false (c .limit) 3 e),
+        λ q. (
+          short,
+          λ r.
+              shows-as (Cause (c .words) n) (Refusal c) (λ k. tree-refused) (structureConditions (c .words) n) (structure-shows (c .words) n),
+        ),
+      ))
+
+  convertible : Passed early → Convertible c
+  convertible = passed-prepared (c .words) n (c .limit) (length (c .decisions)) (length (c .costs)) (length (c .bytes)) (length (c .list))
+
+  all-shows : Shows (Refusal c) all
+  unfolding conversionConditions
+  all-shows =
+      shows-append (Refusal c) early level early-shows
+      (λ p. let h = convertible p in (λ e. level-over (h .accepted) (over-deepest c h .1 (leb-false (deepestLevel c) 31 e)), λ q. tt))
+
+  -- ---- a cause that holds makes a test fail, no later than its own
+  no-room : enough ≡ false → Fails 4 all
+  unfolding conversionConditions prepareConditions placeOf
+  no-room e = fails-first 4 early level (fails-later 4 sizes others (inr (inl (e, tt))))
+
+  -- what a short slice says of the test of room
+  lacking : ((tableSize n ≤ length (c .decisions)) × (tableSize n ≤ length (c .costs)) × (recordSize n ≤ length (c .bytes)) × (n ≤ length (c .list))
+      → ⊥) → enough ≡ false
+  lacking h = go enough refl
     where
-      lower : (j : ℕ) → j < 3 → Refusal c j → ⊥
-      lower j h (tree-refused q) = low s j (omega arith) q
-      lower j h (limit-over p) = omega arith
-      lower j h (decisions-short p) = omega arith
-      lower j h (costs-short p) = omega arith
-      lower j h (bytes-short p) = omega arith
-      lower j h (list-short p) = omega arith
-      lower j h (level-over a p) = omega arith
+      go : (b : Bool) → enough ≡ b → enough ≡ false
+      go true e = absurd (h (room-parts n (length (c .decisions)) (length (c .costs)) (length (c .bytes)) (length (c .list)) e))
+      go false e = e
 
-  room-first : Sized (c .words) n → c .limit ≤ 3 → enough ≡ false → FirstRefusal c 4
-  room-first s l e = (short (decLt (length (c .decisions)) (tableSize n)) (decLt (length (c .costs)) (tableSize n)) (decLt (length (c .bytes)) (recordSize n)) (decLt (length (c .list)) n), lower)
+  tree-fails : (k : ℕ) → Cause (c .words) n k → Fails k all
+  unfolding conversionConditions prepareConditions
+  tree-fails k q = pick (fails-parts k sizes (structureConditions (c .words) n) (cause-fails (c .words) n k q))
     where
-      short : Dec (length (c .decisions) < tableSize n) → Dec (length (c .costs) < tableSize n) → Dec (length (c .bytes) < recordSize n) → Dec (length (c .list) < n) → Refusal c 4
-      short (yes p) q r t = decisions-short p
-      short (no p) (yes q) r t = costs-short q
-      short (no p) (no q) (yes r) t = bytes-short r
-      short (no p) (no q) (no r) (yes t) = list-short t
-      short (no p) (no q) (no r) (no t) =
-          absurd (subst T (sym (sym e ∙ sym (room-list n (length (c .decisions)) (length (c .costs)) (length (c .bytes)) (length (c .list)) (omega arith) (omega arith) (omega arith)) ∙ le-leb n (length (c .list)) (omega arith))) tt)
+      pick : Fails k sizes ⊎ Fails k (structureConditions (c .words) n) → Fails k all
+      pick (inl f) = fails-first k early level (fails-first k sizes others f)
+      pick (inr f) = fails-first k early level (fails-later k sizes others (inr (inr f)))
 
-      lower : (j : ℕ) → j < 4 → Refusal c j → ⊥
-      lower j h (tree-refused q) = low s j (omega arith) q
-      lower j h (limit-over p) = omega arith
-      lower j h (decisions-short p) = omega arith
-      lower j h (costs-short p) = omega arith
-      lower j h (bytes-short p) = omega arith
-      lower j h (list-short p) = omega arith
-      lower j h (level-over a p) = omega arith
-
-  tree-first : Sized (c .words) n → c .limit ≤ 3 → enough ≡ true → (k : ℕ) → structureCause (c .words) n ≡ suc k → FirstRefusal c (suc k)
-  tree-first s l e k q =
-      let f = structure-first (c .words) n (suc k) s (omega arith) .0 q in
-      let r = room-parts n (length (c .decisions)) (length (c .costs)) (length (c .bytes)) (length (c .list)) e in
-      (tree-refused (f .0), λ j h x. lower j h x (f .1) (most (f .0)) r)
+  -- a level over 31 is looked for only where none of the other tests fails
+  level-fails : Refusal c 8 → (Convertible c → 31 < deepestLevel c) → Fails 8 all
+  unfolding conversionConditions placeOf
+  level-fails r h = go (prepareCause (c .words) n (c .limit) (length (c .decisions)) (length (c .costs)) (length (c .bytes)) (length (c .list))) refl
     where
-      lower : (j : ℕ) → j < suc k → Refusal c j → ((j : ℕ) → j < suc k → Cause (c .words) n j → ⊥) → suc k ≤ 7
-          → (tableSize n ≤ length (c .decisions)) × (tableSize n ≤ length (c .costs)) × (recordSize n ≤ length (c .bytes)) × (n ≤ length (c .list)) → ⊥
-      lower j h (tree-refused q) f m r = f j h q
-      lower j h (limit-over p) f m r = omega arith
-      lower j h (decisions-short p) f m r = omega (arith, r .0)
-      lower j h (costs-short p) f m r = omega (arith, r .1)
-      lower j h (bytes-short p) f m r = omega (arith, r .2)
-      lower j h (list-short p) f m r = omega (arith, r .3)
-      lower j h (level-over a p) f m r = omega arith
-
-  early-says : Early early
-  unfolding Early
-  early-says = go (sizesCause (length (c .words)) n) refl
-    where
-      structured : Sized (c .words) n → sizesCause (length (c .words)) n ≡ 0 → c .limit ≤ 3 → enough ≡ true → (k : ℕ) → structureCause (c .words) n ≡ k → Early early
-      structured s z l e zero q =
-          let t = cause-structure (c .words) n (c .limit) (length (c .decisions)) (length (c .costs)) (length (c .bytes)) (length (c .list)) z l e in
-          subst Early (sym (sym t ∙ q)) (prepared (c .words) n (c .limit) (length (c .decisions)) (length (c .costs)) (length (c .bytes)) (length (c .list)) (sym t ∙ q))
-      structured s z l e (suc k) q =
-          let t = cause-structure (c .words) n (c .limit) (length (c .decisions)) (length (c .costs)) (length (c .bytes)) (length (c .list)) z l e in
-          subst Early (sym q ∙ t) (tree-first s l e k q)
-
-      roomy : Sized (c .words) n → sizesCause (length (c .words)) n ≡ 0 → c .limit ≤ 3 → (b : Bool) → enough ≡ b → Early early
-      roomy s z l true e = structured s z l e (structureCause (c .words) n) refl
-      roomy s z l false e =
-          subst Early (cause-room (c .words) n (c .limit) (length (c .decisions)) (length (c .costs)) (length (c .bytes)) (length (c .list)) z l e) (room-first s l e)
-
-      limited : Sized (c .words) n → sizesCause (length (c .words)) n ≡ 0 → Dec (3 < c .limit) → Early early
-      limited s z (yes l) =
-          subst Early (cause-limit (c .words) n (c .limit) (length (c .decisions)) (length (c .costs)) (length (c .bytes)) (length (c .list)) z l) (limit-first s l)
-      limited s z (no l) = roomy s z (omega arith) enough refl
-
-      go : (k : ℕ) → sizesCause (length (c .words)) n ≡ k → Early early
-      go zero e = limited (sizes-none (c .words) n .0 e) e (decLt 3 (c .limit))
+      go : (k : ℕ) → prepareCause (c .words) n (c .limit) (length (c .decisions)) (length (c .costs)) (length (c .bytes)) (length (c .list)) ≡ k
+          → Fails 8 all
+      go zero e =
+          let p = prepared (c .words) n (c .limit) (length (c .decisions)) (length (c .costs)) (length (c .bytes)) (length (c .list)) e in
+          fails-later 8 early level (inl (lt-leb (deepestLevel c) 31 (h p), tt))
       go (suc k) e =
-          subst Early (cause-size (c .words) n (c .limit) (length (c .decisions)) (length (c .costs)) (length (c .bytes)) (length (c .list)) (suc k) (sym e) (λ z. omega (arith, z)))
-          (size-first k (omega (arith, e, sizes-most (length (c .words)) n)) e)
+          fails-first 8 early level
+          (found-fails 8 early
+          (none-after-eight (c .words) n (c .limit) (length (c .decisions)) (length (c .costs)) (length (c .bytes)) (length (c .list)))
+          (λ z. omega (arith, e, z)))
 
-  -- ---- all causes
-  none-below-eight : Convertible c → (j : ℕ) → j < 8 → Refusal c j → ⊥
-  none-below-eight h j l (tree-refused q) = h .accepted j q
-  none-below-eight h j l (limit-over p) = omega (arith, h .small)
-  none-below-eight h j l (decisions-short p) = omega (arith, h .words)
-  none-below-eight h j l (costs-short p) = omega (arith, h .costs)
-  none-below-eight h j l (bytes-short p) = omega (arith, h .bytes)
-  none-below-eight h j l (list-short p) = omega (arith, h .list)
-  none-below-eight h j l (level-over a p) = omega arith
+  fails : (j : ℕ) → Refusal c j → Fails j all
+  unfolding conversionConditions prepareConditions placeOf
+  fails j (tree-refused q) = tree-fails j q
+  fails j (limit-over h) = fails-first 3 early level (fails-later 3 sizes others (inl (lt-leb (c .limit) 3 h, tt)))
+  fails j (decisions-short h) = no-room (lacking (λ r. omega (arith, h, r .0)))
+  fails j (costs-short h) = no-room (lacking (λ r. omega (arith, h, r .1)))
+  fails j (bytes-short h) = no-room (lacking (λ r. omega (arith, h, r .2)))
+  fails j (list-short h) = no-room (lacking (λ r. omega (arith, h, r .3)))
+  fails j (level-over a h) = level-fails (level-over a h) (λ p. over-deepest c p .0 h)
 
-  none-at-all : Convertible c → deepestLevel c ≤ 31 → (j : ℕ) → Refusal c j → ⊥
-  none-at-all h d j (tree-refused q) = h .accepted j q
-  none-at-all h d j (limit-over p) = omega (arith, h .small)
-  none-at-all h d j (decisions-short p) = omega (arith, h .words)
-  none-at-all h d j (costs-short p) = omega (arith, h .costs)
-  none-at-all h d j (bytes-short p) = omega (arith, h .bytes)
-  none-at-all h d j (list-short p) = omega (arith, h .list)
-  none-at-all h d j (level-over a p) = omega (arith, over-deepest c h .0 p)
-
-  says : Verdict cause
-  unfolding Early Verdict
-  says = go early refl early-says
-    where
-      deep : early ≡ 0 → Convertible c → Dec (31 < deepestLevel c) → Verdict cause
-      deep e h (yes l) =
-          subst Verdict (sym (cause-eight (c .words) n (c .limit) (c .ordered) (length (c .decisions)) (length (c .costs)) (length (c .bytes)) (length (c .list)) e l))
-          (level-over (h .accepted) (over-deepest c h .1 l), none-below-eight h)
-      deep e h (no l) =
-          subst Verdict (sym (cause-none (c .words) n (c .limit) (c .ordered) (length (c .decisions)) (length (c .costs)) (length (c .bytes)) (length (c .list)) e (omega arith)))
-          (none-at-all h (omega arith))
-
-      go : (k : ℕ) → early ≡ k → Early k → Verdict cause
-      go zero e h = deep e h (decLt 31 (deepestLevel c))
-      go (suc k) e h =
-          subst Verdict (sym (cause-early (c .words) n (c .limit) (c .ordered) (length (c .decisions)) (length (c .costs)) (length (c .bytes)) (length (c .list)) (suc k) (sym e) (λ z. omega (arith, z)))) h
-
-  one-first : (j k : ℕ) → FirstRefusal c j → FirstRefusal c k → j ≡ k
-  one-first j k f g = pick (decLt j k) (decLt k j)
-    where
-      pick : Dec (j < k) → Dec (k < j) → j ≡ k
-      pick (yes l) h = absurd (g .1 j l (f .0))
-      pick (no l) (yes h) = absurd (f .1 k h (g .0))
-      pick (no l) (no h) = omega arith
+  -- ---- the first cause
+  ordered : T (sorted 0 all)
+  ordered = in-order (c .words) n (c .limit) (c .ordered) (length (c .decisions)) (length (c .costs)) (length (c .bytes)) (length (c .list))
 
   -- The call is refused with the number of the first cause that holds,
   pub refused-first : (k : ℕ) → outcome c .answer ≡ refused k ↔ FirstRefusal c k
-  unfolding Verdict
-  refused-first k = (λ e. let h = tells .0 e in to k (h .0) (h .1), λ f. from cause refl says f)
-    where
-      tells : outcome c .answer ≡ refused k ↔ ((cause ≡ k) × (0 < k))
-      tells = A.refused-cause (c .words) (c .indices) (c .limit) (c .ordered) (c .decisions) (c .costs) (c .bytes) (c .list) k
-
-      to : (k : ℕ) → cause ≡ k → 0 < k → FirstRefusal c k
-      to zero e h = absurd (omega arith)
-      to (suc k) e h = subst Verdict e says
-
-      from : (j : ℕ) → cause ≡ j → Verdict j → FirstRefusal c k → outcome c .answer ≡ refused k
-      from zero e v f = absurd (v k (f .0))
-      from (suc j) e v f = let q = one-first (suc j) k v f in tells .1 (e ∙ q, omega (arith, q))
+  refused-first k =
+      let r = A.refused-cause (c .words) (c .indices) (c .limit) (c .ordered) (c .decisions) (c .costs) (c .bytes) (c .list) k in
+      let f = first-is (Refusal c) all ordered all-shows fails k in
+      (λ e. f .0 (r .0 e), λ h. r .1 (f .1 h))
 
   -- and answered exactly if none does.
   pub answered-none : (m d : ℕ) → Answers c m d → (j : ℕ) → Refusal c j → ⊥
-  answered-none m d e j r =
+  answered-none m d e =
       let a = A.answered (c .words) (c .indices) (c .limit) (c .ordered) (c .decisions) (c .costs) (c .bytes) (c .list) m d e in
-      none-at-all (a .none) (a .low) j r
+      let p = prepared-none (c .words) n (c .limit) (length (c .decisions)) (length (c .costs)) (length (c .bytes)) (length (c .list)) (a .none) in
+      first-none (Refusal c) all ordered all-shows fails .0
+      (cause-none (c .words) n (c .limit) (c .ordered) (length (c .decisions)) (length (c .costs)) (length (c .bytes)) (length (c .list)) p (a .low))
 
   pub none-answered : ((j : ℕ) → Refusal c j → ⊥) → Answers c (nodesOf (c .words) n (c .limit) (c .ordered)) (deepestLevel c)
-  unfolding Early
-  none-answered h = go early refl early-says
-    where
-      go : (k : ℕ) → early ≡ k → Early k → Answers c (nodesOf (c .words) n (c .limit) (c .ordered)) (deepestLevel c)
-      go zero e p = shallow (decLt 31 (deepestLevel c))
-        where
-          shallow : Dec (31 < deepestLevel c) → Answers c (nodesOf (c .words) n (c .limit) (c .ordered)) (deepestLevel c)
-          shallow (yes l) = absurd (h 8 (level-over (p .accepted) (over-deepest c p .1 l)))
-          shallow (no l) = A.answers (c .words) (c .indices) (c .limit) (c .ordered) (c .decisions) (c .costs) (c .bytes) (c .list) p (omega arith)
-      go (suc k) e f = absurd (h (suc k) (f .0))
+  none-answered h =
+      A.answers-none (c .words) (c .indices) (c .limit) (c .ordered) (c .decisions) (c .costs) (c .bytes) (c .list)
+      (first-none (Refusal c) all ordered all-shows fails .1 h)
 
   -- A refusal leaves both outputs as they were;
   pub outputs-stay : (k : ℕ) → outcome c .answer ≡ refused k → (outcome c .bytes ≡ c .bytes) × (outcome c .list ≡ c .list)

@@ -15,7 +15,7 @@ use Rattle.wide.proofs.Shape.{reads-sound, reads-one-level, reads-deepest}
 use Rattle.record.specs.Record.{recordBytes}
 use Rattle.record_shape.specs.Record.{nodeCount, shapeIn, shapeAt, RuleAt, SoundRecord, DeepestLevel}
 use Rattle.record_shape.specs.Check.{sound, checkOf}
-use Rattle.record_shape.proofs.Check.{none, cause-one, check-sound}
+use Rattle.record_shape.proofs.Check.{cause-none, check-sound}
 use Rattle.record_laws.specs.Writable.{Writable}
 use Rattle.record.proofs.Length.{record-length}
 use Rattle.record_laws.proofs.ReadBack.{record-count}
@@ -73,4 +73,5 @@ good leaves indices bytes list d low (written t h p b x e) =
 -- the record check, given a working word for each node and each position, answers sound with that level
 pub good-check : (bytes : List ℕ) (n d words : ℕ) → Good bytes n d → nodeCount bytes + n ≤ words → checkOf bytes n words ≡ sound d
 good-check bytes n d words g h =
-    check-sound bytes n words (sym (cause-one (length bytes) n words 0 (none (g .layout) (g .positions) (g .nodes) h))) (g .sound) d (g .deepest)
+    check-sound bytes n words
+    (cause-none (length bytes) n words (record { whole = g .layout; few = g .positions; small = g .nodes }) h) (g .sound) d (g .deepest)

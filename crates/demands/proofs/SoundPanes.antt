@@ -93,8 +93,8 @@ module _ {bytes indices : List ℕ} {panes : List Float} {d : ℕ} {ray : Ray} (
   -- nothing refuses it
   no-cause : 0 ≡ paneCause bytes indices panes ray
   no-cause =
-      entry-none (eqb (length panes % 6) 0) (length bytes) n ray (eq-eqb (length panes % 6) 0 (fine .whole)) (good .layout)
-      (good .positions) (good .nodes) (accepted .accepted)
+      sym (entry-none (eqb (length panes % 6) 0) (length bytes) n 0 ray (eq-eqb (length panes % 6) 0 (fine .whole))
+      (record { whole = good .layout; few = good .positions; small = good .nodes }) refl (accepted .accepted))
 
   not-refused : (react : React) → Ended (queryAt bytes beams react none n (beamOf ray) .ended)
   not-refused react = query-not-refused good accepted react none

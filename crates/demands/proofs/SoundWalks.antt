@@ -36,8 +36,8 @@ use Rattle.demands.proofs.Listed.{answers-listed, list-found}
 pub checked-good : (bytes : List ℕ) → ((i : ℕ) → getD bytes i 0 < 256) → (n d words : ℕ) → checkOf bytes n words ≡ sound d → Good bytes n d
 checked-good bytes are-bytes n d words e =
     let h = sound-iff bytes n words d .0 e in
-    let f = fits (length bytes) n words (h .0) in
-    record { sound = h .1; deepest = h .2; layout = f .layout; nodes = f .nodes; positions = f .positions; are-bytes = are-bytes }
+    let f = fits (length bytes) n words (h .0) .sizes in
+    record { sound = h .1; deepest = h .2; layout = f .whole; nodes = f .small; positions = f .few; are-bytes = are-bytes }
 
 module _ {bytes : List ℕ} {n d : ℕ} {ray : Ray} (good : Good bytes n d) (accepted : AcceptedRay ray) where
   walk : SoundWalk (nodesAt bytes) beams n (beamOf ray)

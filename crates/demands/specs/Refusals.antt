@@ -1,6 +1,7 @@
 -- Why a call of the conversion is refused (01, "Causes of refusal"): each constructor is one way for the cause of that number to hold.
 use Prim.Native.Nat.{ℕ, _<_}
 use lib.ListN.{length}
+use Rattle.causes.specs.Causes.{First}
 use Rattle.soundness.specs.Shape.{Level}
 use Rattle.record_shape.specs.Record.{nodeCount, shapeAt}
 use Rattle.bvh2.specs.Causes.{Cause, Accepted}
@@ -29,6 +30,6 @@ pub data Refusal (c : Call) : ℕ → Type 0 where
   -- 8: of the record that an accepted tree would become
   level-over : Accepted (c .words) (leafCount c) → LevelOver c → Refusal c 8
 
--- cause k holds, and none with a lower number
+-- cause k holds, and none that is looked at before it
 abbrev pub FirstRefusal : Call → ℕ → Type 0
-FirstRefusal c k = Refusal c k × ((j : ℕ) → j < k → Refusal c j → ⊥)
+FirstRefusal c k = First (Refusal c) k

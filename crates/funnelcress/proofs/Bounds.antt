@@ -7,7 +7,8 @@ use native.Mathlib.Omega.{arith}
 use lib.Dec.{leb, ltb}
 use borrow.Author.Tests.{leb-false}
 use Rattle.faststack.specs.Stack.{hasRoom, topOf}
-use Rattle.walk.specs.Step.{Answer, tested, position, done, refused, sizesFit}
+use Rattle.causes.specs.Sizes.{sizesFit}
+use Rattle.walk.specs.Step.{Answer, tested, position, done, refused}
 use Rattle.walk.specs.Words.{Group, unpacked, restOf, firstPosition, firstChild, hasChild, waitingDepth}
 use Rattle.walk.specs.WordStep.{WalkerWords, SteppedWords, NodeWords, tellWords, forgedWords, onlyFirstWords, badChild}
 use Rattle.walk.specs.WordStep.{leaving, pastSkips, reportWords, visitWords, popWords, turnWords, advanceWords, stepWords}

@@ -71,7 +71,7 @@ module _ (ray : List Float) where
 
     -- no float is lent
     pub closest-short : (r : Ray) → length ray ≡ 8 → r ≡ rayIn ray 0 → (number cause k : ℕ) (out : List Float) → length out ≡ 0
-        → cause ≡ entryCause (eqb (length panes % 6) 0) (length bytes) (length indices) r
+        → cause ≡ entryCause (eqb (length panes % 6) 0) (length bytes) (length indices) 0 r
         → k ≡ shortCause cause → number ≡ 0x2_0000_0000 + k → Closes number out out
     unfolding closestBy closestNumber distanceIn closestIn
     closest-short r g e number cause k out z c s i =

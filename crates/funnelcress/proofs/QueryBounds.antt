@@ -1,15 +1,15 @@
 -- Every query's answer fits its number, on any bytes.
-use mathlib.Core.Bool.{Bool, true, false, _&&_, cond}
+use mathlib.Core.Bool.{Bool, true, false, cond}
+use mathlib.Core.Logic.{_⊎_, inl, inr}
 use mathlib.Core.List.{List, [], _∷_}
 use mathlib.Core.Path.{_≡_, refl}
-use Prim.Native.Nat.{ℕ, zero, suc, _+_, _%_, _/_, _≤_, _<_}
+use Prim.Native.Nat.{ℕ, zero, suc, _+_, _/_, _≤_, _<_}
 use native.Mathlib.Omega.{arith}
-use lib.Dec.{eqb, leb, ltb}
+use lib.Dec.{T, eqb, leb, leb→le, ltb}
 use lib.Ieee.{Float}
 use borrow.Author.Tests.{ltb-true}
 use lib.ListN.{length, getD, length-append}
 use Rattle.ray.specs.declared.Ray.{Ray}
-use Rattle.ray.specs.Ray.{acceptedRay}
 use Rattle.record_shape.specs.Record.{nodeCount}
 use Rattle.aabb.specs.Aabb.{acceptedBox, entryDistance}
 use Rattle.walk.specs.Step as S
@@ -20,7 +20,9 @@ use Rattle.walk.proofs.Cases.{cond-elim}
 use Rattle.walk_record.specs.Beam.{Beam, beamOf, beams}
 use Rattle.walk_record.specs.Record.{nodeWordsAt}
 use Rattle.walk_record.specs.Walk.{queryAt, anyHitAt}
-use Rattle.query.specs.Entry.{entryCause}
+use Rattle.causes.specs.Sizes.{recordConditions}
+use Rattle.causes.proofs.Causes.{allNumbers, first-among}
+use Rattle.query.specs.Entry.{entryConditions, entryCause}
 use Rattle.query.proofs.Entry.{entered}
 use Rattle.any_hit.specs.AnyHit as H
 use Rattle.closest.specs.Panes as P
@@ -30,15 +32,13 @@ use Rattle.funnelcress.proofs.Bounds.{Below, query-few}
 
 -- ---- refused on entry: a cause's number, or sizes that fit
 
-entry-most : (fits : Bool) (bytes n : ℕ) (r : Ray) → entryCause fits bytes n r ≤ 11
-unfolding entryCause
-entry-most fits bytes n r = go (fits && eqb (bytes % 80) 0) (leb n 65536 && leb (bytes / 80) 65535) (acceptedRay r)
+entry-most : (fits : Bool) (bytes n : ℕ) (r : Ray) → entryCause fits bytes n 0 r ≤ 11
+unfolding entryConditions recordConditions allNumbers
+entry-most fits bytes n r = go (first-among (λ k. leb k 11) (entryConditions fits bytes n 0 r) tt)
   where
-    go : (a b c : Bool) → elim a [ false ↦ 1 | true ↦ elim b [ false ↦ 2 | true ↦ elim c [ false ↦ 9 | true ↦ 0 ] ] ] ≤ 11
-    go false b c = omega arith
-    go true false c = omega arith
-    go true true false = omega arith
-    go true true true = omega arith
+    go : (entryCause fits bytes n 0 r ≡ 0) ⊎ T (leb (entryCause fits bytes n 0 r) 11) → entryCause fits bytes n 0 r ≤ 11
+    go (inl e) = omega arith
+    go (inr h) = leb→le (entryCause fits bytes n 0 r) 11 h
 
 -- ---- any-hit
 
@@ -72,11 +72,11 @@ walk-fits bytes n b m room =
 
 pub any-hit-fits : (bytes : List ℕ) (n : ℕ) (r : Ray) (room : ℕ) → AnyHitFits (H.anyHitOf bytes n r room)
 unfolding H.anyHitOf AnyHitFits
-any-hit-fits bytes n r room = go (entryCause true (length bytes) n r) refl (entry-most true (length bytes) n r)
+any-hit-fits bytes n r room = go (entryCause true (length bytes) n 0 r) refl (entry-most true (length bytes) n r)
   where
-    go : (c : ℕ) → entryCause true (length bytes) n r ≡ c → c ≤ 11
+    go : (c : ℕ) → entryCause true (length bytes) n 0 r ≡ c → c ≤ 11
         → AnyHitFits (elim c [ suc k ↦ H.refused (suc k) | zero ↦ H.walkOf bytes n (beamOf r) room ])
-    go zero e l = walk-fits bytes n (beamOf r) (entered true (length bytes) n r e .small) room
+    go zero e l = walk-fits bytes n (beamOf r) (entered true (length bytes) n 0 r e .sizes .small) room
     go (suc k) e l = l
 
 -- ---- closest and miss
@@ -111,7 +111,7 @@ module _ {A : Type 0} (F : P.Result A → Type 0) (refuse : ℕ → A) (found : 
     query-fits =
         let o = queryAt bytes beams react none (length indices) (beamOf r) in
         entered-fits (P.paneCause bytes indices panes r) _ (entry-most _ _ _ r) (λ e.
-        let s = entered _ _ _ r e in
+        let s = entered _ _ _ 0 r e .sizes in
         let q = query-few (nodeCount bytes) (nodeWordsAt bytes beams) (length indices) react (λ f x. Small x) (λ f x h. h)
         (λ f p b x l h. reacts p b x (omega (arith, l, s .few)) h) (stepsFor (nodeCount bytes)) (freshWords (beamOf r)) none (omega arith) tt in
         ended-fits (length indices) o (o .ended) (omega (arith, q .0, s .small)) (q .1) (q .2))

@@ -274,7 +274,7 @@ pub extern "C" fn funnelcress_closest(
     let r = packed::ray_at(ray, 0);
     if out.len() == 0 {
         let fits = panes.len() % packed::BOX == 0;
-        let cause = query::entry_cause(fits, record.len(), indices.len(), r);
+        let cause = query::entry_cause(fits, record.len(), indices.len(), 0, r);
         return refusal_number(short_cause(cause));
     }
     closest_number(

@@ -1,80 +1,68 @@
 -- The first cause by the tests that the code makes in turn, and what holds where there is none.
-use mathlib.Core.Path.{_≡_, refl, sym, ap}
-use mathlib.Core.Bool.{Bool, true, false, _&&_}
-use Prim.Native.Nat.{ℕ, _/_, _%_, _≤_, _<_}
+use mathlib.Core.Path.{_≡_, refl, _∙_}
+use mathlib.Core.Bool.{Bool, true, false}
+use mathlib.Core.List.{List, [], _∷_}
+use Prim.Native.Nat.{ℕ, zero, suc}
 use native.Mathlib.Omega.{arith}
-use lib.Dec.{eqb, leb}
-use borrow.Author.Tests.{le-leb, lt-leb, leb-true, eqb-true, eq-eqb, ne-eqb}
+use borrow.Author.Tests.{eq-eqb, ne-eqb}
+use Rattle.causes.specs.Causes.{Condition, _unless_, firstCause, given}
+use Rattle.causes.specs.Sizes.{recordConditions, recordCause}
+use Rattle.causes.proofs.Causes.{first-here, first-later, passed-none, append-first, append-later}
+use Rattle.causes.proofs.Sizes.{Fit, record-passed, none-record}
 use Rattle.ray.specs.declared.Ray.{Ray}
 use Rattle.ray.specs.Ray.{acceptedRay}
-use Rattle.query.specs.Entry.{entryCause}
+use Rattle.query.specs.Entry.{entryConditions, entryCause}
 
--- the cause by five tests
-abbrev by : Bool → Bool → Bool → Bool → Bool → ℕ
-by a b c d x = elim (a && b) [ false ↦ 1 | true ↦ elim (c && d) [ false ↦ 2 | true ↦ elim x [ false ↦ 9 | true ↦ 0 ] ] ]
+module _ (fits : Bool) (bytes n between : ℕ) (r : Ray) where
+  -- behind the sizes
+  abbrev own : List Condition
+  own = given between ∷ 9 unless acceptedRay r ∷ []
 
-module _ (fits : Bool) (bytes n : ℕ) (r : Ray) where
-  pub entry-unfit : fits ≡ false → 1 ≡ entryCause fits bytes n r
-  unfolding entryCause
-  entry-unfit e = sym (ap (λ (a : Bool). by a (eqb (bytes % 80) 0) (leb n 65536) (leb (bytes / 80) 65535) (acceptedRay r)) e)
+  pub entry-unfit : fits ≡ false → entryCause fits bytes n between r ≡ 1
+  unfolding entryConditions
+  entry-unfit e = first-here _ e
 
   module _ (f : fits ≡ true) where
-    pub entry-length : (bytes % 80 ≡ 0 → ⊥) → 1 ≡ entryCause fits bytes n r
-    unfolding entryCause
-    entry-length h = let q = ne-eqb (bytes % 80) 0 h in sym (λ i. by (f i) (q i) (leb n 65536) (leb (bytes / 80) 65535) (acceptedRay r))
+    pub entry-sizes : (recordCause bytes n ≡ 0 → ⊥) → entryCause fits bytes n between r ≡ recordCause bytes n
+    unfolding entryConditions
+    entry-sizes h = first-later 1 _ f ∙ append-first (recordConditions bytes n) own h
 
-    module _ (whole : bytes % 80 ≡ 0) where
-      pub entry-positions : 65536 < n → 2 ≡ entryCause fits bytes n r
-      unfolding entryCause
-      entry-positions h =
-          let q = eq-eqb (bytes % 80) 0 whole in
-          let p = lt-leb n 65536 h in
-          sym (λ i. by (f i) (q i) (p i) (leb (bytes / 80) 65535) (acceptedRay r))
+    module _ (fit : Fit bytes n) where
+      behind : entryCause fits bytes n between r ≡ firstCause own
+      unfolding entryConditions
+      behind = first-later 1 _ f ∙ append-later (recordConditions bytes n) own (record-passed bytes n fit)
 
-      module _ (few : n ≤ 65536) where
-        pub entry-nodes : 65535 < bytes / 80 → 2 ≡ entryCause fits bytes n r
-        unfolding entryCause
-        entry-nodes h =
-            let q = eq-eqb (bytes % 80) 0 whole in
-            let p = le-leb n 65536 few in
-            let m = lt-leb (bytes / 80) 65535 h in
-            sym (λ i. by (f i) (q i) (p i) (m i) (acceptedRay r))
+      pub entry-between : (between ≡ 0 → ⊥) → entryCause fits bytes n between r ≡ between
+      entry-between h = behind ∙ first-here _ (ne-eqb between 0 h)
 
-        module _ (small : bytes / 80 ≤ 65535) where
-          pub entry-ray : acceptedRay r ≡ false → 9 ≡ entryCause fits bytes n r
-          unfolding entryCause
-          entry-ray h =
-              let q = eq-eqb (bytes % 80) 0 whole in
-              let p = le-leb n 65536 few in
-              let m = le-leb (bytes / 80) 65535 small in
-              sym (λ i. by (f i) (q i) (p i) (m i) (h i))
+      pub entry-ray : between ≡ 0 → acceptedRay r ≡ false → entryCause fits bytes n between r ≡ 9
+      entry-ray z h = behind ∙ first-later between _ (eq-eqb between 0 z) ∙ first-here _ h
 
-          pub entry-none : acceptedRay r ≡ true → 0 ≡ entryCause fits bytes n r
-          unfolding entryCause
-          entry-none h =
-              let q = eq-eqb (bytes % 80) 0 whole in
-              let p = le-leb n 65536 few in
-              let m = le-leb (bytes / 80) 65535 small in
-              sym (λ i. by (f i) (q i) (p i) (m i) (h i))
+      pub entry-none : between ≡ 0 → acceptedRay r ≡ true → entryCause fits bytes n between r ≡ 0
+      entry-none z h = behind ∙ passed-none own (eq-eqb between 0 z, (h, tt))
 
 -- what holds of a query that is not refused on entry
-pub record Entered (fits : Bool) (bytes n : ℕ) (r : Ray) : Type 0 where
+pub record Entered (fits : Bool) (bytes n between : ℕ) (r : Ray) : Type 0 where
   pub fit : fits ≡ true
-  pub whole : bytes % 80 ≡ 0
-  pub few : n ≤ 65536
-  pub small : bytes / 80 ≤ 65535
+  pub sizes : Fit bytes n
+  pub none : between ≡ 0
   pub accepted : acceptedRay r ≡ true
 
-pub entered : (fits : Bool) (bytes n : ℕ) (r : Ray) → entryCause fits bytes n r ≡ 0 → Entered fits bytes n r
-unfolding entryCause
-entered fits bytes n r e = go fits refl (eqb (bytes % 80) 0) refl (leb n 65536) refl (leb (bytes / 80) 65535) refl (acceptedRay r) refl e
+pub entered : (fits : Bool) (bytes n between : ℕ) (r : Ray) → entryCause fits bytes n between r ≡ 0 → Entered fits bytes n between r
+entered fits bytes n between r e = lists fits refl
   where
-    go : (a : Bool) → fits ≡ a → (b : Bool) → eqb (bytes % 80) 0 ≡ b → (c : Bool) → leb n 65536 ≡ c → (d : Bool) → leb (bytes / 80) 65535 ≡ d → (x : Bool) → acceptedRay r ≡ x
-        → by a b c d x ≡ 0 → Entered fits bytes n r
-    go false p b q c s d t x u h = absurd (omega (arith, h))
-    go true p false q c s d t x u h = absurd (omega (arith, h))
-    go true p true q false s d t x u h = absurd (omega (arith, h))
-    go true p true q true s false t x u h = absurd (omega (arith, h))
-    go true p true q true s true t false u h = absurd (omega (arith, h))
-    go true p true q true s true t true u h =
-        record { fit = p; whole = eqb-true (bytes % 80) 0 q; few = leb-true n 65536 s; small = leb-true (bytes / 80) 65535 t; accepted = u }
+    ray : fits ≡ true → Fit bytes n → between ≡ 0 → (b : Bool) → acceptedRay r ≡ b → Entered fits bytes n between r
+    ray f s z true h = record { fit = f; sizes = s; none = z; accepted = h }
+    ray f s z false h = absurd (omega (arith, e, entry-ray fits bytes n between r f s z h))
+
+    own : fits ≡ true → Fit bytes n → (k : ℕ) → between ≡ k → Entered fits bytes n between r
+    own f s zero z = ray f s z (acceptedRay r) refl
+    own f s (suc k) z = absurd (omega (arith, e, z, entry-between fits bytes n between r f s (λ h. omega (arith, h, z))))
+
+    sizes : fits ≡ true → (k : ℕ) → recordCause bytes n ≡ k → Entered fits bytes n between r
+    sizes f zero z = own f (none-record bytes n z) between refl
+    sizes f (suc k) z = absurd (omega (arith, e, z, entry-sizes fits bytes n between r f (λ h. omega (arith, h, z))))
+
+    lists : (b : Bool) → fits ≡ b → Entered fits bytes n between r
+    lists true f = sizes f (recordCause bytes n) refl
+    lists false f = absurd (omega (arith, e, entry-unfit fits bytes n between r f))

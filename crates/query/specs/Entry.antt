@@ -1,16 +1,17 @@
--- What refuses a query before its walk begins (01, "Causes of refusal", 1, 2 and 9).
-use mathlib.Core.Bool.{Bool, true, false, _&&_}
-use Prim.Native.Nat.{ℕ, _/_, _%_}
-use lib.Dec.{eqb}
+-- What refuses a query before its walk begins (01, "Causes of refusal").
+use mathlib.Core.Bool.{Bool}
+use mathlib.Core.List.{List, [], _∷_, _++_}
+use Prim.Native.Nat.{ℕ}
+use Rattle.causes.specs.Causes.{Condition, _unless_, firstCause, given}
+use Rattle.causes.specs.Sizes.{recordConditions}
 use Rattle.ray.specs.declared.Ray.{Ray}
 use Rattle.ray.specs.Ray.{acceptedRay}
-use Rattle.walk.specs.Step.{sizesFit}
 
--- The first of causes 1, 2 and 9 for a record of so many bytes and n positions, or 0: whether the lengths fit, those of other lists too, then the
--- sizes, then the ray.
-unfoldable pub entryCause : Bool → (bytes n : ℕ) → Ray → ℕ
-entryCause fits bytes n r =
-    elim (fits && eqb (bytes % 80) 0) [
-      | false ↦ 1
-      | true ↦ elim (sizesFit (bytes / 80) n) [ false ↦ 2 | true ↦ elim (acceptedRay r) [ false ↦ 9 | true ↦ 0 ] ]
-    ]
+-- For a record of so many bytes and n positions: whether other lists have lengths that fit, the record's sizes, then the cause that the query found
+-- among those between 2 and 9, 0 for none, then the ray.
+unfoldable pub entryConditions : Bool → (bytes n between : ℕ) → Ray → List Condition
+unfolding recordConditions
+entryConditions fits bytes n between r = 1 unless fits ∷ recordConditions bytes n ++ given between ∷ 9 unless acceptedRay r ∷ []
+
+abbrev pub entryCause : Bool → (bytes n between : ℕ) → Ray → ℕ
+entryCause fits bytes n between r = firstCause (entryConditions fits bytes n between r)

@@ -1,93 +1,57 @@
 -- The record check's answer, both ways: which answer it is says what holds, and what holds says which answer it is.
 use mathlib.Core.Bool.{Bool, true, false}
-use mathlib.Core.List.{List, [], _++_}
-use mathlib.Core.Logic.{_⊎_, inl, inr, _↔_}
-use mathlib.Core.Path.{_≡_, refl, sym, ap, _∙_, subst}
-use Prim.Native.Nat.{ℕ, zero, suc, _+_, _/_, _%_, _<_, _≤_}
+use mathlib.Core.List.{List, [], _∷_, _++_}
+use mathlib.Core.Logic.{_↔_}
+use mathlib.Core.Path.{_≡_, refl, ap, _∙_, subst}
+use Prim.Native.Nat.{ℕ, zero, suc, _+_, _/_, _<_, _≤_}
 use native.Mathlib.Omega.{arith}
-use lib.Dec.{eqb, leb}
+use lib.Dec.{leb}
 use lib.ListN.{length, replicate, drop}
-use Rattle.lists.proofs.Tells.{Tells, passes, fails, eqb-tells, leb-tells}
+use Rattle.lists.proofs.Tells.{Tells, passes, fails, told, tells-true, tells-false, leb-tells}
+use Rattle.causes.specs.Causes.{Condition, _unless_}
+use Rattle.causes.specs.Sizes.{recordConditions, recordCause}
+use Rattle.causes.proofs.Causes.{first-here, passed-none, sorted, none-passed, append-first, append-later, passed-append, passed-parts}
+use Rattle.causes.proofs.Sizes.{Fit, record-passed, record-fit}
 use Rattle.soundness.proofs.Once.{empty-sound, empty-unsound}
 use Rattle.record_shape.specs.Record.{nodeCount, nodesAt, shapeIn, shapeAt, RuleAt, SoundRecord, DeepestLevel}
 use Rattle.record_shape.specs.Test.{soundNodes, deepestNodes}
-use Rattle.record_shape.specs.Check.{Answer, sound, unsound, refused, causeOf, soundnessOf, checkOf, wordsAfter}
+use Rattle.record_shape.specs.Check.{Answer, sound, unsound, refused, causeOf, soundnessOf, checkOf, wordsAfter, checkConditions}
 use Rattle.record_shape.proofs.Record.{record-tells, record-deepest, deepest-one}
 
--- ---- causes, in rising number
-
--- which cause is the first that holds; 0 for none
-pub data Cause (long n words : ℕ) : ℕ → Type 0 where
-  layout : (long % 80 ≡ 0 → ⊥) → Cause long n words 1
-  many : long % 80 ≡ 0 → (65536 < n) ⊎ (65535 < long / 80) → Cause long n words 2
-  short : long % 80 ≡ 0 → n ≤ 65536 → long / 80 ≤ 65535 → words < long / 80 + n → Cause long n words 4
-  none : long % 80 ≡ 0 → n ≤ 65536 → long / 80 ≤ 65535 → long / 80 + n ≤ words → Cause long n words 0
-
+-- ---- the first cause
 module _ (long n words : ℕ) where
-  pub cause-is : Cause long n words (causeOf long n words)
-  unfolding causeOf
-  cause-is = one (eqb (long % 80) 0) (eqb-tells (long % 80) 0)
-    where
-      four : long % 80 ≡ 0 → n ≤ 65536 → long / 80 ≤ 65535 → (b : Bool) → Tells (long / 80 + n ≤ words) b → Cause long n words (elim b [ false ↦ 4 | true ↦ 0 ])
-      four a c d true (passes h) = none a c d h
-      four a c d false (fails h) = short a c d (omega (arith, h))
+  -- behind the sizes
+  abbrev enough : List Condition
+  enough = 4 unless leb (long / 80 + n) words ∷ []
 
-      nodes : long % 80 ≡ 0 → n ≤ 65536 → (b : Bool) → Tells (long / 80 ≤ 65535) b
-          → Cause long n words (elim b [ false ↦ 2 | true ↦ elim (leb (long / 80 + n) words) [ false ↦ 4 | true ↦ 0 ] ])
-      nodes a c true (passes h) = four a c h (leb (long / 80 + n) words) (leb-tells (long / 80 + n) words)
-      nodes a c false (fails h) = many a (inr (omega (arith, h)))
+  -- causes 1 and 2
+  pub cause-sizes : (recordCause long n ≡ 0 → ⊥) → causeOf long n words ≡ recordCause long n
+  unfolding checkConditions
+  cause-sizes h = append-first (recordConditions long n) enough h
 
-      two : long % 80 ≡ 0 → (b : Bool) → Tells (n ≤ 65536) b
-          → Cause long n words (elim b [ false ↦ 2 | true ↦ elim (leb (long / 80) 65535) [ false ↦ 2 | true ↦ elim (leb (long / 80 + n) words) [ false ↦ 4 | true ↦ 0 ] ] ])
-      two a true (passes h) = nodes a h (leb (long / 80) 65535) (leb-tells (long / 80) 65535)
-      two a false (fails h) = many a (inl (omega (arith, h)))
+  module _ (fit : Fit long n) where
+    pub cause-short : words < long / 80 + n → causeOf long n words ≡ 4
+    unfolding checkConditions
+    cause-short h =
+        append-later (recordConditions long n) enough (record-passed long n fit)
+        ∙ first-here [] (tells-false (leb-tells (long / 80 + n) words) (λ l. omega arith))
 
-      one : (b : Bool) → Tells (long % 80 ≡ 0) b
-          → Cause long n words (elim b [ false ↦ 1 | true ↦ elim (leb n 65536) [ false ↦ 2 | true ↦ elim (leb (long / 80) 65535) [ false ↦ 2 | true ↦ elim (leb (long / 80 + n) words) [ false ↦ 4 | true ↦ 0 ] ] ] ])
-      one true (passes h) = two h (leb n 65536) (leb-tells n 65536)
-      one false (fails h) = layout h
-
-  -- no more than one of them is the first
-  same-cause : (c d : ℕ) → Cause long n words c → Cause long n words d → c ≡ d
-  same-cause c d (layout a) (layout b) = refl
-  same-cause c d (layout a) (many b e) = absurd (a b)
-  same-cause c d (layout a) (short b e f g) = absurd (a b)
-  same-cause c d (layout a) (none b e f g) = absurd (a b)
-  same-cause c d (many a x) (layout b) = absurd (b a)
-  same-cause c d (many a x) (many b e) = refl
-  same-cause c d (many a (inl x)) (short b e f g) = absurd (omega arith)
-  same-cause c d (many a (inr x)) (short b e f g) = absurd (omega arith)
-  same-cause c d (many a (inl x)) (none b e f g) = absurd (omega arith)
-  same-cause c d (many a (inr x)) (none b e f g) = absurd (omega arith)
-  same-cause c d (short a x y z) (layout b) = absurd (b a)
-  same-cause c d (short a x y z) (many b (inl e)) = absurd (omega arith)
-  same-cause c d (short a x y z) (many b (inr e)) = absurd (omega arith)
-  same-cause c d (short a x y z) (short b e f g) = refl
-  same-cause c d (short a x y z) (none b e f g) = absurd (omega arith)
-  same-cause c d (none a x y z) (layout b) = absurd (b a)
-  same-cause c d (none a x y z) (many b (inl e)) = absurd (omega arith)
-  same-cause c d (none a x y z) (many b (inr e)) = absurd (omega arith)
-  same-cause c d (none a x y z) (short b e f g) = absurd (omega arith)
-  same-cause c d (none a x y z) (none b e f g) = refl
-
-  pub cause-one : (c : ℕ) → Cause long n words c → c ≡ causeOf long n words
-  cause-one c h = same-cause c (causeOf long n words) h cause-is
+    pub cause-none : long / 80 + n ≤ words → causeOf long n words ≡ 0
+    unfolding checkConditions
+    cause-none h =
+        passed-none (checkConditions long n words)
+        (passed-append (recordConditions long n) enough (record-passed long n fit) (tells-true (leb-tells (long / 80 + n) words) h, tt))
 
   -- where none holds all sizes fit
   pub record Fits : Type 0 where
-    pub layout : long % 80 ≡ 0
-    pub positions : n ≤ 65536
-    pub nodes : long / 80 ≤ 65535
+    pub sizes : Fit long n
     pub room : long / 80 + n ≤ words
 
   pub fits : causeOf long n words ≡ 0 → Fits
-  fits e = go (causeOf long n words) cause-is e
-    where
-      go : (c : ℕ) → Cause long n words c → c ≡ 0 → Fits
-      go c (layout a) z = absurd (omega arith)
-      go c (many a b) z = absurd (omega arith)
-      go c (short a b d f) z = absurd (omega arith)
-      go c (none a b d f) z = record { layout = a; positions = b; nodes = d; room = f }
+  unfolding checkConditions recordConditions sorted
+  fits e =
+      let p = passed-parts (recordConditions long n) enough (none-passed 0 (checkConditions long n words) tt e) in
+      record { sizes = record-fit long n (p .0); room = told (leb-tells (long / 80 + n) words) (p .1 .0) }
 
 -- ---- answers
 
@@ -177,11 +141,13 @@ pub none-sound : (words : ℕ) → checkOf [] 0 words ≡ sound 0
 unfolding shapeIn
 none-sound words =
     let s : SoundRecord [] 0 × DeepestLevel [] 0 0 = empty-sound (shapeAt [] 0) (RuleAt [] 0) refl refl in
-    check-sound [] 0 words (sym (cause-one 0 0 words 0 (none refl (omega arith) (omega arith) (omega arith)))) (s .0) 0 (s .1)
+    check-sound [] 0 words (cause-none 0 0 words (record { whole = refl; few = omega arith; small = omega arith }) (omega arith)) (s .0) 0 (s .1)
 
 pub none-unsound : (n words : ℕ) → 0 < n → n ≤ 65536 → n ≤ words → checkOf [] n words ≡ unsound
 unfolding shapeIn
-none-unsound n words z l w = check-unsound [] n words (sym (cause-one 0 n words 0 (none refl l (omega arith) (omega arith)))) (empty-unsound (shapeAt [] n) (RuleAt [] n) refl z)
+none-unsound n words z l w =
+    check-unsound [] n words
+    (cause-none 0 n words (record { whole = refl; few = l; small = omega arith }) (omega arith)) (empty-unsound (shapeAt [] n) (RuleAt [] n) refl z)
 
 -- ---- the working words
 

@@ -19,7 +19,9 @@ use Rattle.quantization.specs.Exponent.{extentScale, exponentOf}
 use Rattle.quantization.specs.Ends.{clampedByte, reciprocalOf, onGrid, childMin, childMax}
 use Rattle.bvh2.specs.Tree.{boxOf, leaves, positions, labels}
 use Rattle.bvh2.specs.Words.{linkOf, boxAt, readLink}
-use Rattle.bvh2.specs.FirstCause.{sizesCause, isInside, isPosition, isWhole, eachOnce, isTree, structureCause}
+use Rattle.causes.specs.Causes.{firstCause}
+use Rattle.causes.specs.Sizes.{recordConditions}
+use Rattle.bvh2.specs.FirstCause.{sizeConditions, isInside, isPosition, isWhole, eachOnce, isTree, structureConditions}
 use Rattle.cost.specs.Table.{bestOf, decision, table}
 use Rattle.order.specs.Lists.{keep, some}
 use Rattle.order.specs.Assign.{partner, rowPairs, pairs, openPairs, leastPair, assigned}
@@ -32,12 +34,12 @@ use Rattle.rule.specs.Rule.{pointOk, exponentOk, headOk, childrenOk, leafTop, s
 use Rattle.slot.specs.Slot.{nearLimit, adjustedInverse, adjustedOrigin, planeAt, nearOf, farOf, passes}
 use Rattle.slot.specs.Mask.{hitBits, slotHit, hitMask}
 use Rattle.record.specs.Record.{metas, innerMask, gridBox, gridBoxes, nodeOf, joined, recordBytes}
-use Rattle.tables.specs.Tables.{recordSize, hasRoom, prepareCause}
-use Rattle.bvh2_to_cwbvh.specs.Conversion.{recordOf, nodesOf, levelOf, positionsOf, listOf, levelCause, conversionCause}
+use Rattle.tables.specs.Tables.{recordSize, hasRoom, prepareConditions}
+use Rattle.bvh2_to_cwbvh.specs.Conversion.{recordOf, nodesOf, levelOf, positionsOf, listOf, conversionConditions}
 use Rattle.walk.specs.WordStep.{stepWords, advanceWords, reportWords, visitWords, popWords}
 use Rattle.walk.specs.WordQueries.{queryWords}
 use Rattle.walk_record.specs.Walk.{queryAt}
-use Rattle.query.specs.Entry.{entryCause}
+use Rattle.query.specs.Entry.{entryConditions}
 use Rattle.closest.specs.Panes.{paneMet, paneOf, hitAt, noHit, refusedClosest, missed, blocked, refusedMiss}
 use Rattle.closest.specs.Panes.{closestFound, missFound, walked, entered, closestWalk, missWalk, closestOf, missOf}
 use Rattle.text.specs.Text.{chars, digits, decimal, hexDigit, hex}
@@ -60,7 +62,8 @@ closest :
     × (closestOf bytesT indicesT (replicate 6 (number 0) ++ (number 1 ∷ replicate 5 (number 0))) ahead ≡ closestIs (refusedClosest 6) 0)
     × (closestOf bytesT indicesT (replicate 9 (number 0)) ahead ≡ closestIs (refusedClosest 1) 0)
     × (closestOf bytesT indicesT panesT (rayAlong (number 0) nan) ≡ closestIs (refusedClosest 9) 0)
-unfolding closestOf closestWalk closestFound walked entered entryCause paneOf paneMet counts boxIn vecIn queryAt queryWords stepWords advanceWords reportWords
+unfolding closestOf closestWalk closestFound walked entered entryConditions recordConditions firstCause paneOf paneMet counts boxIn vecIn queryAt queryWords
+    stepWords advanceWords reportWords
     visitWords popWords rayOf octantOf hitMask slotHit hitBits orOf passes nearOf farOf maxOf minOf planeAt adjustedInverse adjustedOrigin nearLimit
     scaleOf nodeFrom leAt sumOf slotFrom slotOffset nodeRule headOk childrenOk slotsOk slotOk leafTop pointOk exponentOk inBounds onesBelow field
     childIndex topOf pushed leadingZeros safeInverse boundedVec acceptedRay acceptedBox inOrder entryDistance boxNear boxFar slabNear slabFar
@@ -72,7 +75,8 @@ miss :
     × (missOf bytesT indicesT panesT (rayAlong (number 0) (number 1)) ≡ missIs missed 1)
     × (missOf [] [] [] ahead ≡ missIs missed 0)
     × (missOf bytesT (0 ∷ 2 ∷ []) panesT ahead ≡ missIs (refusedMiss 10) 0)
-unfolding missOf missWalk missFound walked entered entryCause paneOf paneMet counts boxIn vecIn queryAt queryWords stepWords advanceWords reportWords
+unfolding missOf missWalk missFound walked entered entryConditions recordConditions firstCause paneOf paneMet counts boxIn vecIn queryAt queryWords stepWords
+    advanceWords reportWords
     visitWords popWords rayOf octantOf hitMask slotHit hitBits orOf passes nearOf farOf maxOf minOf planeAt adjustedInverse adjustedOrigin nearLimit
     scaleOf nodeFrom leAt sumOf slotFrom slotOffset nodeRule headOk childrenOk slotsOk slotOk leafTop pointOk exponentOk inBounds onesBelow field
     childIndex topOf pushed leadingZeros safeInverse boundedVec acceptedRay acceptedBox inOrder entryDistance boxNear boxFar slabNear slabFar
@@ -80,8 +84,9 @@ unfolding missOf missWalk missFound walked entered entryCause paneOf paneMet cou
 miss = (refl, refl, refl, refl)
 
 printed : (showText (inputT 0) ≡ textT) × (showText (inputT 1) ≡ orderedTextT)
-unfolding showText leavesText orderText treeText causeText inputWords leAt sumOf conversionCause prepareCause sizesCause structureCause hasRoom
-    recordSize levelCause levelOf recordOf nodesOf positionsOf listOf linkOf boxAt readLink isInside isPosition isWhole eachOnce isTree allBelow
+unfolding showText leavesText orderText treeText causeText inputWords leAt sumOf conversionConditions firstCause prepareConditions sizeConditions
+    structureConditions hasRoom
+    recordSize levelOf recordOf nodesOf positionsOf listOf linkOf boxAt readLink isInside isPosition isWhole eachOnce isTree allBelow
     same count labels positions boxOf leaves inBounds boundedVec inOrder acceptedBox halfArea centerOf bestOf decision table order.inOrder
     order.slotsOf order.signOf order.directionOf order.dotOf order.directionCost order.costTable rowPairs pairs partner openPairs leastPair assigned
     keep some slotsFrom childrenOf wideOf recordBytes joined nodeAt nodeOf gridBox gridBoxes metas innerMask nodeBytes headBytes putSlots putSlot
@@ -96,8 +101,9 @@ printed-else :
     × (showText (bytesOf (0 ∷ 3 ∷ 2 ∷ [])) ≡ chars "refused 3\n")
     × (showText (bytesOf (0 ∷ 4 ∷ 0 ∷ [])) ≡ chars "refused 3\n")
     × (showText (bytesOf (0 ∷ 3 ∷ 0 ∷ [])) ≡ chars "indices\n")
-unfolding showText leavesText orderText treeText causeText inputWords leAt sumOf conversionCause prepareCause sizesCause structureCause hasRoom
-    recordSize levelCause levelOf recordOf nodesOf positionsOf listOf recordText nodeLines indicesLine spaced numbered chars decimal digits
+unfolding showText leavesText orderText treeText causeText inputWords leAt sumOf conversionConditions firstCause prepareConditions sizeConditions
+    structureConditions hasRoom
+    recordSize levelOf recordOf nodesOf positionsOf listOf recordText nodeLines indicesLine spaced numbered chars decimal digits
 printed-else = (refl, refl, refl, refl, refl, refl)
 
 pub further : Further

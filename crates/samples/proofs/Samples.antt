@@ -23,7 +23,9 @@ use Rattle.quantization.specs.Exponent.{extentScale, exponentOf}
 use Rattle.quantization.specs.Ends.{clampedByte, reciprocalOf, onGrid, childMin, childMax}
 use Rattle.bvh2.specs.Tree.{boxOf, positions, leaves, labels}
 use Rattle.bvh2.specs.Words.{linkOf, boxAt, readLink}
-use Rattle.bvh2.specs.FirstCause.{sizesCause, isInside, isPosition, isWhole, eachOnce, isTree, structureCause}
+use Rattle.causes.specs.Causes.{firstCause}
+use Rattle.causes.specs.Sizes.{recordConditions}
+use Rattle.bvh2.specs.FirstCause.{sizeConditions, isInside, isPosition, isWhole, eachOnce, isTree, structureConditions}
 use Rattle.cost.specs.Table.{bestOf, decision, table}
 use Rattle.order.specs.Lists.{keep, some}
 use Rattle.order.specs.Assign.{rowPairs, pairs, partner, openPairs, leastPair, assigned}
@@ -37,15 +39,15 @@ use Rattle.slot.specs.Mask.{hitBits, slotHit, hitMask}
 use Rattle.walk.specs.WordStep.{stepWords, advanceWords, reportWords, visitWords, popWords}
 use Rattle.walk.specs.WordQueries.{queryWords}
 use Rattle.walk_record.specs.Walk.{queryAt, anyHitAt}
-use Rattle.query.specs.Entry.{entryCause}
+use Rattle.query.specs.Entry.{entryConditions}
 use Rattle.closest.specs.Panes.{paneMet, paneOf, hitAt, noHit, closestFound, closestWalk, closestOf}
 use Rattle.closest.specs.Panes as panes
 use Rattle.any_hit.specs.AnyHit.{listed, fitted, walked, walkOf, anyHitOf, listFor, listAfter}
 use Rattle.wide.specs.Shape.{nodeAt}
 use Rattle.record.specs.Record.{metas, innerMask, gridBox, gridBoxes, nodeOf, joined, recordBytes}
-use Rattle.tables.specs.Tables.{recordSize, hasRoom, prepareCause}
+use Rattle.tables.specs.Tables.{recordSize, hasRoom, prepareConditions}
 use Rattle.bvh2_to_cwbvh.specs.Conversion.{converted, refused, recordOf, nodesOf, levelOf, positionsOf, listOf}
-use Rattle.bvh2_to_cwbvh.specs.Conversion.{levelCause, conversionCause, answerFor, conversionOf}
+use Rattle.bvh2_to_cwbvh.specs.Conversion.{conversionConditions, answerFor, conversionOf}
 use Rattle.samples.specs.TreeT.{number, wordsT, indicesT, panesT, bytesT}
 use Rattle.samples.specs.Samples.{nextAbove, extentByte, convert, ahead, beside, rootWord, rootCost, Samples}
 
@@ -71,23 +73,27 @@ unfolding recordOf linkOf boxAt readLink boxOf positions table decision bestOf l
 ordered-T = refl
 
 nothing : convert [] [] 3 ≡ converted 0 0
-unfolding convert conversionOf conversionCause levelCause answerFor levelOf nodesOf prepareCause hasRoom recordSize sizesCause structureCause
+unfolding convert conversionOf conversionConditions answerFor levelOf nodesOf firstCause prepareConditions hasRoom recordSize sizeConditions
+    structureConditions
     isInside isPosition isWhole eachOnce isTree same count labels allBelow inBounds boundedVec acceptedBox aabb.inOrder le
 nothing = refl
 
 limit-3 : convert wordsT indicesT 3 ≡ converted 1 0
-unfolding convert conversionOf conversionCause levelCause answerFor levelOf nodesOf prepareCause hasRoom recordSize sizesCause structureCause
+unfolding convert conversionOf conversionConditions answerFor levelOf nodesOf firstCause prepareConditions hasRoom recordSize sizeConditions
+    structureConditions
     isInside isPosition isWhole eachOnce isTree same count labels allBelow inBounds boundedVec acceptedBox aabb.inOrder le linkOf boxAt readLink
     boxOf positions table decision bestOf leaves halfArea wideOf slotsFrom childrenOf slotsOf inOrder partner ofBits ofInt add sub mul lt
 limit-3 = refl
 
 limit-4 : convert wordsT indicesT 4 ≡ refused 3
-unfolding convert conversionOf conversionCause levelCause answerFor levelOf nodesOf prepareCause hasRoom recordSize sizesCause structureCause
+unfolding convert conversionOf conversionConditions answerFor levelOf nodesOf firstCause prepareConditions hasRoom recordSize sizeConditions
+    structureConditions
     isInside isPosition isWhole eachOnce isTree same count labels allBelow inBounds boundedVec acceptedBox aabb.inOrder le
 limit-4 = refl
 
 limit-4-nothing : convert [] [] 4 ≡ refused 3
-unfolding convert conversionOf conversionCause levelCause answerFor levelOf nodesOf prepareCause hasRoom recordSize sizesCause structureCause
+unfolding convert conversionOf conversionConditions answerFor levelOf nodesOf firstCause prepareConditions hasRoom recordSize sizeConditions
+    structureConditions
     isInside isPosition isWhole eachOnce isTree same count labels allBelow inBounds boundedVec acceptedBox aabb.inOrder le
 limit-4-nothing = refl
 
@@ -116,7 +122,8 @@ any-hits :
     × (listAfter bytesT 2 ahead (7 ∷ 7 ∷ 7 ∷ []) ≡ 1 ∷ 0 ∷ 7 ∷ [])
     × (anyHitOf bytesT 2 beside 2 ≡ listed 0 1)
     × (anyHitOf [] 0 ahead 0 ≡ listed 0 0)
-unfolding anyHitOf listAfter listFor splice entryCause walkOf walked fitted anyHitAt queryAt queryWords stepWords advanceWords reportWords
+unfolding anyHitOf listAfter listFor splice entryConditions recordConditions firstCause walkOf walked fitted anyHitAt queryAt queryWords stepWords
+    advanceWords reportWords
     visitWords popWords rayOf octantOf hitMask slotHit hitBits orOf passes nearOf farOf maxOf minOf planeAt adjustedInverse adjustedOrigin nearLimit
     scaleOf nodeFrom leAt sumOf slotFrom slotOffset nodeRule headOk childrenOk slotsOk slotOk leafTop pointOk exponentOk inBounds onesBelow field
     childIndex topOf pushed leadingZeros safeInverse boundedVec acceptedRay round ofBits ofInt add sub mul div lt le eq isNan
@@ -126,7 +133,8 @@ closest :
     (closestOf bytesT indicesT panesT ahead ≡ record { answer = hitAt 0 (number 1); tests = 1 })
     × (closestOf bytesT indicesT panesT beside ≡ record { answer = noHit; tests = 1 })
     × (closestOf [] [] [] ahead ≡ record { answer = noHit; tests = 0 })
-unfolding closestOf closestWalk closestFound panes.walked panes.entered entryCause paneOf paneMet counts boxIn vecIn queryAt queryWords stepWords advanceWords
+unfolding closestOf closestWalk closestFound panes.walked panes.entered entryConditions recordConditions firstCause paneOf paneMet counts boxIn vecIn queryAt
+    queryWords stepWords advanceWords
     reportWords visitWords popWords rayOf octantOf hitMask slotHit hitBits orOf passes nearOf farOf maxOf minOf planeAt adjustedInverse
     adjustedOrigin nearLimit scaleOf nodeFrom leAt sumOf slotFrom slotOffset nodeRule headOk childrenOk slotsOk slotOk leafTop pointOk exponentOk
     inBounds onesBelow field childIndex topOf pushed leadingZeros safeInverse boundedVec acceptedRay acceptedBox aabb.inOrder aabb.entryDistance

@@ -1,7 +1,7 @@
 -- The conversion of a tree with room to spare: its cause of refusal does not depend on the lent slices, and what it writes has the sizes of the tree.
 use mathlib.Core.Path.{_≡_, sym, ap, _∙_}
-use mathlib.Core.Bool.{Bool, true, false}
-use mathlib.Core.List.{List}
+use mathlib.Core.Bool.{Bool, true}
+use mathlib.Core.List.{List, [], _∷_, _++_}
 use Prim.Native.Nat.{ℕ, zero, suc, _+_, _*_, _≤_, _<_}
 use native.Mathlib.Omega.{arith}
 use lib.Dec.{leb}
@@ -9,14 +9,15 @@ use lib.Ieee.{Float}
 use lib.ListN.{length}
 use borrow.Author.Tests.{le-leb}
 use Rattle.lists.specs.Splice.{splice}
+use Rattle.causes.specs.Causes.{_unless_, firstCause}
 use Rattle.bvh2.specs.Causes.{Accepted}
-use Rattle.bvh2.specs.FirstCause.{sizesCause, structureCause}
+use Rattle.bvh2.specs.FirstCause.{sizeConditions, structureConditions}
 use Rattle.bvh2.proofs.Decoded.{accepted-decoded}
 use Rattle.wide_tree.proofs.Ordered.{node-count}
-use Rattle.tables.specs.Tables.{Prepared, tableSize, recordSize, hasRoom, prepareCause}
+use Rattle.tables.specs.Tables.{tableSize, recordSize, hasRoom, prepareConditions}
 use Rattle.tables.proofs.Room.{room-list}
 use Rattle.tables.proofs.Prepared.{prepared-none}
-use Rattle.bvh2_to_cwbvh.specs.Conversion.{recordOf, nodesOf, listOf, levelCause, conversionCause, conversionOf}
+use Rattle.bvh2_to_cwbvh.specs.Conversion.{recordOf, nodesOf, levelOf, listOf, conversionConditions, conversionCause, conversionOf}
 use Rattle.bvh2_to_cwbvh.specs.declared.Conversion.{Conversion}
 use Rattle.bvh2_to_cwbvh.specs.declared.Conversion.the-variants.{Converted, Refused}
 use Rattle.bvh2_to_cwbvh.specs.Answer.{answerOf}
@@ -34,14 +35,14 @@ has-room n d c b l h g k m = sym (room-list n d c b l h g k) ∙ le-leb n l m
 module _ (ws : List ℕ) (n limit : ℕ) (ordered : Bool) where
   -- longer slices change nothing
   roomy : (d c b l : ℕ) → tableSize n ≤ d → tableSize n ≤ c → recordSize n ≤ b → n ≤ l → conversionCause ws n limit ordered d c b l ≡ roomyCause ws n limit ordered
-  unfolding conversionCause prepareCause
+  unfolding conversionConditions prepareConditions
   roomy d c b l h g k m = ap by (has-room n d c b l h g k m ∙ sym (has-room n (tableSize n) (tableSize n) (recordSize n) n (omega arith) (omega arith) (omega arith) (omega arith)))
     where
-      first : Bool → ℕ
-      first q = elim (sizesCause (length ws) n) [ suc k ↦ suc k | zero ↦ elim (leb limit 3) [ false ↦ 3 | true ↦ elim q [ false ↦ 4 | true ↦ structureCause ws n ] ] ]
-
       by : Bool → ℕ
-      by q = elim (first q) [ zero ↦ levelCause ws n limit ordered | suc k ↦ suc k ]
+      by q =
+          firstCause
+          (sizeConditions (length ws) n ++ 3 unless leb limit 3 ∷ 4 unless q ∷ structureConditions ws n
+          ++ 8 unless leb (levelOf ws n limit ordered) 31 ∷ [])
 
 -- the record bytes of up to 256 leaves
 size-most : (n : ℕ) → n ≤ mostLeaves → recordSize n ≤ 80 * 255

@@ -1,91 +1,90 @@
 -- The first cause by the tests that the code makes in turn, and the working slices for it.
 use mathlib.Core.Path.{_≡_, refl, sym, ap, _∙_}
 use mathlib.Core.Bool.{Bool, true, false}
-use mathlib.Core.List.{List}
+use mathlib.Core.List.{List, _∷_}
 use mathlib.Core.Logic.{_⊎_, inl, inr}
-use Prim.Native.Nat.{ℕ, zero, suc, _*_, _≤_, _<_}
+use Prim.Native.Nat.{ℕ, zero, suc, _≤_, _<_}
 use native.Mathlib.Omega.{arith}
-use lib.Dec.{eqb, leb}
+use lib.Dec.{T, leb, leb→le}
 use lib.ListN.{length}
 use borrow.Author.Tests.{le-leb, lt-leb}
+use Rattle.causes.specs.Causes.{Condition, _unless_, firstCause}
+use Rattle.causes.proofs.Causes.{first-here, first-later, Passed, sorted, none-passed, append-first, append-later, allNumbers, first-among}
 use Rattle.bvh2.specs.Tree.{Tree}
-use Rattle.bvh2.specs.Words.{nodeCount, treeOf}
-use Rattle.bvh2.specs.FirstCause.{sizesCause, structureCause, linksInside, boxesAccepted, isTree}
-use Rattle.tables.specs.Tables.{tableSize, hasRoom, prepareCause, cleared, tabled, workAfter}
+use Rattle.bvh2.specs.FirstCause.{sizeConditions, structureConditions, sizesCause, structureCause}
+use Rattle.bvh2.proofs.First.{sizes-passed, sizes-none}
+use Rattle.tables.specs.Tables.{tableSize, hasRoom, prepareConditions, prepareCause, cleared, tabled, workAfter}
 
 -- ---- the range of each part
 pub sizes-most : (w n : ℕ) → sizesCause w n ≤ 2
-unfolding sizesCause
-sizes-most w n = go (eqb w (nodeCount n * 7)) (leb n 65536)
+unfolding sizeConditions allNumbers
+sizes-most w n = go (first-among (λ k. leb k 2) (sizeConditions w n) tt)
   where
-    go : (a b : Bool) → elim a as (λ (x : Bool). ℕ) [ false ↦ 1 | true ↦ elim b as (λ (x : Bool). ℕ) [ false ↦ 2 | true ↦ 0 ] ] ≤ 2
-    go false b = omega arith
-    go true false = omega arith
-    go true true = omega arith
+    go : (sizesCause w n ≡ 0) ⊎ T (leb (sizesCause w n) 2) → sizesCause w n ≤ 2
+    go (inl e) = omega arith
+    go (inr h) = leb→le (sizesCause w n) 2 h
 
 pub structure-range : (ws : List ℕ) (n : ℕ) → (structureCause ws n ≡ 0) ⊎ (5 ≤ structureCause ws n)
-unfolding structureCause
-structure-range ws zero = inl refl
-structure-range ws (suc n) = go (linksInside ws (suc n)) (boxesAccepted ws (suc n)) (isTree (suc n) ws (treeOf ws))
+unfolding structureConditions allNumbers
+structure-range ws n = pick (first-among (leb 5) (structureConditions ws n) (numbers n))
   where
-    pick : Bool → Bool → Bool → ℕ
-    pick a b c = elim a [ false ↦ 5 | true ↦ elim b [ false ↦ 6 | true ↦ elim c [ false ↦ 7 | true ↦ 0 ] ] ]
+    numbers : (n : ℕ) → T (allNumbers (leb 5) (structureConditions ws n))
+    numbers zero = tt
+    numbers (suc n) = tt
 
-    go : (a b c : Bool) → (pick a b c ≡ 0) ⊎ (5 ≤ pick a b c)
-    go false b c = inr (omega arith)
-    go true false c = inr (omega arith)
-    go true true false = inr (omega arith)
-    go true true true = inl refl
+    pick : (structureCause ws n ≡ 0) ⊎ T (leb 5 (structureCause ws n)) → (structureCause ws n ≡ 0) ⊎ (5 ≤ structureCause ws n)
+    pick (inl e) = inl e
+    pick (inr h) = inr (leb→le 5 (structureCause ws n) h)
 
 -- ---- the first cause
+prepare-sorted : (ws : List ℕ) (n limit d c b l : ℕ) → T (sorted 0 (prepareConditions ws n limit d c b l))
+unfolding prepareConditions sizeConditions structureConditions sorted
+prepare-sorted ws zero limit d c b l = tt
+prepare-sorted ws (suc n) limit d c b l = tt
+
 module _ (ws : List ℕ) (n limit d c b l : ℕ) where
-  abbrev by : ℕ → Bool → Bool → ℕ
-  by k p q = elim k [ suc j ↦ suc j | zero ↦ elim p [ false ↦ 3 | true ↦ elim q [ false ↦ 4 | true ↦ structureCause ws n ] ] ]
+  -- behind the sizes
+  abbrev pub rest : List Condition
+  rest = 3 unless leb limit 3 ∷ 4 unless hasRoom n d c b l ∷ structureConditions ws n
 
   pub cause-size : (k : ℕ) → k ≡ sizesCause (length ws) n → (k ≡ 0 → ⊥) → k ≡ prepareCause ws n limit d c b l
-  unfolding prepareCause
-  cause-size k e h = pick k h ∙ ap (λ (j : ℕ). by j (leb limit 3) (hasRoom n d c b l)) e
-    where
-      pick : (k : ℕ) → (k ≡ 0 → ⊥) → k ≡ by k (leb limit 3) (hasRoom n d c b l)
-      pick zero h = absurd (h refl)
-      pick (suc k) h = refl
+  unfolding prepareConditions
+  cause-size k e h = e ∙ sym (append-first (sizeConditions (length ws) n) rest (λ z. h (e ∙ z)))
 
   module _ (size : sizesCause (length ws) n ≡ 0) where
+    behind : prepareCause ws n limit d c b l ≡ firstCause rest
+    unfolding prepareConditions
+    behind = append-later (sizeConditions (length ws) n) rest (sizes-passed ws n (sizes-none ws n .0 size))
+
     pub cause-limit : 3 < limit → 3 ≡ prepareCause ws n limit d c b l
-    unfolding prepareCause
-    cause-limit h = sym (ap (λ (j : ℕ). by j (leb limit 3) (hasRoom n d c b l)) size ∙ ap (λ (p : Bool). by 0 p (hasRoom n d c b l)) (lt-leb limit 3 h))
+    cause-limit h = sym (behind ∙ first-here _ (lt-leb limit 3 h))
 
     pub cause-room : limit ≤ 3 → hasRoom n d c b l ≡ false → 4 ≡ prepareCause ws n limit d c b l
-    unfolding prepareCause
-    cause-room h r =
-        sym (ap (λ (j : ℕ). by j (leb limit 3) (hasRoom n d c b l)) size ∙ ap (λ (p : Bool). by 0 p (hasRoom n d c b l)) (le-leb limit 3 h) ∙ ap (by 0 true) r)
+    cause-room h r = sym (behind ∙ first-later 3 _ (le-leb limit 3 h) ∙ first-here _ r)
 
     pub cause-structure : limit ≤ 3 → hasRoom n d c b l ≡ true → structureCause ws n ≡ prepareCause ws n limit d c b l
-    unfolding prepareCause
-    cause-structure h r =
-        sym (ap (λ (j : ℕ). by j (leb limit 3) (hasRoom n d c b l)) size ∙ ap (λ (p : Bool). by 0 p (hasRoom n d c b l)) (le-leb limit 3 h) ∙ ap (by 0 true) r)
+    cause-structure h r = sym (behind ∙ first-later 3 _ (le-leb limit 3 h) ∙ first-later 4 _ r)
+
+  -- all tests pass where there is none
+  pub prepare-passed : prepareCause ws n limit d c b l ≡ 0 → Passed (prepareConditions ws n limit d c b l)
+  prepare-passed e = none-passed 0 (prepareConditions ws n limit d c b l) (prepare-sorted ws n limit d c b l) e
 
 -- ---- the working slices
 module _ {A : Type 0} (z : A) (g : Tree ℕ → ℕ → A) (ws : List ℕ) where
+  abbrev by : ℕ → List A → Bool → List A
+  by n s b = elim b [ true ↦ s | false ↦ cleared z (tableSize (suc n)) s ]
+
   pub work-kept : (n k : ℕ) (s : List A) → 0 < k → k ≤ 4 → s ≡ workAfter z g ws n k s
   unfolding workAfter
   work-kept zero k s p q = refl
   work-kept (suc n) zero s p q = absurd (omega arith)
-  work-kept (suc n) (suc zero) s p q = refl
-  work-kept (suc n) (suc (suc zero)) s p q = refl
-  work-kept (suc n) (suc (suc (suc zero))) s p q = refl
-  work-kept (suc n) (suc (suc (suc (suc zero)))) s p q = refl
-  work-kept (suc n) (suc (suc (suc (suc (suc k))))) s p q = absurd (omega arith)
+  work-kept (suc n) (suc k) s p q = sym (ap (by n s) (le-leb (suc k) 4 q))
 
   pub work-cleared : (n k : ℕ) (s : List A) → 5 ≤ k → workAfter z g ws n k s ≡ cleared z (tableSize n) s
   unfolding workAfter
   work-cleared zero k s p = refl
   work-cleared (suc n) zero s p = absurd (omega arith)
-  work-cleared (suc n) (suc zero) s p = absurd (omega arith)
-  work-cleared (suc n) (suc (suc zero)) s p = absurd (omega arith)
-  work-cleared (suc n) (suc (suc (suc zero))) s p = absurd (omega arith)
-  work-cleared (suc n) (suc (suc (suc (suc zero)))) s p = absurd (omega arith)
-  work-cleared (suc n) (suc (suc (suc (suc (suc k))))) s p = refl
+  work-cleared (suc n) (suc k) s p = ap (by n s) (lt-leb (suc k) 4 p)
 
   pub work-none : (n k : ℕ) (s : List A) → n ≡ 0 → s ≡ workAfter z g ws n k s
   unfolding workAfter
@@ -97,15 +96,11 @@ module _ {A : Type 0} (z : A) (g : Tree ℕ → ℕ → A) (ws : List ℕ) where
   work-tabled zero k s u p r e = absurd (omega arith)
   work-tabled (suc n) zero s u p r e = e
   work-tabled (suc n) (suc k) s u p (inl r) e = absurd (omega arith)
-  work-tabled (suc n) (suc zero) s u p (inr r) e = absurd (omega arith)
-  work-tabled (suc n) (suc (suc zero)) s u p (inr r) e = absurd (omega arith)
-  work-tabled (suc n) (suc (suc (suc zero))) s u p (inr r) e = absurd (omega arith)
-  work-tabled (suc n) (suc (suc (suc (suc zero)))) s u p (inr r) e = absurd (omega arith)
-  work-tabled (suc n) (suc (suc (suc (suc (suc k))))) s u p (inr r) e = e
+  work-tabled (suc n) (suc k) s u p (inr r) e = e ∙ sym (work-cleared (suc n) (suc k) s r)
 
 -- no leaf, no cause of structure
 pub nothing : (ws : List ℕ) (n : ℕ) → n ≡ 0 → 0 ≡ structureCause ws n
-unfolding structureCause
+unfolding structureConditions firstCause
 nothing ws zero e = refl
 nothing ws (suc n) e = absurd (omega arith)
 

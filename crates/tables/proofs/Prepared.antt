@@ -1,43 +1,44 @@
 -- What holds where none of causes 1 to 7 does: the tree is accepted, there is room, and the decision words are the tree's.
-use mathlib.Core.Path.{_≡_, refl, sym, subst, ap, _∙_}
-use mathlib.Core.Bool.{Bool, true, false}
+use mathlib.Core.Path.{_≡_, sym, subst, ap, _∙_}
 use mathlib.Core.List.{List}
 use Prim.Native.Nat.{ℕ, zero, suc, _≤_, _<_}
 use native.Mathlib.Omega.{arith}
-use lib.Dec.{leb, T, leb→le}
 use lib.ListN.{length}
-use borrow.Author.Tests.{le-leb}
+use borrow.Author.Tests.{le-leb, leb-true}
+use Rattle.causes.proofs.Causes.{Passed, passed-none, passed-parts}
 use Rattle.bvh2.specs.Tree.{Tree}
 use Rattle.bvh2.specs.Words.{nodeCount, treeOf}
 use Rattle.bvh2.specs.Decoded.{Decoded}
-use Rattle.bvh2.specs.FirstCause.{sizesCause, structureCause}
-use Rattle.bvh2.proofs.First.{sizes-none, structure-none, accepted-sized}
+use Rattle.bvh2.specs.FirstCause.{sizeConditions, structureConditions}
+use Rattle.bvh2.proofs.First.{sizes-fit, sizes-none, structure-none, accepted-sized}
 use Rattle.bvh2.proofs.Subtree.{root}
 use Rattle.cost.specs.Rows.{fill, Holds}
 use Rattle.cost.proofs.Fill.{inside, length-fill}
-use Rattle.tables.specs.Tables.{Prepared, tableSize, hasRoom, prepareCause, cleared, tabled, workAfter}
+use Rattle.tables.specs.Tables.{Prepared, tableSize, prepareConditions, prepareCause, cleared, tabled, workAfter}
 use Rattle.tables.proofs.Cleared.{cleared-length}
 use Rattle.tables.proofs.Room.{room-parts, room-list}
-use Rattle.tables.proofs.Causes.{cause-structure}
+use Rattle.tables.proofs.Causes.{rest, cause-structure, prepare-passed}
 
 -- ---- none of causes 1 to 7
 module _ (ws : List ℕ) (n limit d c b l : ℕ) where
-  abbrev by : ℕ → Bool → Bool → ℕ
-  by k p q = elim k [ suc j ↦ suc j | zero ↦ elim p [ false ↦ 3 | true ↦ elim q [ false ↦ 4 | true ↦ structureCause ws n ] ] ]
+  -- from the tests
+  pub passed-prepared : Passed (prepareConditions ws n limit d c b l) → Prepared ws n limit d c b l
+  unfolding prepareConditions
+  passed-prepared p =
+      let q = passed-parts (sizeConditions (length ws) n) (rest ws n limit d c b l) p in
+      let s = sizes-fit ws n (q .0) in
+      let r = room-parts n d c b l (q .1 .1 .0) in
+      record {
+        accepted = structure-none ws n s .0 (passed-none (structureConditions ws n) (q .1 .1 .1));
+        small = leb-true limit 3 (q .1 .0);
+        words = r .0;
+        costs = r .1;
+        bytes = r .2;
+        list = r .3;
+      }
 
   pub prepared : prepareCause ws n limit d c b l ≡ 0 → Prepared ws n limit d c b l
-  unfolding prepareCause
-  prepared e = go (sizesCause (length ws) n) refl (leb limit 3) refl (hasRoom n d c b l) refl e
-    where
-      go : (k : ℕ) → sizesCause (length ws) n ≡ k → (p : Bool) → leb limit 3 ≡ p → (q : Bool) → hasRoom n d c b l ≡ q → by k p q ≡ 0
-          → Prepared ws n limit d c b l
-      go (suc k) x p y q w e = absurd (omega (arith, e))
-      go zero x false y q w e = absurd (omega (arith, e))
-      go zero x true y false w e = absurd (omega (arith, e))
-      go zero x true y true w e =
-          let s = sizes-none ws n .0 x in
-          let r = room-parts n d c b l w in
-          record { accepted = structure-none ws n s .0 e; small = leb→le limit 3 (subst T (sym y) tt); words = r .0; costs = r .1; bytes = r .2; list = r .3 }
+  prepared e = passed-prepared (prepare-passed ws n limit d c b l e)
 
   pub prepared-none : Prepared ws n limit d c b l → prepareCause ws n limit d c b l ≡ 0
   prepared-none h =

@@ -1,13 +1,14 @@
--- Conversion up to its tables (01, "Causes of refusal"; "Words, bytes and bounds"): the causes 1 to 7 in rising number, and the working slices after.
+-- Conversion up to its tables (01, "Causes of refusal"; "Words, bytes and bounds"): the causes 1 to 7, and the working slices after.
 use mathlib.Core.Bool.{Bool, true, false, _&&_}
-use mathlib.Core.List.{List, _++_}
+use mathlib.Core.List.{List, _∷_, _++_}
 use Prim.Native.Nat.{ℕ, zero, suc, _*_, _≤_, max}
 use lib.Dec.{leb}
 use lib.ListN.{length, drop, replicate}
+use Rattle.causes.specs.Causes.{Condition, _unless_, firstCause}
 use Rattle.bvh2.specs.Tree.{Tree}
 use Rattle.bvh2.specs.Words.{nodeCount, treeOf}
 use Rattle.bvh2.specs.Causes.{Accepted}
-use Rattle.bvh2.specs.FirstCause.{sizesCause, structureCause}
+use Rattle.bvh2.specs.FirstCause.{sizeConditions, structureConditions}
 use Rattle.cost.specs.Rows.{fill}
 
 -- how many decision words, and how many costs, n leaves need
@@ -24,13 +25,14 @@ unfoldable pub hasRoom : ℕ → (decisions costs bytes list : ℕ) → Bool
 unfolding recordSize
 hasRoom n decisions costs bytes list = leb (tableSize n) decisions && leb (tableSize n) costs && leb (recordSize n) bytes && leb n list
 
--- causes 1 and 2, then the leaf limit, then the lengths, then the tree's structure
-unfoldable pub prepareCause : List ℕ → (n limit decisions costs bytes list : ℕ) → ℕ
-prepareCause ws n limit decisions costs bytes list =
-    elim (sizesCause (length ws) n) [
-      | suc k ↦ suc k
-      | zero ↦ elim (leb limit 3) [ false ↦ 3 | true ↦ elim (hasRoom n decisions costs bytes list) [ false ↦ 4 | true ↦ structureCause ws n ] ]
-    ]
+-- the tree's sizes, then the leaf limit, then the lengths, then the tree's structure
+unfoldable pub prepareConditions : List ℕ → (n limit decisions costs bytes list : ℕ) → List Condition
+unfolding sizeConditions structureConditions hasRoom
+prepareConditions ws n limit decisions costs bytes list =
+    sizeConditions (length ws) n ++ 3 unless leb limit 3 ∷ 4 unless hasRoom n decisions costs bytes list ∷ structureConditions ws n
+
+abbrev pub prepareCause : List ℕ → (n limit decisions costs bytes list : ℕ) → ℕ
+prepareCause ws n limit decisions costs bytes list = firstCause (prepareConditions ws n limit decisions costs bytes list)
 
 -- none of these causes: the tree is accepted, the limit is at most 3, and d decision words, c costs, b record bytes and l output indices are enough
 pub record Prepared (ws : List ℕ) (n limit d c b l : ℕ) : Type 0 where
@@ -55,8 +57,4 @@ unfoldable pub workAfter : {A : Type 0} → A → (Tree ℕ → ℕ → A) → L
 unfolding tabled
 workAfter z g ws zero cause s = s
 workAfter z g ws (suc n) zero s = tabled g ws 0 (cleared z (tableSize (suc n)) s)
-workAfter z g ws (suc n) (suc zero) s = s
-workAfter z g ws (suc n) (suc (suc zero)) s = s
-workAfter z g ws (suc n) (suc (suc (suc zero))) s = s
-workAfter z g ws (suc n) (suc (suc (suc (suc zero)))) s = s
-workAfter z g ws (suc n) (suc (suc (suc (suc (suc c))))) s = cleared z (tableSize (suc n)) s
+workAfter z g ws (suc n) (suc c) s = elim (leb (suc c) 4) [ true ↦ s | false ↦ cleared z (tableSize (suc n)) s ]

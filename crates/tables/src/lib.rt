@@ -1,4 +1,4 @@
-// Internal: conversion up to its tables. Causes 1 to 7 in rising number, and the decision words and costs of every node.
+// Internal: conversion up to its tables. Causes 1 to 7, and the decision words and costs of every node.
 ghost use mathlib.Core.Path.{_≡_};
 ghost use Prim.Native.Nat.{_≤_, _<_};
 ghost use lib.ListN.{length};

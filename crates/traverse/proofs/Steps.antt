@@ -1,26 +1,29 @@
 -- A step by its parts, and telling.
 use mathlib.Core.Path.{_≡_, refl, sym, ap, _∙_, subst}
-use mathlib.Core.Bool.{Bool, true, false, _&&_, _||_, cond}
-use mathlib.Core.List.{List}
+use mathlib.Core.Bool.{Bool, true, false, _||_, cond}
+use mathlib.Core.List.{List, [], _∷_}
 use Prim.Native.Nat.{ℕ, _%_}
 use native.Mathlib.Omega.{arith}
-use lib.Dec.{eqb, leb, ltb, T}
+use lib.Dec.{eqb, ltb, T}
 use lib.ListN.{length}
 use lib.Ieee.{Float}
-use borrow.Author.Tests.{leb-true, eqb-true, ltb-false}
+use borrow.Author.Tests.{ltb-false}
 use Rattle.ray.specs.Ray.{counts}
+use Rattle.lists.proofs.Tells.{tells-true, eqb-tells}
+use Rattle.causes.specs.Causes.{_unless_, firstCause}
+use Rattle.causes.specs.Sizes.{sizesFit, recordConditions, recordCause}
+use Rattle.causes.proofs.Sizes.{Fit, sizes-tell}
 use Rattle.slot.specs.declared.Ends.{Ends}
 use Rattle.slot.specs.Parts.{endsOf}
 use Rattle.record_shape.specs.Record.{nodeCount}
 use Rattle.walk.specs.Step as S
-use Rattle.walk.specs.Step.{sizesFit}
 use Rattle.walk.specs.WordStep.{WalkerWords, SteppedWords, stayWords, emptiedWords, advanceWords, stepWords}
 use Rattle.walk_record.specs.Beam.{Beam, forgedBeam, reaching, beams}
 use Rattle.walk_record.proofs.Beam.{beam-laws}
 use Rattle.walk_record.specs.Record.{nodeWordsAt}
 use Rattle.walk_record.specs.Walk.{stepAt}
 use Rattle.advance.specs.Turn.{Walkable}
-use Rattle.traverse.specs.Walker.{sizesCause, stepBytes, isForged, isOver, toldWalker}
+use Rattle.traverse.specs.Walker.{stepBytes, isForged, isOver, toldWalker}
 
 -- ---- telling
 module _ (w : WalkerWords Beam) (t : Float) where
@@ -66,44 +69,32 @@ module _ (bytes : List ℕ) (n : ℕ) (w : WalkerWords Beam) where
   is = refl
 
   -- what the sizes say
-  pub step-sizes : (k : ℕ) → k ≡ sizesCause (length bytes) n → (k ≡ 0 → ⊥) → stayWords w (S.refused k) ≡ stepBytes bytes n w
-  unfolding sizesCause
+  pub step-sizes : (k : ℕ) → k ≡ recordCause (length bytes) n → (k ≡ 0 → ⊥) → stayWords w (S.refused k) ≡ stepBytes bytes n w
+  unfolding recordConditions firstCause
   step-sizes k e h = go (eqb (length bytes % 80) 0) refl (sizesFit m n) refl e ∙ sym is
     where
-      go : (a : Bool) → eqb (length bytes % 80) 0 ≡ a → (b : Bool) → sizesFit m n ≡ b → k ≡ elim a as (λ (x : Bool). ℕ) [ false ↦ 1 | true ↦ elim b as (λ (x : Bool). ℕ) [ false ↦ 2 | true ↦ 0 ] ]
+      go : (a : Bool) → eqb (length bytes % 80) 0 ≡ a → (b : Bool) → sizesFit m n ≡ b → k ≡ firstCause (1 unless a ∷ 2 unless b ∷ [])
           → stayWords w (S.refused k) ≡ by (eqb (length bytes % 80) 0) (sizesFit m n) forged over
       go false p b q z = ap (λ (x : ℕ). stayWords w (S.refused x)) z ∙ sym (λ i. by (p i) (q i) forged over)
       go true p false q z = ap (λ (x : ℕ). stayWords w (S.refused x)) z ∙ sym (λ i. by (p i) (q i) forged over)
       go true p true q z = absurd (h z)
 
-  pub record Fit : Type 0 where
-    pub whole : eqb (length bytes % 80) 0 ≡ true
-    pub sizes : sizesFit m n ≡ true
+  module _ (f : Fit (length bytes) n) where
+    whole : eqb (length bytes % 80) 0 ≡ true
+    whole = tells-true (eqb-tells (length bytes % 80) 0) (f .whole)
 
-  pub fits : (k : ℕ) → k ≡ sizesCause (length bytes) n → k ≡ 0 → Fit
-  unfolding sizesCause
-  fits k e z = go (eqb (length bytes % 80) 0) refl (sizesFit m n) refl (sym e ∙ z)
-    where
-      go : (a : Bool) → eqb (length bytes % 80) 0 ≡ a → (b : Bool) → sizesFit m n ≡ b → _≡_ {A = ℕ} (elim a as (λ (x : Bool). ℕ) [ false ↦ 1 | true ↦ elim b as (λ (x : Bool). ℕ) [ false ↦ 2 | true ↦ 0 ] ]) 0 → Fit
-      go false p b q h = absurd (omega (arith, h))
-      go true p false q h = absurd (omega (arith, h))
-      go true p true q h = record { whole = p; sizes = q }
+    fits : sizesFit m n ≡ true
+    fits = tells-true (sizes-tell m n) (f .few, f .small)
 
-  module _ (f : Fit) where
     pub step-forged : forged ≡ true → stayWords w (S.refused 10) ≡ stepBytes bytes n w
-    step-forged e = sym (λ i. by (f .whole i) (f .sizes i) (e i) over) ∙ sym is
+    step-forged e = sym (λ i. by (whole i) (fits i) (e i) over) ∙ sym is
 
     module _ (own : forged ≡ false) where
       pub step-over : over ≡ true → emptiedWords w ≡ stepBytes bytes n w
-      step-over e = sym (λ i. by (f .whole i) (f .sizes i) (own i) (e i)) ∙ sym is
+      step-over e = sym (λ i. by (whole i) (fits i) (own i) (e i)) ∙ sym is
 
       pub step-advances : over ≡ false → advanceWords m (nodeWordsAt bytes beams) n w ≡ stepBytes bytes n w
-      step-advances e = sym (λ i. by (f .whole i) (f .sizes i) (own i) (e i)) ∙ sym is
-
-    sizes-say : (a b : Bool) → (a && b) ≡ true → (a ≡ true) × (b ≡ true)
-    sizes-say true true e = (refl, refl)
-    sizes-say true false e = absurd (subst T (sym e) tt)
-    sizes-say false b e = absurd (subst T (sym e) tt)
+      step-advances e = sym (λ i. by (whole i) (fits i) (own i) (e i)) ∙ sym is
 
     own-say : (a b c : Bool) → (a || b || c) ≡ false → (a ≡ false) × (b ≡ false) × (c ≡ false)
     own-say false false false e = (refl, refl, refl)
@@ -114,12 +105,11 @@ module _ (bytes : List ℕ) (n : ℕ) (w : WalkerWords Beam) where
     -- what the core asks, of a walker that is not forged
     pub walks : forged ≡ false → (e : Ends) → e ≡ endsOf (w .ray .ray .direction) → Walkable bytes n (w .ray .ray) e (w .ray .octant) (w .depth) 32
     walks h e q =
-        let s = sizes-say (leb n 65536) (leb m 65535) (f .sizes) in
         let o = own-say (forgedBeam (w .ray)) (ltb 32 (w .depth)) (ltb m (w .tests)) h in
         record {
-          whole = eqb-true (length bytes % 80) 0 (f .whole);
-          nodes = leb-true m 65535 (s .1);
-          positions = leb-true n 65536 (s .0);
+          whole = f .whole;
+          nodes = f .small;
+          positions = f .few;
           ends = q;
           eight = beam-laws .octant-lt (w .ray) (o .0);
           deep = ltb-false 32 (w .depth) (o .1);

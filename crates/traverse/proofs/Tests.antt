@@ -1,47 +1,16 @@
 -- What refuses a step, by the tests that the code makes in turn.
 use mathlib.Core.Path.{_≡_, sym, ap, _∙_}
 use mathlib.Core.Bool.{Bool, true, false, not, _&&_, _||_}
-use Prim.Native.Nat.{ℕ, _/_, _%_, _≤_, _<_}
+use Prim.Native.Nat.{ℕ, _≤_, _<_}
 use native.Mathlib.Omega.{arith}
-use lib.Dec.{eqb, leb, ltb}
+use lib.Dec.{eqb, ltb}
 use lib.Ieee.{Float, eq}
 use borrow.Author.Tests.{le-leb, lt-leb, lt-ltb, le-ltb, eq-eqb, ne-eqb}
 use Rattle.ray.specs.declared.Ray.{Ray}
 use Rattle.ray.specs.Ray.{safeInverse, octantOf, acceptedRay}
 use Rattle.walk.specs.Words as W
 use Rattle.walk_record.specs.Beam.{ownInverse, forgedBeam}
-use Rattle.traverse.specs.Walker.{sizesCause, isForged, isOver}
-
--- ---- causes 1 and 2
-abbrev bySizes : Bool → Bool → Bool → ℕ
-bySizes a b c = elim a [ false ↦ 1 | true ↦ elim (b && c) [ false ↦ 2 | true ↦ 0 ] ]
-
-module _ (bytes n : ℕ) where
-  pub sizes-length : (bytes % 80 ≡ 0 → ⊥) → 1 ≡ sizesCause bytes n
-  unfolding sizesCause
-  sizes-length h = let e = ne-eqb (bytes % 80) 0 h in sym (λ i. bySizes (e i) (leb n 65536) (leb (bytes / 80) 65535))
-
-  module _ (whole : bytes % 80 ≡ 0) where
-    pub sizes-positions : 65536 < n → 2 ≡ sizesCause bytes n
-    unfolding sizesCause
-    sizes-positions h = let e = eq-eqb (bytes % 80) 0 whole in let f = lt-leb n 65536 h in sym (λ i. bySizes (e i) (f i) (leb (bytes / 80) 65535))
-
-    module _ (few : n ≤ 65536) where
-      pub sizes-nodes : 65535 < bytes / 80 → 2 ≡ sizesCause bytes n
-      unfolding sizesCause
-      sizes-nodes h =
-          let e = eq-eqb (bytes % 80) 0 whole in
-          let f = le-leb n 65536 few in
-          let g = lt-leb (bytes / 80) 65535 h in
-          sym (λ i. bySizes (e i) (f i) (g i))
-
-      pub sizes-none : bytes / 80 ≤ 65535 → 0 ≡ sizesCause bytes n
-      unfolding sizesCause
-      sizes-none h =
-          let e = eq-eqb (bytes % 80) 0 whole in
-          let f = le-leb n 65536 few in
-          let g = le-leb (bytes / 80) 65535 h in
-          sym (λ i. bySizes (e i) (f i) (g i))
+use Rattle.traverse.specs.Walker.{isForged, isOver}
 
 -- ---- a ray's own inverse and octant
 module _ (a b c : Bool) where

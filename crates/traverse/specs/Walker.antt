@@ -1,7 +1,7 @@
 -- The walker as the machine of words has it, and its calls on a record as bytes (01, "Walking"; "Causes of refusal").
 use mathlib.Core.Bool.{Bool, true, false, not, _&&_, _||_}
 use mathlib.Core.List.{List, []}
-use Prim.Native.Nat.{ℕ, _/_, _%_}
+use Prim.Native.Nat.{ℕ, _%_}
 use lib.Dec.{eqb, leb, ltb}
 use lib.ListN.{length, replicate}
 use lib.Ieee.{Float}
@@ -11,7 +11,6 @@ use Rattle.ray.specs.declared.Vec3.{Vec3}
 use Rattle.ray.specs.Ray.{acceptedRay}
 use Rattle.faststack.specs.Stack.{capacity}
 use Rattle.walk.specs.Step as S
-use Rattle.walk.specs.Step.{sizesFit}
 use Rattle.walk.specs.Words as W
 use Rattle.walk.specs.WordStep.{WalkerWords, SteppedWords, noGroup, freshWords, stayWords, tellWords}
 use Rattle.walk_record.specs.Beam.{Beam, beamOf, forgedBeam, beams}
@@ -59,10 +58,6 @@ abbrev pub toldWalker : Float → WalkerWords Beam → WalkerWords Beam
 toldWalker t w = tellWords (nodeWordsAt [] beams) t w
 
 -- ---- a step
-
--- causes 1 and 2, for a record of so many bytes and n positions
-unfoldable pub sizesCause : ℕ → ℕ → ℕ
-sizesCause bytes n = elim (eqb (bytes % 80) 0) [ false ↦ 1 | true ↦ elim (sizesFit (bytes / 80) n) [ false ↦ 2 | true ↦ 0 ] ]
 
 -- a record of another length is refused 1, and the walker stays
 unfoldable pub stepBytes : List ℕ → ℕ → WalkerWords Beam → SteppedWords Beam

@@ -15,7 +15,7 @@ ghost use Rattle.ray.specs.declared.Ray as declared;
 ghost use Rattle.slot.specs.declared.Ends as slots;
 ghost use Rattle.slot.specs.Parts.{endsOf};
 ghost use Rattle.advance.specs.Turn.{groupOf, walkerOf, turned, Walkable};
-ghost use Rattle.traverse.specs.Walker.{wordsOf, steppedOf, startedOf, started, toldWalker, stepBytes, sizesCause, isForged, isOver};
+ghost use Rattle.traverse.specs.Walker.{wordsOf, steppedOf, startedOf, started, toldWalker, stepBytes, isForged, isOver};
 use advance::Turn;
 use ray::Ray;
 use ray::Vec3;
@@ -38,22 +38,6 @@ pub struct Started {
 pub struct Stepped {
     pub walker: Walker,
     pub answer: Answer,
-}
-
-// Causes 1 and 2, for a record's length and a number of positions.
-fn sizes_cause(bytes: usize, n: usize) -> u32
-    ensures { λ r. ⌜ r ≡ sizesCause bytes n ⌝ }
-{
-    if bytes % 80 != 0 {
-        return 1;
-    }
-    if n > 65536 {
-        return 2;
-    }
-    if bytes / 80 > 65535 {
-        return 2;
-    }
-    0
 }
 
 // Whether two floats are equal: NaN is equal to none.
@@ -245,7 +229,7 @@ impl Walker {
     pub fn step(self, record: &[u8], n: usize) -> Stepped
         ensures { λ r. ⌜ steppedOf r ≡ stepBytes (now («record» .entry)) n (wordsOf self) ⌝ }
     {
-        let cause = sizes_cause(record.len(), n);
+        let cause = causes::record_cause(record.len(), n);
         if cause != 0 {
             return Stepped {
                 walker: self,

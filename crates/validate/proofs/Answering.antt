@@ -214,10 +214,10 @@ module _ (bytes : List ℕ) (n : ℕ) (o : List ℕ) (c : ℕ) (e : c ≡ causeO
     part-length = length-take-le (nodeCount bytes + n) o room
 
     pub part-sized : Sized bytes n (nodeCount bytes) (length (take (nodeCount bytes + n) o))
-    part-sized = record { few = fitting .nodes; small = fitting .positions; nodes = refl; words = part-length }
+    part-sized = record { few = fitting .sizes .small; small = fitting .sizes .few; nodes = refl; words = part-length }
 
     pub sum-fits : nodeCount bytes + n < 2 ^ 64
-    sum-fits = let a = fitting .nodes in let b = fitting .positions in omega arith
+    sum-fits = let s = fitting .sizes in omega arith
 
     pub answers : (a : Answer) → a ≡ soundnessOf bytes n → a ≡ checkOf bytes n (length o)
     answers a h = h ∙ sym (check-answers bytes n (length o) (sym e ∙ z))

@@ -104,14 +104,9 @@ fn all_marked(work: &[u32], m: usize, n: usize) -> bool
 fn cause(long: usize, n: usize, words: usize) -> u32
     ensures { λ r. ⌜ r ≡ causeOf long n words ⌝ }
 {
-    if long % 80 != 0 {
-        return 1;
-    }
-    if n > 65536 {
-        return 2;
-    }
-    if long / 80 > 65535 {
-        return 2;
+    let sizes = causes::record_cause(long, n);
+    if sizes != 0 {
+        return sizes;
     }
     if words < long / 80 + n {
         return 4;

@@ -9,7 +9,8 @@ use lib.ListN.{length}
 use borrow.Author.Tests.{leb-true, leb-false}
 use Rattle.lists.proofs.Tells.{clash}
 use Rattle.walk.specs.Tests.{Tests}
-use Rattle.walk.specs.Step.{Walker, Answer, tested, position, done, refused, Stepped, Due, report, test, nothing, dueOf, sizesFit, forgedWalker}
+use Rattle.causes.specs.Sizes.{sizesFit}
+use Rattle.walk.specs.Step.{Walker, Answer, tested, position, done, refused, Stepped, Due, report, test, nothing, dueOf, forgedWalker}
 use Rattle.walk.specs.Step.{noRoom, badPosition, badNode, onlyFirst, stay, emptied, afterReport, afterTest, advance, stepOf}
 
 -- ---- tests

@@ -12,7 +12,9 @@ use Rattle.lists.specs.Sums.{sumOver}
 use Rattle.lists.proofs.Tells.{clash}
 use Rattle.soundness.specs.Shape.{Shape}
 use Rattle.walk.specs.Tests.{Tests}
-use Rattle.walk.specs.Step.{Walker, done, fresh, Stepped, Due, report, test, nothing, dueOnStack, dueOf, sizesFit, forgedWalker, noRoom, badPosition, badNode, stay, emptied, afterReport, afterTest, stepOf, tellOf}
+use Rattle.causes.specs.Sizes.{sizesFit}
+use Rattle.walk.specs.Step.{Walker, done, fresh, Stepped, Due, report, test, nothing, dueOnStack, dueOf, forgedWalker, noRoom, badPosition}
+use Rattle.walk.specs.Step.{badNode, stay, emptied, afterReport, afterTest, stepOf, tellOf}
 use Rattle.walk.specs.Calls.{All, Op, step, tell, runOps, Answered, Brings}
 use Rattle.walk.specs.Listing.{In}
 use Rattle.walk.specs.Lawful.{SoundTests, Unrefused}

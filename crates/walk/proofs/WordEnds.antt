@@ -12,7 +12,8 @@ use Rattle.words.specs.Fields.{field}
 use Rattle.words.proofs.Fields.{field-lt}
 use Rattle.words.proofs.Ranks.{rank-step}
 use Rattle.faststack.specs.Stack.{topOf}
-use Rattle.walk.specs.Step.{Answer, tested, position, done, refused, sizesFit}
+use Rattle.causes.specs.Sizes.{sizesFit}
+use Rattle.walk.specs.Step.{Answer, tested, position, done, refused}
 use Rattle.walk.specs.Queries.{Reaction, Going}
 use Rattle.walk.specs.Slots.{falling}
 use Rattle.walk.specs.Words.{Group, unpacked, isSet, positionsIn, restOf, firstPosition, pastSkipped, firstChild, hasChild, waitingDepth}

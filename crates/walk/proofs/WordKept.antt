@@ -8,7 +8,8 @@ use native.Mathlib.Omega.{arith}
 use lib.Dec.{eqb, leb, ltb}
 use borrow.Author.Tests.{eqb-true, eq-eqb, ltb-false, le-ltb}
 use Rattle.faststack.specs.Stack.{topOf}
-use Rattle.walk.specs.Step.{Answer, tested, position, done, refused, sizesFit}
+use Rattle.causes.specs.Sizes.{sizesFit}
+use Rattle.walk.specs.Step.{Answer, tested, position, done, refused}
 use Rattle.walk.specs.Words.{Group, unpacked, restOf, firstPosition, firstChild, hasChild, waitingDepth}
 use Rattle.walk.specs.WordStep.{WalkerWords, SteppedWords, NodeWords, stayWords, emptiedWords, leaving, pastSkips, forgedWords, onlyFirstWords, badChild, reportWords, visitWords, popWords, turnWords, advanceWords, stepWords, tellWords}
 use Rattle.walk.proofs.Cases.{cond-elim, and-true, and-false}

@@ -13,7 +13,8 @@ use Rattle.words.proofs.Upto.{equal}
 use Rattle.faststack.specs.Stack.{capacity, topOf}
 use Rattle.node.specs.Node.{childIndex}
 use Rattle.walk.specs.Tests.{Tests}
-use Rattle.walk.specs.Step.{Answer, tested, position, done, refused, Stepped, fresh, sizesFit, tellOf}
+use Rattle.causes.specs.Sizes.{sizesFit}
+use Rattle.walk.specs.Step.{Answer, tested, position, done, refused, Stepped, fresh, tellOf}
 use Rattle.walk.specs.Calls.{Op, step, tell, Run, runOps}
 use Rattle.walk.specs.Words.{Group, packed, unpacked, positionsIn, childrenIn, groupsIn, restOf, firstPosition, firstChild, hasChild, waitingDepth}
 use Rattle.walk.specs.WordStep.{WalkerWords, SteppedWords, NodeWords, freshWords, forgedWords, onlyFirstWords, badChild, stayWords}

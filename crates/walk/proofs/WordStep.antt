@@ -10,7 +10,9 @@ use lib.ListN.{length}
 use borrow.Author.Tests.{leb-true, leb-false, ltb-true, ltb-false, lt-ltb, le-ltb, le-leb, lt-leb, eq-eqb, ne-eqb}
 use Rattle.faststack.specs.Stack.{capacity, hasRoom, topOf}
 use Rattle.walk.specs.Tests.{Tests}
-use Rattle.walk.specs.Step.{Walker, Answer, tested, position, done, refused, Stepped, Due, report, test, dueOf, sizesFit, forgedWalker, noRoom, badNode, onlyFirst, stay, emptied, afterReport, afterTest, advance, stepOf}
+use Rattle.causes.specs.Sizes.{sizesFit}
+use Rattle.walk.specs.Step.{Walker, Answer, tested, position, done, refused, Stepped, Due, report, test, dueOf, forgedWalker, noRoom}
+use Rattle.walk.specs.Step.{badNode, onlyFirst, stay, emptied, afterReport, afterTest, advance, stepOf}
 use Rattle.walk.specs.Words.{Group, unpacked, positionsIn, childrenIn, groupsIn, restOf, firstPosition, firstChild, hasChild, waitingDepth}
 use Rattle.walk.specs.WordStep.{WalkerWords, SteppedWords, NodeWords, noGroup, forgedWords, onlyFirstWords, badChild, stayWords, emptiedWords, afterReportWords, afterTestWords, leaving, pastSkips, reportWords, visitWords, popWords, turnWords, advanceWords, stepWords, decoded, decodedStep, InRange, testsWith, Decodes}
 use Rattle.walk.proofs.Cases.{cond-elim, or-false, not-false-true}

@@ -4,6 +4,7 @@ use mathlib.Core.List.{List, [], _∷_}
 use Prim.Native.Nat.{ℕ, zero, suc}
 use lib.Dec.{leb, ltb}
 use lib.ListN.{length}
+use Rattle.causes.specs.Sizes.{sizesFit}
 use Rattle.walk.specs.Tests.{Tests}
 
 pub record Walker (s : Type 0) : Type 0 where
@@ -54,10 +55,6 @@ dueOf [] (c ∷ r) st = test c r st
 dueOf [] [] st = dueOnStack st
 
 -- ---- what stands in the way
-
--- cause 2 does not hold: at most 65,536 positions and 65,535 nodes
-abbrev pub sizesFit : ℕ → ℕ → Bool
-sizesFit m n = leb n 65536 && leb m 65535
 
 -- a walker that is forged on a record of m nodes: by its ray, by over 32 groups, or by more tests than nodes
 abbrev pub forgedWalker : {s d : Type 0} → ℕ → Tests s d → Walker s → Bool

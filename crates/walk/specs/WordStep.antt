@@ -7,8 +7,9 @@ use lib.Dec.{eqb, leb, ltb}
 use lib.ListN.{length, getD, replicate}
 use Rattle.faststack.specs.Stack.{capacity, hasRoom, pushed, topOf}
 use Rattle.walk.specs.Tests.{Tests}
-use Rattle.walk.specs.Step.{Walker, Answer, tested, position, done, refused, Stepped, sizesFit, stay}
+use Rattle.walk.specs.Step.{Walker, Answer, tested, position, done, refused, Stepped, stay}
 use Rattle.walk.specs.Calls.{Op, step, tell, Run}
+use Rattle.causes.specs.Sizes.{sizesFit}
 use Rattle.walk.specs.Words.{Group, packed, unpacked, positionsIn, childrenIn, groupsIn, restOf, firstPosition, pastSkipped, firstChild, hasChild, waitingDepth}
 
 pub record WalkerWords (s : Type 0) : Type 0 where

@@ -3,7 +3,8 @@ use mathlib.Core.Bool.{true, cond}
 use mathlib.Core.Path.{_≡_}
 use Prim.Native.Nat.{ℕ, _<_}
 use Rattle.record_shape.specs.Record.{Nodes, shapeIn}
-use Rattle.walk.specs.Step.{done, refused, sizesFit, stepOf}
+use Rattle.walk.specs.Step.{done, refused, stepOf}
+use Rattle.causes.specs.Sizes.{sizesFit}
 use Rattle.walk.specs.Queries.{Reaction, Going}
 use Rattle.walk.specs.Slots.{positionsOf, childrenOf, testsOf}
 use Rattle.walk.specs.WordStep.{WalkerWords, stayWords, forgedWords, decodedStep, decoded, InRange, Decodes}

@@ -5,7 +5,8 @@ use mathlib.Core.Path.{_≡_, refl, sym, ap, subst, _∙_}
 use Prim.Native.Nat.{ℕ, _%_}
 use lib.Dec.{T, eqb, leb}
 use lib.ListN.{length}
-use Rattle.walk.specs.Step.{Answer, tested, position, done, refused, sizesFit}
+use Rattle.walk.specs.Step.{Answer, tested, position, done, refused}
+use Rattle.causes.specs.Sizes.{sizesFit}
 use Rattle.ray.specs.declared.Ray.{Ray}
 use Rattle.ray.specs.Ray.{acceptedRay}
 use Rattle.walk.specs.WordStep.{WalkerWords, SteppedWords, RunWords, NodeWords, freshWords, leaving, pastSkips}

@@ -20,11 +20,11 @@ abbrev ray : tie.After-entry-cause → Ray
 ray c = let a = c .before .before .before .before .args in rayOf (a .origin) (a .direction) (a .tmin) (a .tmax)
 
 cause : (c : tie.After-entry-cause) → let a = c .before .before .before .before .args in
-    c .entry-cause .result ≡ entryCause true (length (a .«record» .now)) (a .n) (ray c)
-cause c = c .entry-cause .ensures ∙ ap (entryCause true _ _) (c .before .new .ensures)
+    c .entry-cause .result ≡ entryCause true (length (a .«record» .now)) (a .n) 0 (ray c)
+cause c = c .entry-cause .ensures ∙ ap (entryCause true _ _ 0) (c .before .new .ensures)
 
 no-cause : (c : tie.Else1) → let a = c .before .before .before .before .before .args in
-    entryCause true (length (a .«record» .now)) (a .n) (ray (c .before)) ≡ 0
+    entryCause true (length (a .«record» .now)) (a .n) 0 (ray (c .before)) ≡ 0
 no-cause c = sym (cause (c .before)) ∙ c .if1 .left
 
 -- ---- the needs
@@ -49,7 +49,7 @@ returns-2 c =
     let h = enters (a .origin) (a .direction) (a .tmin) (a .tmax) (a .«record» .now) (a .n) (no-cause e) in
     let f = unforged (a .origin) (a .direction) (a .tmin) (a .tmax) (a .«record» .now) (a .n) (no-cause e) in
     let fit = bytes-fit _ (λ i. e .before .before .before .before .shared-slice-known .given i .fits) in
-    answers-empty (a .«record» .now) (a .n) (ray (e .before)) (a .list .now) (no-cause e) (c .if2 .taken) (h .few) fit f
+    answers-empty (a .«record» .now) (a .n) (ray (e .before)) (a .list .now) (no-cause e) (c .if2 .taken) (h .sizes .few) fit f
 
 walk-whole-requires : tie.Need-walk-whole-requires
 walk-whole-requires c κs =

@@ -1,0 +1,3 @@
+pub mod Causes
+pub mod First
+pub mod Sizes
