@@ -98,4 +98,8 @@ module _ (indices : List ℕ) (panes : List Float) where
   told-reach t b e = ap (λ (c : Bool). cond c (reaching t (b .ray)) (b .ray) .tmax) (counts-is (b .ray) t ∙ e)
 
   pub panes-reached : Reaching toldBeam (paneOf indices panes) nearer lt (λ b. b .ray .tmax)
-  panes-reached = record { nearer-is = λ t b. counts-is (b .ray) t; told-reach = told-reach; told-pane = λ p t b. reach-pane p t b (counts (b .ray) t) }
+  panes-reached = record {
+    nearer-is = λ t b. counts-is (b .ray) t;
+    told-reach = told-reach;
+    told-pane = λ p t b. reach-pane p t b (counts (b .ray) t);
+  }

@@ -1,9 +1,12 @@
 -- Closest and miss by what the code finds at a turn: how they go on, and what they answer.
 use mathlib.Core.Bool.{Bool, true, false, cond}
 use mathlib.Core.List.{List, []}
+use mathlib.Core.Logic.{_⊎_, inl, inr}
 use mathlib.Core.Path.{_≡_, refl, sym, ap, _∙_, subst}
 use native.Mathlib.Omega.{arith}
 use Prim.Native.Nat.{ℕ, _≤_, _<_}
+use native.Mathlib.Decide.{decLt}
+use native.Mathlib.Omega.{arith}
 use lib.Ieee.{Float}
 use lib.ListN.{length, getD}
 use Rattle.ray.specs.declared.Ray.{Ray}
@@ -31,16 +34,20 @@ use Rattle.closest.specs.declared.ClosestHit.{ClosestHit}
 use Rattle.closest.specs.declared.ClosestHit.the-variants.{Hit, NoHit, Refused}
 use Rattle.closest.specs.declared.Met.{Met}
 use Rattle.closest.specs.declared.Met.the-variants.{At, Faulty}
-use Rattle.closest.specs.Panes.{paneMet, paneOf, nearer, paneOfMet, Result, ClosestAnswer, blocked, refusedClosest, refusedMiss, closestFound, missFound, closestAnswer, walked}
+use Rattle.closest.proofs.Panes.{position-there, position-past}
+use Rattle.closest.specs.Panes.{paneMet, positionMet, paneOf, nearer, paneOfMet, Result}
+use Rattle.closest.specs.Panes.{ClosestAnswer, blocked, refusedClosest, refusedMiss, closestFound, missFound, closestAnswer, walked}
 
 -- ---- what a walk that has ended gives
 
-module _ {A : Type 0} (refuse : ℕ → A) (found : Found Float → ℕ → Result A) {w : WalkerWords Beam} {x : Found Float} {goal : OutcomeWords Beam (Found Float)} where
+module _ {A : Type 0} (refuse : ℕ → A) (found : Found Float → ℕ → Result A)
+    {w : WalkerWords Beam} {x : Found Float} {goal : OutcomeWords Beam (Found Float)} where
   pub ends-done : record { walker = w; noted = x; ended = S.done } ≡ goal → found x (w .tests) ≡ walked refuse found goal (goal .ended)
   unfolding walked
   ends-done e = ap (λ (o : OutcomeWords Beam (Found Float)). walked refuse found o (o .ended)) e
 
-  pub ends-refused : {k : ℕ} → record { walker = w; noted = x; ended = S.refused k } ≡ goal → record { answer = refuse k; tests = 0 } ≡ walked refuse found goal (goal .ended)
+  pub ends-refused : {k : ℕ} → record { walker = w; noted = x; ended = S.refused k } ≡ goal
+      → record { answer = refuse k; tests = 0 } ≡ walked refuse found goal (goal .ended)
   unfolding walked
   ends-refused e = ap (λ (o : OutcomeWords Beam (Found Float)). walked refuse found o (o .ended)) e
 
@@ -59,54 +66,52 @@ Held (Hit p t) = Unit {0}
 Held NoHit = Unit {0}
 Held (Refused k) = ⊥
 
-pub closest-held : (answer : ClosestHit) (tests : ℕ) → Held answer → _≡_ {A = Result ClosestAnswer} (record { answer = closestAnswer answer; tests = tests }) (closestFound (foundBy answer) tests)
+pub closest-held : (answer : ClosestHit) (tests : ℕ) → Held answer
+    → _≡_ {A = Result ClosestAnswer} (record { answer = closestAnswer answer; tests = tests }) (closestFound (foundBy answer) tests)
 unfolding closestAnswer closestFound
 closest-held (Hit p t) tests h = refl
 closest-held NoHit tests h = refl
 closest-held (Refused k) tests h = absurd h
 
--- ---- how they react to a position
+-- ---- how they react to a position, by its pane
 
-module _ (indices : List ℕ) (panes : List Float) (p : ℕ) (b : Beam) (x : Found Float) (met : Met) (e : paneOfMet met ≡ paneMet panes (getD indices p 0) (b .ray)) where
-  found-at : (t : Float) → met ≡ At t → paneOf indices panes p b ≡ distance t
-  unfolding paneOf paneOfMet
-  found-at t q = sym e ∙ ap paneOfMet q
-
-  found-faulty : (k : ℕ) → met ≡ Faulty k → paneOf indices panes p b ≡ faulty k
-  unfolding paneOf paneOfMet
-  found-faulty k q = sym e ∙ ap paneOfMet q
-
-  closest-at : (t : Float) → met ≡ At t → (c : Bool) → counts (b .ray) t ≡ c → closest (paneOf indices panes) nearer p b x ≡ lower (paneOf indices panes) nearer c p t x
+module _ (indices : List ℕ) (panes : List Float) (p : ℕ) (b : Beam) (x : Found Float) where
+  closest-at : (t : Float) → paneOf indices panes p b ≡ distance t → (c : Bool) → counts (b .ray) t ≡ c
+      → closest (paneOf indices panes) nearer p b x ≡ lower (paneOf indices panes) nearer c p t x
   closest-at t q c h =
-      ap (λ (y : Pane Float). lowerAt (paneOf indices panes) nearer y p b x) (found-at t q) ∙ ap (λ (d : Bool). lower (paneOf indices panes) nearer d p t x) h
+      ap (λ (y : Pane Float). lowerAt (paneOf indices panes) nearer y p b x) q ∙ ap (λ (d : Bool). lower (paneOf indices panes) nearer d p t x) h
 
-  closest-faulty : (k : ℕ) → met ≡ Faulty k → closest (paneOf indices panes) nearer p b x ≡ record { noted = fault k; tells = []; stop = true }
-  closest-faulty k q = ap (λ (y : Pane Float). lowerAt (paneOf indices panes) nearer y p b x) (found-faulty k q)
+  closest-faulty : (k : ℕ) → paneOf indices panes p b ≡ faulty k
+      → closest (paneOf indices panes) nearer p b x ≡ record { noted = fault k; tells = []; stop = true }
+  closest-faulty k q = ap (λ (y : Pane Float). lowerAt (paneOf indices panes) nearer y p b x) q
 
-  miss-at : (t : Float) → met ≡ At t → (c : Bool) → counts (b .ray) t ≡ c → miss (paneOf indices panes) nearer p b x ≡ record { noted = cond c (hit p t) x; tells = []; stop = c }
+  miss-at : (t : Float) → paneOf indices panes p b ≡ distance t → (c : Bool) → counts (b .ray) t ≡ c
+      → miss (paneOf indices panes) nearer p b x ≡ record { noted = cond c (hit p t) x; tells = []; stop = c }
   miss-at t q c h =
-      ap (λ (y : Pane Float). blockAt (paneOf indices panes) nearer y p b x) (found-at t q)
+      ap (λ (y : Pane Float). blockAt (paneOf indices panes) nearer y p b x) q
       ∙ ap (λ (d : Bool). record { noted = cond d (hit p t) x; tells = []; stop = d }) h
 
-  miss-faulty : (k : ℕ) → met ≡ Faulty k → miss (paneOf indices panes) nearer p b x ≡ record { noted = fault k; tells = []; stop = true }
-  miss-faulty k q = ap (λ (y : Pane Float). blockAt (paneOf indices panes) nearer y p b x) (found-faulty k q)
+  miss-faulty : (k : ℕ) → paneOf indices panes p b ≡ faulty k
+      → miss (paneOf indices panes) nearer p b x ≡ record { noted = fault k; tells = []; stop = true }
+  miss-faulty k q = ap (λ (y : Pane Float). blockAt (paneOf indices panes) nearer y p b x) q
 
 -- ---- at a position in hand
 
--- position p is the first in hand, its pane is met so, and `left` are the others
-pub record AtPosition (indices : List ℕ) (panes : List Float) (bytes : List ℕ) (react : ℕ → Beam → Found Float → Reaction Float (Found Float)) (goal : OutcomeWords Beam (Found Float))
-    (ray : Ray) (octant : ℕ) (v : Walk) (stack : List ℕ) (x : Found Float) (p : ℕ) (met : Met) (left : Group) : Type 0 where
+-- position p is the first in hand, it is met so, and `left` are the others
+pub record AtPosition (indices : List ℕ) (panes : List Float) (bytes : List ℕ) (react : ℕ → Beam → Found Float → Reaction Float (Found Float))
+    (goal : OutcomeWords Beam (Found Float)) (ray : Ray) (octant : ℕ) (v : Walk) (stack : List ℕ) (x : Found Float)
+    (p : ℕ) (met : Met) (left : Group) : Type 0 where
   pub sized : Sized bytes (length indices)
   pub fit : FieldsFit bytes
   pub leads : Leads (nodeCount bytes) (nodeWordsAt bytes beams) (length indices) react goal (walkerOf ray octant v stack) x
   pub held : 0 < v .positions .bits
   pub named : p ≡ firstPosition (groupOf (v .positions))
-  pub there : p < length indices
-  pub pane : paneOfMet met ≡ paneMet panes (getD indices p 0) ray
+  pub pane : paneOfMet met ≡ positionMet indices panes p ray
   pub rest : groupOf left ≡ restOf (groupOf (v .positions))
 
-module _ {indices : List ℕ} {panes : List Float} {bytes : List ℕ} {react : ℕ → Beam → Found Float → Reaction Float (Found Float)} {goal : OutcomeWords Beam (Found Float)}
-    {ray : Ray} {octant : ℕ} {v : Walk} {stack : List ℕ} {x : Found Float} {p : ℕ} {met : Met} {left : Group}
+module _ {indices : List ℕ} {panes : List Float} {bytes : List ℕ} {react : ℕ → Beam → Found Float → Reaction Float (Found Float)}
+    {goal : OutcomeWords Beam (Found Float)} {ray : Ray} {octant : ℕ} {v : Walk} {stack : List ℕ} {x : Found Float}
+    {p : ℕ} {met : Met} {left : Group}
     (P : AtPosition indices panes bytes react goal ray octant v stack x p met left) where
   abbrev N : NodeWords Beam Float
   N = nodeWordsAt bytes beams
@@ -124,53 +129,100 @@ module _ {indices : List ℕ} {panes : List Float} {bytes : List ℕ} {react : �
   abbrev pub reported : Walk
   reported = record { tests = v .tests; positions = left; current = v .current; depth = v .depth }
 
-  stops : {y : Found Float} {ds : List Float} → react p beam x ≡ record { noted = y; tells = ds; stop = true }
-      → record { walker = toldAllWords N ds (afterReportWords w .walker); noted = y; ended = S.position p } ≡ goal
-  stops q = leads-stops (steady bytes n (P .sized) (P .fit)) (P .leads) refl refl (P .held) p (P .named) (P .there) q
+  -- a position met at a distance is there
+  pub at-there : (t : Float) → met ≡ At t → (p < n) × (paneOf indices panes p beam ≡ distance t)
+  unfolding paneOf paneOfMet
+  at-there t q = go (decLt p n)
+    where
+      go : Dec (p < n) → (p < n) × (paneMet panes (getD indices p 0) ray ≡ distance t)
+      go (yes h) = (h, sym (position-there indices panes p ray h) ∙ sym (P .pane) ∙ ap paneOfMet q)
+      go (no h) =
+          let e : distance t ≡ faulty 10 = sym (ap paneOfMet q) ∙ P .pane ∙ position-past indices panes p ray (omega arith) in
+          let z : _≡_ {A = ℕ} 0 1 = cc in absurd (omega arith)
 
-  goes : {y : Found Float} {ds : List Float} → react p beam x ≡ record { noted = y; tells = ds; stop = false }
+  -- one that is refused has a pane at fault, or is not there
+  refused-where : (k : ℕ) → met ≡ Faulty k → ((p < n) × (paneOf indices panes p beam ≡ faulty k)) ⊎ ((n ≤ p) × (k ≡ 10))
+  unfolding paneOf paneOfMet
+  refused-where k q = go (decLt p n)
+    where
+      go : Dec (p < n) → ((p < n) × (paneMet panes (getD indices p 0) ray ≡ faulty k)) ⊎ ((n ≤ p) × (k ≡ 10))
+      go (yes h) = inl (h, sym (position-there indices panes p ray h) ∙ sym (P .pane) ∙ ap paneOfMet q)
+      go (no h) =
+          let past : n ≤ p = omega arith in
+          let e : faulty k ≡ faulty 10 = sym (ap paneOfMet q) ∙ P .pane ∙ position-past indices panes p ray past in
+          inr (past, cc)
+
+  stops : {y : Found Float} {ds : List Float} → p < n → react p beam x ≡ record { noted = y; tells = ds; stop = true }
+      → record { walker = toldAllWords N ds (afterReportWords w .walker); noted = y; ended = S.position p } ≡ goal
+  stops there q = leads-stops (steady bytes n (P .sized) (P .fit)) (P .leads) refl refl (P .held) p (P .named) there q
+
+  goes : {y : Found Float} {ds : List Float} → p < n → react p beam x ≡ record { noted = y; tells = ds; stop = false }
       → Goes (nodeCount bytes) N n react goal w (toldAllWords N ds (walkerOf ray octant reported stack)) y
-  goes {y = y} {ds = ds} q =
-      subst (λ (g : W.Group). Goes (nodeCount bytes) N n react goal w (toldAllWords N ds (record { ray = beam; tests = v .tests; positions = g; current = groupOf (v .current); depth = v .depth; stack = stack })) y)
-      (sym (P .rest)) (leads-on (steady bytes n (P .sized) (P .fit)) (P .leads) refl refl (P .held) p (P .named) (P .there) q)
+  goes {y = y} {ds = ds} there q =
+      subst
+      (λ (g : W.Group). Goes (nodeCount bytes) N n react goal w
+      (toldAllWords N ds
+      (record { ray = beam; tests = v .tests; positions = g; current = groupOf (v .current); depth = v .depth; stack = stack })) y)
+      (sym (P .rest)) (leads-on (steady bytes n (P .sized) (P .fit)) (P .leads) refl refl (P .held) p (P .named) there q)
+
+  -- what refuses a position refuses the query
+  fails : {A : Type 0} (refuse : ℕ → A) (found : Found Float → ℕ → Result A)
+      → ((k tests : ℕ) → record { answer = refuse k; tests = 0 } ≡ found (fault k) tests)
+      → ((k : ℕ) → paneOf indices panes p beam ≡ faulty k → react p beam x ≡ record { noted = fault k; tells = []; stop = true })
+      → (k : ℕ) → met ≡ Faulty k → record { answer = refuse k; tests = 0 } ≡ walked refuse found goal (goal .ended)
+  fails refuse found refuses reacts k q = go (refused-where k q)
+    where
+      go : ((p < n) × (paneOf indices panes p beam ≡ faulty k)) ⊎ ((n ≤ p) × (k ≡ 10))
+          → record { answer = refuse k; tests = 0 } ≡ walked refuse found goal (goal .ended)
+      go (inl h) = refuses k _ ∙ ends-stopped refuse found (stops (h .0) (reacts k (h .1)))
+      go (inr h) =
+          ap (λ (j : ℕ). record { answer = refuse j; tests = 0 }) (h .1)
+          ∙ ends-refused refuse found (leads-past (steady bytes n (P .sized) (P .fit)) (P .leads) refl refl (P .held) p (P .named) (h .0))
 
 module _ {indices : List ℕ} {panes : List Float} {bytes : List ℕ} {goal : OutcomeWords Beam (Found Float)}
     {ray : Ray} {octant : ℕ} {v : Walk} {stack : List ℕ} {x : Found Float} {p : ℕ} {met : Met} {left : Group} where
   module _ (P : AtPosition indices panes bytes (closest (paneOf indices panes) nearer) goal ray octant v stack x p met left) where
-    -- a pane's fault is closest's
+    -- what refuses a position refuses closest
     pub closest-fails : (k : ℕ) → met ≡ Faulty k → record { answer = refusedClosest k; tests = 0 } ≡ walked refusedClosest closestFound goal (goal .ended)
     unfolding closestFound
-    closest-fails k f = ends-stopped refusedClosest closestFound (stops P (closest-faulty indices panes p (record { ray = ray; octant = octant }) x met (P .pane) k f))
+    closest-fails = fails P refusedClosest closestFound (λ k t. refl) (closest-faulty indices panes p (beam P) x)
 
     -- a distance that counts is noted and becomes the reach
     pub closest-lowers : (d : Float) → met ≡ At d → counts ray d ≡ true
         → Goes (nodeCount bytes) (nodeWordsAt bytes beams) (length indices) (closest (paneOf indices panes) nearer) goal (walkerOf ray octant v stack)
         (walkerOf (reaching d ray) octant (reported P) stack) (hit p d)
     closest-lowers d f h =
-        subst (λ (c : Bool). Goes (nodeCount bytes) (nodeWordsAt bytes beams) (length indices) (closest (paneOf indices panes) nearer) goal (walkerOf ray octant v stack)
-        (walkerOf (cond c (reaching d ray) ray) octant (reported P) stack) (hit p d)) h
-        (goes P (closest-at indices panes p (record { ray = ray; octant = octant }) x met (P .pane) d f true h))
+        let t = at-there P d f in
+        subst
+        (λ (c : Bool). Goes (nodeCount bytes) (nodeWordsAt bytes beams) (length indices) (closest (paneOf indices panes) nearer) goal
+        (walkerOf ray octant v stack) (walkerOf (cond c (reaching d ray) ray) octant (reported P) stack) (hit p d)) h
+        (goes P (t .0) (closest-at indices panes p (beam P) x d (t .1) true h))
 
     -- any other changes nothing
     pub closest-passes : (d : Float) → met ≡ At d → counts ray d ≡ false
-        → Goes (nodeCount bytes) (nodeWordsAt bytes beams) (length indices) (closest (paneOf indices panes) nearer) goal (walkerOf ray octant v stack) (walkerOf ray octant (reported P) stack) x
-    closest-passes d f h = goes P (closest-at indices panes p (record { ray = ray; octant = octant }) x met (P .pane) d f false h)
+        → Goes (nodeCount bytes) (nodeWordsAt bytes beams) (length indices) (closest (paneOf indices panes) nearer) goal (walkerOf ray octant v stack)
+        (walkerOf ray octant (reported P) stack) x
+    closest-passes d f h = let t = at-there P d f in goes P (t .0) (closest-at indices panes p (beam P) x d (t .1) false h)
 
   module _ (P : AtPosition indices panes bytes (miss (paneOf indices panes) nearer) goal ray octant v stack x p met left) where
-    -- a pane's fault is miss's
+    -- what refuses a position refuses miss
     pub miss-fails : (k : ℕ) → met ≡ Faulty k → record { answer = refusedMiss k; tests = 0 } ≡ walked refusedMiss missFound goal (goal .ended)
     unfolding missFound
-    miss-fails k f = ends-stopped refusedMiss missFound (stops P (miss-faulty indices panes p (record { ray = ray; octant = octant }) x met (P .pane) k f))
+    miss-fails = fails P refusedMiss missFound (λ k t. refl) (miss-faulty indices panes p (beam P) x)
 
     -- a distance that counts ends it
-    pub miss-blocks : (d : Float) → met ≡ At d → counts ray d ≡ true → record { answer = blocked; tests = v .tests } ≡ walked refusedMiss missFound goal (goal .ended)
+    pub miss-blocks : (d : Float) → met ≡ At d → counts ray d ≡ true
+        → record { answer = blocked; tests = v .tests } ≡ walked refusedMiss missFound goal (goal .ended)
     unfolding missFound
-    miss-blocks d f h = ends-stopped refusedMiss missFound (stops P (miss-at indices panes p (record { ray = ray; octant = octant }) x met (P .pane) d f true h))
+    miss-blocks d f h =
+        let t = at-there P d f in
+        ends-stopped refusedMiss missFound (stops P (t .0) (miss-at indices panes p (beam P) x d (t .1) true h))
 
     -- any other changes nothing
     pub miss-passes : (d : Float) → met ≡ At d → counts ray d ≡ false
-        → Goes (nodeCount bytes) (nodeWordsAt bytes beams) (length indices) (miss (paneOf indices panes) nearer) goal (walkerOf ray octant v stack) (walkerOf ray octant (reported P) stack) x
-    miss-passes d f h = goes P (miss-at indices panes p (record { ray = ray; octant = octant }) x met (P .pane) d f false h)
+        → Goes (nodeCount bytes) (nodeWordsAt bytes beams) (length indices) (miss (paneOf indices panes) nearer) goal (walkerOf ray octant v stack)
+        (walkerOf ray octant (reported P) stack) x
+    miss-passes d f h = let t = at-there P d f in goes P (t .0) (miss-at indices panes p (beam P) x d (t .1) false h)
 
 -- ---- after a search
 
@@ -222,10 +274,3 @@ module _ {bytes indices : List ℕ} {react : ℕ → Beam → Found Float → Re
   pub search-no-position : (q : ℕ) → t .answer ≡ Position q → ⊥
   unfolding answerOf
   search-no-position q e = sought (Position q) e
-
--- a position in hand past the n refuses the query
-pub position-past : (bytes indices : List ℕ) → Sized bytes (length indices) → FieldsFit bytes
-    → (react : ℕ → Beam → Found Float → Reaction Float (Found Float)) (goal : OutcomeWords Beam (Found Float)) (ray : Ray) (octant : ℕ) (v : Walk) (stack : List ℕ) (x : Found Float)
-    → Leads (nodeCount bytes) (nodeWordsAt bytes beams) (length indices) react goal (walkerOf ray octant v stack) x → 0 < v .positions .bits
-    → (p : ℕ) → p ≡ firstPosition (groupOf (v .positions)) → length indices ≤ p → record { walker = walkerOf ray octant v stack; noted = x; ended = S.refused 10 } ≡ goal
-position-past bytes indices sized fit react goal ray octant v stack x leads held p named h = leads-past (steady bytes (length indices) sized fit) leads refl refl held p named h

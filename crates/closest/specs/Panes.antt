@@ -34,6 +34,11 @@ unfolding boxIn
 paneMet panes k r =
     cond (ltb k (length panes / 6)) (cond (acceptedBox (boxIn panes k)) (distance (entryDistance (boxIn panes k) r)) (faulty 6)) (faulty 10)
 
+-- position p as a ray meets it: one that is not there is cause 10
+unfoldable pub positionMet : List ℕ → List Float → ℕ → Ray → Pane Float
+unfolding paneMet
+positionMet indices panes p r = cond (ltb p (length indices)) (paneMet panes (getD indices p 0) r) (faulty 10)
+
 -- the pane of a position
 unfoldable pub paneOf : List ℕ → List Float → ℕ → Beam → Pane Float
 unfolding paneMet

@@ -1,12 +1,11 @@
 // Closest and miss over a record and its panes (cwbvh/mod.rs, ray_traverse and ray_traverse_miss).
 ghost use mathlib.Core.Path.{_≡_};
 ghost use mathlib.Core.Bool.{false};
-ghost use Prim.Native.Nat.{_<_};
-ghost use lib.ListN.{length, getD};
+ghost use lib.ListN.{length};
 ghost use Rattle.ray.specs.Ray.{rayOf};
 ghost use Rattle.walk_record.specs.Beam.{beamOf, forgedBeam};
 ghost use Rattle.query.specs.Walk.{Sized};
-ghost use Rattle.closest.specs.Panes.{paneMet, paneOfMet, closestWalked, missWalked, closestOf, missOf, closestResult, missResult};
+ghost use Rattle.closest.specs.Panes.{paneMet, positionMet, paneOfMet, closestWalked, missWalked, closestOf, missOf, closestResult, missResult};
 use advance::Answer;
 use advance::Walk;
 use ray::Ray;
@@ -61,13 +60,15 @@ fn pane_met(panes: &[f32], k: usize, ray: Ray) -> Met
     Met::At(bounds.intersect_ray(ray))
 }
 
-// The pane of position p.
+// Position p as a ray meets it: whether it is there comes before its pane.
 fn position_met(indices: &[u32], panes: &[f32], p: usize, ray: Ray) -> Met
-    requires { ⌜ p < length (now indices) ⌝ }
-    ensures { λ r. ⌜ paneOfMet r ≡ paneMet (now (panes .entry)) (getD (now (indices .entry)) p 0) ray ⌝ }
+    ensures { λ r. ⌜ paneOfMet r ≡ positionMet (now (indices .entry)) (now (panes .entry)) p ray ⌝ }
 {
-    let k = indices[p];
-    pane_met(panes, k as usize, ray)
+    if p < indices.len() {
+        let k = indices[p];
+        return pane_met(panes, k as usize, ray);
+    }
+    Met::Faulty(10)
 }
 
 fn refused_closest(cause: u32) -> ClosestFound
@@ -93,9 +94,6 @@ fn walk_closest(bytes: &[u8], indices: &[u32], panes: &[f32], start: Ray) -> Clo
         while walk.positions.bits > 0 {
             let held = walk.positions;
             let p = advance::first_position(held);
-            if p >= n {
-                return refused_closest(10);
-            }
             let met = position_met(indices, panes, p, ray);
             let positions = advance::rest_of(held);
             walk = Walk { positions, ..walk };
@@ -188,9 +186,6 @@ fn walk_miss(bytes: &[u8], indices: &[u32], panes: &[f32], ray: Ray) -> MissFoun
         while walk.positions.bits > 0 {
             let held = walk.positions;
             let p = advance::first_position(held);
-            if p >= n {
-                return refused_miss(10);
-            }
             let met = position_met(indices, panes, p, ray);
             let positions = advance::rest_of(held);
             walk = Walk { positions, ..walk };

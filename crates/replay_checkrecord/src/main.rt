@@ -2,26 +2,18 @@
 // than any record are stored by their length. Its argument names a file of answers; how these are made and laid out is said in oracle/README.md.
 mod inputs;
 
-// The most cases and groups of a file.
-const MOST_TURNS: u32 = 1000000;
-
 // Runs the file that the first argument names.
 fn run() -> bool {
     let mut space = io::large_buffer();
     let buffer: &mut [u8] = &mut space;
     let file = inputs::open();
     let mut at = stored::open(1);
-    let mut turns: u32 = 0;
-    while turns < MOST_TURNS {
-        if at.over {
-            return at.all;
-        }
+    while at.turns > 0 {
         let length = stored::read_case(at, buffer);
         let agrees = inputs::agrees(at.kind, &buffer[..length], file);
         at = stored::next(at, length, agrees);
-        turns += 1;
     }
-    false
+    at.all
 }
 
 fn main() {

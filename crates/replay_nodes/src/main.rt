@@ -2,31 +2,17 @@
 // Its argument names a file of answers; how these are made and laid out is said in oracle/README.md.
 mod nodes;
 
-use stored::Place;
-
-// The most cases and groups of a file.
-const MOST_TURNS: u32 = 1000000;
-
-// The place after one more case.
-fn turn(at: Place) -> Place {
-    let mut buffer = io::buffer();
-    let length = stored::read_case(at, &mut buffer);
-    let agrees = nodes::agrees(at.kind, &buffer[..length]);
-    stored::next(at, length, agrees)
-}
-
 // Runs the file that the first argument names.
 fn run() -> bool {
+    let mut space = io::large_buffer();
+    let buffer: &mut [u8] = &mut space;
     let mut at = stored::open(1);
-    let mut turns: u32 = 0;
-    while turns < MOST_TURNS {
-        if at.over {
-            return at.all;
-        }
-        at = turn(at);
-        turns += 1;
+    while at.turns > 0 {
+        let length = stored::read_case(at, buffer);
+        let agrees = nodes::agrees(at.kind, &buffer[..length]);
+        at = stored::next(at, length, agrees);
     }
-    false
+    at.all
 }
 
 fn main() {

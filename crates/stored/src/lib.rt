@@ -14,14 +14,18 @@ pub use cases::same_vector;
 pub use cases::vector;
 pub use cases::word;
 pub use cases::zero_record;
-ghost use Prim.Native.Nat.{_≤_};
+ghost use mathlib.Core.Path.{_≡_};
+ghost use Prim.Native.Nat.{_≤_, _<_};
 ghost use lib.ListN.{length};
 use libc::STDOUT_FILENO;
+
+// The most cases and groups of a file.
+const MOST_TURNS: u32 = 1000000;
 
 // The most groups of a file.
 const MOST_GROUPS: u32 = 100;
 
-// Where a replay stands in a file: its group, how many of the group's cases were run, and how many agreed.
+// Where a replay stands in a file: its group, how many of the group's cases were run, how many agreed, whether all did, and the turns left, 0 at the end.
 pub struct Place {
     pub fd: i32,
     pub kind: u32,
@@ -31,21 +35,25 @@ pub struct Place {
     pub agreed: u32,
     pub groups: u32,
     pub all: bool,
-    pub over: bool,
+    pub turns: u32,
 }
 
 // The place after the last group.
-fn ended(at: Place, all: bool) -> Place {
+fn ended(at: Place, all: bool) -> Place
+    ensures { λ r. ⌜ r .turns ≡ 0 ⌝ }
+{
     libc::close(at.fd);
     Place {
         all,
-        over: true,
+        turns: 0,
         ..at
     }
 }
 
 // The place before the first case of the next group. The last group counts those before it.
-fn next_group(at: Place, all: bool) -> Place {
+fn next_group(at: Place, all: bool) -> Place
+    ensures { λ r. ⌜ r .turns ≤ at .turns ⌝ }
+{
     let mut head = [0u8; 12];
     let got = io::read_full(at.fd, &mut head);
     let kind = word(&head, 0);
@@ -90,13 +98,16 @@ pub fn open(i: usize) -> Place {
         agreed: 0,
         groups: 0,
         all: false,
-        over: true,
+        turns: 0,
     };
     if fd < 0 {
         os::fail(&path[..length]);
         return at;
     }
-    let begun = Place { over: false, ..at };
+    let begun = Place {
+        turns: MOST_TURNS,
+        ..at
+    };
     next_group(begun, true)
 }
 
@@ -162,7 +173,9 @@ fn one_more(x: u32, most: u32) -> u32 {
 }
 
 // The place after the case that read_case answered `length` for. A case that could not be read agrees with nothing.
-pub fn next(at: Place, length: usize, agrees: bool) -> Place {
+fn compared(at: Place, length: usize, agrees: bool) -> Place
+    ensures { λ r. ⌜ r .turns ≤ at .turns ⌝ }
+{
     if at.run >= at.count {
         let all = print_group(at.kind, at.count, at.agreed);
         if at.all {
@@ -179,6 +192,19 @@ pub fn next(at: Place, length: usize, agrees: bool) -> Place {
     }
     print_first(false, at.agreed, at.run);
     Place { run, ..at }
+}
+
+// The same, one turn on; a file that takes more turns does not agree.
+pub fn next(at: Place, length: usize, agrees: bool) -> Place
+    requires { ⌜ 0 < at .turns ⌝ }
+    ensures { λ r. ⌜ r .turns < at .turns ⌝ }
+{
+    if at.turns == 1 {
+        return ended(at, false);
+    }
+    let turns = at.turns - 1;
+    let on = Place { turns, ..at };
+    compared(on, length, agrees)
 }
 
 // Prints the last line.

@@ -23,7 +23,8 @@ unfolding paneOfMet
 returns-2 c =
     let b = c .before .before in
     let a = b .before .before .before .args in
-    met-faulty (a .panes .now) (a .k) (a .ray) (b .before .if1 .left) (b .box-at .result) (b .box-at .ensures) (sym (c .before .accepted .ensures) ∙ not-true _ (c .if2 .taken))
+    met-faulty (a .panes .now) (a .k) (a .ray) (b .before .if1 .left)
+    (b .box-at .result) (b .box-at .ensures) (sym (c .before .accepted .ensures) ∙ not-true _ (c .if2 .taken))
 
 intersect-ray-requires : tie.Need-intersect-ray-requires
 intersect-ray-requires c κs = search needs
@@ -34,7 +35,8 @@ returns-3 c =
     let b = c .before .before .before in
     let a = b .before .before .before .args in
     ap (λ (t : Float). distance t) (c .intersect-ray .ensures)
-    ∙ met-at (a .panes .now) (a .k) (a .ray) (b .before .if1 .left) (b .box-at .result) (b .box-at .ensures) (sym (c .before .before .accepted .ensures) ∙ not-false _ (c .before .if2 .left))
+    ∙ met-at (a .panes .now) (a .k) (a .ray) (b .before .if1 .left)
+    (b .box-at .result) (b .box-at .ensures) (sym (c .before .before .accepted .ensures) ∙ not-false _ (c .before .if2 .left))
 
 pub pane-met-spec : {M : Type 1} → statement M
 pane-met-spec = tie.close (tie.spec returns box-at-requires accepted-requires returns-2 intersect-ray-requires returns-3)

@@ -1,6 +1,5 @@
--- `run`: the measure is what is left of the turns.
+-- `run`: the measure is the turns left.
 use mathlib.Core.Path.{sym}
-use Prim.Native.Nat.{_-_}
 use native.Mathlib.Omega.{arith}
 use lib.Seq.{length-take-le}
 use borrow.Author.Needs.{needs}
@@ -8,10 +7,10 @@ use Rattle.replay_conversion.proofs.run.Statement.{statement}
 use Rattle.replay_conversion.proofs.run.Tie as tie
 
 abbrev Inv-loop : tie.InvT-loop
-Inv-loop i buffer₀ at₀ turns₀ buffer at turns = Unit {0}
+Inv-loop i buffer₀ at₀ buffer at = Unit {0}
 
 abbrev μ-loop : tie.MeasureT-loop
-μ-loop i buffer₀ at₀ turns₀ buffer at turns = 1000000 - turns
+μ-loop i buffer₀ at₀ buffer at = at .turns
 
 large-buffer-requires : tie.Need-large-buffer-requires Inv-loop μ-loop
 large-buffer-requires c κs = search needs
@@ -24,9 +23,6 @@ open-requires c κs = search needs
 
 loop-holds : tie.Need-loop-holds Inv-loop μ-loop
 loop-holds c = search needs
-
-returns : tie.Need-returns Inv-loop μ-loop
-returns c = search needs
 
 read-case-requires : tie.Need-read-case-requires Inv-loop μ-loop
 read-case-requires c κs = search needs
@@ -43,17 +39,14 @@ agrees-requires c κs = search needs
 next-requires : tie.Need-next-requires Inv-loop μ-loop
 next-requires c κs = search needs
 
-add-turns : tie.Need-add-turns Inv-loop μ-loop
-add-turns c = search needs
-
 loop-less : tie.Need-loop-less Inv-loop μ-loop
 loop-less c = search needs
 
 loop-again : tie.Need-loop-again Inv-loop μ-loop
 loop-again c = search needs
 
-returns-2 : tie.Need-returns-2 Inv-loop μ-loop
-returns-2 c = search needs
+returns : tie.Need-returns Inv-loop μ-loop
+returns c = search needs
 
 pub run-spec : {M : Type 1} → statement M
 run-spec =
@@ -65,13 +58,11 @@ run-spec =
     slice-aggregate-buffer
     open-requires
     loop-holds
-    returns
     read-case-requires
     slice-reshare-prefix-agrees
     slice-aggregate-agrees
     agrees-requires
     next-requires
-    add-turns
     loop-less
     loop-again
-    returns-2)
+    returns)
