@@ -1,5 +1,8 @@
--- The cases of conversion's result, in the requirements' terms (01, "Causes of refusal").
-use Rattle.bvh2_to_cwbvh.specs.Conversion.{Answer, converted, refused}
+-- The result of conversion in the requirements' terms (01, "Causes of refusal").
+use mathlib.Core.List.{List}
+use Prim.Native.Nat.{ℕ}
+use lib.Ieee.{Float}
+use Rattle.bvh2_to_cwbvh.specs.Conversion.{Answer, converted, refused, Outcome}
 use Rattle.bvh2_to_cwbvh.specs.declared.Conversion.{Conversion}
 use Rattle.bvh2_to_cwbvh.specs.declared.Conversion.the-variants.{Converted, Refused}
 
@@ -7,3 +10,7 @@ use Rattle.bvh2_to_cwbvh.specs.declared.Conversion.the-variants.{Convert
 unfoldable pub answerOf : Conversion → Answer
 answerOf (Converted nodes level) = converted nodes level
 answerOf (Refused number) = refused number
+
+-- with the lent slices at the end
+abbrev pub outcomeOf : Conversion → (decisions : List ℕ) (costs : List Float) (bytes list : List ℕ) → Outcome
+outcomeOf r decisions costs bytes list = record { answer = answerOf r; decisions = decisions; costs = costs; bytes = bytes; list = list }

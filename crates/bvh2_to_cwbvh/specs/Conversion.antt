@@ -15,7 +15,8 @@ use Rattle.wide.specs.Wide.{Wide}
 use Rattle.wide.specs.Layout.{nodes, indexList, level, wordsAt}
 use Rattle.wide_tree.specs.Ordered.{wideTree}
 use Rattle.record.specs.Record.{recordBytes}
-use Rattle.tables.specs.Tables.{prepareConditions, workAfter}
+use Rattle.tables.specs.Call.{Call, leafCount, Lengths, lengthsOf}
+use Rattle.tables.specs.Tables.{prepareConditions, Prepared, workAfter}
 
 -- ---- what an accepted tree becomes
 
@@ -48,38 +49,55 @@ unfoldable pub listOf : List ℕ → List ℕ → ℕ → Bool → List ℕ
 unfolding positionsOf
 listOf ws indices limit ordered = wordsAt indices (positionsOf ws (length indices) limit ordered)
 
--- ---- the answer
+-- ---- the same of a call's tree, written or not
+abbrev pub definedRecord : Call → List ℕ
+definedRecord c = recordOf (c .words) (leafCount c) (c .limit) (c .ordered)
+
+abbrev pub definedNodes : Call → ℕ
+definedNodes c = nodesOf (c .words) (leafCount c) (c .limit) (c .ordered)
+
+abbrev pub deepestLevel : Call → ℕ
+deepestLevel c = levelOf (c .words) (leafCount c) (c .limit) (c .ordered)
+
+abbrev pub definedList : Call → List ℕ
+definedList c = listOf (c .words) (c .indices) (c .limit) (c .ordered)
+
+-- ---- the causes
+
+-- for the lengths of the lent slices: what the tables ask, and no level over 31
+unfoldable pub conversionConditions : List ℕ → (n limit : ℕ) → Bool → Lengths → List Condition
+unfolding prepareConditions levelOf
+conversionConditions ws n limit ordered l =
+    let low = leb (levelOf ws n limit ordered) 31 in
+    prepareConditions ws n limit l ++ 8 unless low ∷ []
+
+-- none of causes 1 to 7: an accepted tree, a limit to 3, and long enough slices
+abbrev pub Convertible : Call → Type 0
+Convertible c = Prepared (c .words) (leafCount c) (c .limit) (lengthsOf c)
+
+-- the first of causes 1 to 8; 0 where there is none
+abbrev pub conversionCause : Call → ℕ
+conversionCause c = firstCause (conversionConditions (c .words) (leafCount c) (c .limit) (c .ordered) (lengthsOf c))
+
+-- ---- the outcome
 
 -- a record of so many nodes with its deepest level, or the number of the first cause that holds
 pub data Answer : Type 0 where
   converted : (nodes level : ℕ) → Answer
   refused : ℕ → Answer
 
--- for the lengths of decisions, costs, record and list: what the tables ask, and no level over 31
-unfoldable pub conversionConditions : List ℕ → (n limit : ℕ) → Bool → (decisions costs bytes list : ℕ) → List Condition
-unfolding prepareConditions levelOf
-conversionConditions ws n limit ordered decisions costs bytes list =
-    let low = leb (levelOf ws n limit ordered) 31 in
-    prepareConditions ws n limit decisions costs bytes list ++ 8 unless low ∷ []
-
--- the first of causes 1 to 8; 0 where there is none
-abbrev pub conversionCause : List ℕ → (n limit : ℕ) → Bool → (decisions costs bytes list : ℕ) → ℕ
-conversionCause ws n limit ordered decisions costs bytes list = firstCause (conversionConditions ws n limit ordered decisions costs bytes list)
-
 -- the answer for a cause
-unfoldable pub answerFor : List ℕ → (n limit : ℕ) → Bool → ℕ → Answer
+unfoldable pub answerFor : Call → ℕ → Answer
 unfolding nodesOf levelOf
-answerFor ws n limit ordered zero = converted (nodesOf ws n limit ordered) (levelOf ws n limit ordered)
-answerFor ws n limit ordered (suc k) = refused (suc k)
-
--- ---- the slices
+answerFor c zero = converted (definedNodes c) (deepestLevel c)
+answerFor c (suc k) = refused (suc k)
 
 -- an output at the end: what is written stands in front of what was there, and a refusal leaves it as it was
 unfoldable pub outputAfter : ℕ → List ℕ → List ℕ → List ℕ
 outputAfter zero written before = splice before 0 written
 outputAfter (suc k) written before = before
 
--- ---- the whole outcome: the answer, and the four lent slices at the end
+-- the answer, and the four lent slices at the end
 pub record Outcome : Type 0 where
   pub answer : Answer
   pub decisions : List ℕ
@@ -87,15 +105,17 @@ pub record Outcome : Type 0 where
   pub bytes : List ℕ
   pub list : List ℕ
 
-unfoldable pub conversionOf : (ws indices : List ℕ) (limit : ℕ) → Bool → (decisions : List ℕ) (costs : List Float) (bytes list : List ℕ) → Outcome
-unfolding conversionConditions firstCause answerFor recordOf listOf outputAfter workAfter
-conversionOf ws indices limit ordered decisions costs bytes list =
-    let n = length indices in
-    let cause = conversionCause ws n limit ordered (length decisions) (length costs) (length bytes) (length list) in
-    record {
-      answer = answerFor ws n limit ordered cause;
-      decisions = workAfter 0 (wordOf limit) ws n cause decisions;
-      costs = workAfter plusZero (costOf limit) ws n cause costs;
-      bytes = outputAfter cause (recordOf ws n limit ordered) bytes;
-      list = outputAfter cause (listOf ws indices limit ordered) list;
-    }
+-- the outcome for a cause
+unfoldable pub outcomeFor : Call → ℕ → Outcome
+unfolding answerFor recordOf listOf outputAfter workAfter
+outcomeFor c cause = record {
+  answer = answerFor c cause;
+  decisions = workAfter 0 (wordOf (c .limit)) (c .words) (leafCount c) cause (c .decisions);
+  costs = workAfter plusZero (costOf (c .limit)) (c .words) (leafCount c) cause (c .costs);
+  bytes = outputAfter cause (definedRecord c) (c .bytes);
+  list = outputAfter cause (definedList c) (c .list);
+}
+
+unfoldable pub conversionOf : Call → Outcome
+unfolding conversionConditions firstCause outcomeFor
+conversionOf c = outcomeFor c (conversionCause c)

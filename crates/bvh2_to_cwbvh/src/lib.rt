@@ -1,7 +1,7 @@
 // The conversion of a binary tree to a record of eight-wide nodes with quantised child boxes (cwbvh/bvh2_to_cwbvh.rs).
 ghost use mathlib.Core.Path.{_≡_};
 ghost use Rattle.bvh2_to_cwbvh.specs.Conversion.{conversionOf};
-ghost use Rattle.bvh2_to_cwbvh.specs.Answer.{answerOf};
+ghost use Rattle.bvh2_to_cwbvh.specs.Answer.{outcomeOf};
 
 // How a conversion ends: with a record of so many nodes and its deepest level, or refused for the cause of this number.
 pub enum Conversion {
@@ -21,11 +21,16 @@ pub fn bvh2_to_cwbvh(
     record: &mut [u8],
     list: &mut [u32],
 ) -> Conversion
-    ensures { λ r. ⌜ answerOf r ≡ conversionOf (now (words .entry)) (now (indices .entry)) limit ordered (now (decisions .entry)) (now (costs .entry)) (now («record» .entry)) (now (list .entry)) .answer ⌝ }
-    ensures { λ _. ⌜ now (decisions .exit) ≡ conversionOf (now (words .entry)) (now (indices .entry)) limit ordered (now (decisions .entry)) (now (costs .entry)) (now («record» .entry)) (now (list .entry)) .decisions ⌝ }
-    ensures { λ _. ⌜ now (costs .exit) ≡ conversionOf (now (words .entry)) (now (indices .entry)) limit ordered (now (decisions .entry)) (now (costs .entry)) (now («record» .entry)) (now (list .entry)) .costs ⌝ }
-    ensures { λ _. ⌜ now («record» .exit) ≡ conversionOf (now (words .entry)) (now (indices .entry)) limit ordered (now (decisions .entry)) (now (costs .entry)) (now («record» .entry)) (now (list .entry)) .bytes ⌝ }
-    ensures { λ _. ⌜ now (list .exit) ≡ conversionOf (now (words .entry)) (now (indices .entry)) limit ordered (now (decisions .entry)) (now (costs .entry)) (now («record» .entry)) (now (list .entry)) .list ⌝ }
+    ensures { λ r. ⌜ outcomeOf r (now (decisions .exit)) (now (costs .exit)) (now («record» .exit)) (now (list .exit)) ≡ conversionOf (record {
+      words = now (words .entry);
+      indices = now (indices .entry);
+      limit = limit;
+      ordered = ordered;
+      decisions = now (decisions .entry);
+      costs = now (costs .entry);
+      bytes = now («record» .entry);
+      list = now (list .entry);
+    }) ⌝ }
 {
     let n = indices.len();
     let cause = tables::prepare(words, n, limit, record.len(), list.len(), decisions, costs);

@@ -63,24 +63,24 @@ defined c h = go (leafCount c) (λ p. accepted-decoded (c .words) (leafCount c) 
 -- an answered call leaves them in front of its output slices, and its level is at most 31
 pub record-is : (c : Call) (m d : ℕ) → Answers c m d → recordAt c m ≡ definedRecord c
 record-is c m d h =
-    let r = answered (c .words) (c .indices) (c .limit) (c .ordered) (c .decisions) (c .costs) (c .bytes) (c .list) m d h in
+    let r = answered c m d h in
     let e = bytes-length (c .words) (c .limit) (c .ordered) (leafCount c) in
     ap (take (80 * m)) (r .record-is) ∙ splice-taken (c .bytes) (definedRecord c) (80 * m) (omega (arith, e, r .nodes))
 
 pub list-is : (c : Call) (m d : ℕ) → Answers c m d → listAt c ≡ definedList c
 list-is c m d h =
-    let r = answered (c .words) (c .indices) (c .limit) (c .ordered) (c .decisions) (c .costs) (c .bytes) (c .list) m d h in
+    let r = answered c m d h in
     ap (take (leafCount c)) (r .list-is)
     ∙ splice-taken (c .list) (definedList c) (leafCount c) (list-length (c .words) (c .limit) (c .ordered) (c .indices) (r .none .accepted))
 
 pub level-low : (c : Call) (m d : ℕ) → Answers c m d → d ≤ 31
 level-low c m d h =
-    let r = answered (c .words) (c .indices) (c .limit) (c .ordered) (c .decisions) (c .costs) (c .bytes) (c .list) m d h in
+    let r = answered c m d h in
     omega (arith, r .level, r .low)
 
 pub writes : (c : Call) (m d : ℕ) → Answers c m d → Writes (leafPositions (c .words) (leafCount c)) (c .indices) (recordAt c m) (listAt c) d
 writes c m d h =
-    let r = answered (c .words) (c .indices) (c .limit) (c .ordered) (c .decisions) (c .costs) (c .bytes) (c .list) m d h in
+    let r = answered c m d h in
     let w : List ℕ → List ℕ → ℕ → Type 0 = Writes (leafPositions (c .words) (leafCount c)) (c .indices) in
     subst (λ (b : List ℕ). w b (listAt c) d) (sym (record-is c m d h))
     (subst (λ (l : List ℕ). w (definedRecord c) l d) (sym (list-is c m d h))

@@ -17,10 +17,10 @@ use Rattle.node.specs.Node.{nodeAt}
 use Rattle.record_shape.specs.Record.{nodeCount, nodesAt, shapeIn, shapeAt, SoundRecord, DeepestLevel}
 use Rattle.record_shape.specs.Check.{sound, checkOf}
 use Rattle.record_shape.proofs.Tree.{node-parent, first-parent, position-holder, holds-below}
-use Rattle.bvh2_to_cwbvh.specs.Conversion.{refused, nodesOf}
+use Rattle.bvh2_to_cwbvh.specs.Conversion.{refused, conversionOf}
 use Rattle.bvh2_to_cwbvh.proofs.Answers as A
-use Rattle.demands.specs.Call.{Call, outcome, Answers, leafCount, recordAt, listAt, leafPositions}
-use Rattle.demands.specs.Call.{definedRecord, definedList, deepestLevel, Convertible}
+use Rattle.demands.specs.Call.{Call, Answers, leafCount, recordAt, listAt, leafPositions}
+use Rattle.demands.specs.Call.{definedRecord, definedNodes, definedList, deepestLevel, Convertible}
 use Rattle.demands.specs.Refusals.{LevelOver}
 use Rattle.demands.specs.Children.{childCount, leafChildren}
 use Rattle.demands.specs.Walks.{Good}
@@ -33,23 +33,23 @@ use Rattle.demands.proofs.Children.{at-most-eight, children-are}
 
 -- ---- the conversion answers
 -- An accepted tree with a limit to 3 and long enough slices is converted if no level is over 31,
-pub converts : (c : Call) → Convertible c → deepestLevel c ≤ 31 → Answers c (nodesOf (c .words) (leafCount c) (c .limit) (c .ordered)) (deepestLevel c)
-converts c = A.answers (c .words) (c .indices) (c .limit) (c .ordered) (c .decisions) (c .costs) (c .bytes) (c .list)
+pub converts : (c : Call) → Convertible c → deepestLevel c ≤ 31 → Answers c (definedNodes c) (deepestLevel c)
+converts = A.answers
 
 -- and refused 8 exactly if one is:
-pub refuses-deep : (c : Call) → Convertible c → outcome c .answer ≡ refused 8 ↔ 31 < deepestLevel c
-refuses-deep c = A.refused-eight (c .words) (c .indices) (c .limit) (c .ordered) (c .decisions) (c .costs) (c .bytes) (c .list)
+pub refuses-deep : (c : Call) → Convertible c → conversionOf c .answer ≡ refused 8 ↔ 31 < deepestLevel c
+refuses-deep = A.refused-eight
 
 -- that is, exactly if some node of the defined record has a level over 31, each level being the parent's plus 1,
-pub refuses-level-over : (c : Call) → Convertible c → outcome c .answer ≡ refused 8 ↔ LevelOver c
+pub refuses-level-over : (c : Call) → Convertible c → conversionOf c .answer ≡ refused 8 ↔ LevelOver c
 refuses-level-over c h = let r = refuses-deep c h in let o = over-deepest c h in (λ e. o .1 (r .0 e), λ l. r .1 (o .0 l))
 
 -- and converted if none has.
 pub converts-within-levels : (c : Call) → Convertible c → (LevelOver c → ⊥)
-    → Answers c (nodesOf (c .words) (leafCount c) (c .limit) (c .ordered)) (deepestLevel c)
+    → Answers c (definedNodes c) (deepestLevel c)
 converts-within-levels c h none = go (decLt 31 (deepestLevel c))
   where
-    go : Dec (31 < deepestLevel c) → Answers c (nodesOf (c .words) (leafCount c) (c .limit) (c .ordered)) (deepestLevel c)
+    go : Dec (31 < deepestLevel c) → Answers c (definedNodes c) (deepestLevel c)
     go (yes l) = absurd (none (over-deepest c h .1 l))
     go (no l) = converts c h (omega arith)
 
@@ -60,7 +60,7 @@ module _ (c : Call) (m d : ℕ) (answers : Answers c m d) where
 
   -- A call that is answered was convertible, and its record and its index list are the defined ones.
   pub was-convertible : Convertible c
-  was-convertible = A.answered (c .words) (c .indices) (c .limit) (c .ordered) (c .decisions) (c .costs) (c .bytes) (c .list) m d answers .none
+  was-convertible = A.answered c m d answers .none
 
   pub writes-defined : (recordAt c m ≡ definedRecord c) × (listAt c ≡ definedList c)
   writes-defined = (record-is c m d answers, list-is c m d answers)

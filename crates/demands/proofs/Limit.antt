@@ -1,11 +1,11 @@
 -- A leaf limit of 0 acts as 1 (01, "Corners of each file", bvh2_to_cwbvh.rs), in all that a conversion answers and leaves.
 use mathlib.Core.Bool.{Bool}
 use mathlib.Core.List.{List, [], _∷_, _++_}
-use mathlib.Core.Path.{_≡_, refl, ap, ap₂, fun-ext}
+use mathlib.Core.Path.{_≡_, refl, ap, ap₂, _∙_, fun-ext}
 use Prim.Native.Nat.{ℕ, zero, suc}
 use lib.Dec.{leb}
 use lib.ListN.{length}
-use lib.Ieee.{Float}
+use Rattle.float.specs.Compare.{plusZero}
 use Rattle.causes.specs.Causes.{_unless_, firstCause}
 use Rattle.bvh2.specs.Tree.{Tree, leaf, inner, boxOf}
 use Rattle.bvh2.specs.Words.{treeOf}
@@ -14,9 +14,11 @@ use Rattle.cost.proofs.Splits.{limit-zero}
 use Rattle.wide.specs.Layout.{wordsAt}
 use Rattle.wide_tree.specs.WideTree.{Placing, Child, slotsOf, childrenOf, wideOf}
 use Rattle.wide_tree.specs.Ordered.{placing}
-use Rattle.tables.specs.Tables.{prepareConditions}
+use Rattle.tables.specs.Call.{Call, leafCount, lengthsOf}
+use Rattle.tables.specs.Tables.{prepareConditions, workAfter}
 use Rattle.bvh2_to_cwbvh.specs.Conversion.{wideAt, recordOf, nodesOf, levelOf, positionsOf, listOf}
-use Rattle.bvh2_to_cwbvh.specs.Conversion.{conversionConditions, conversionCause, converted, answerFor, Outcome, conversionOf}
+use Rattle.bvh2_to_cwbvh.specs.Conversion.{conversionConditions, conversionCause, converted, answerFor, outputAfter, outcomeFor, conversionOf}
+use Rattle.demands.specs.Call.{withLimit}
 
 -- ---- the tables, and the wide tree
 words-zero : wordOf {A = ℕ} 0 ≡ wordOf 1
@@ -53,30 +55,32 @@ unfolding listOf
 list-zero ws indices ordered = ap (wordsAt indices) (same ws (length indices) ordered .positions)
 
 -- ---- the cause and the answer
-cause-zero : (ws : List ℕ) (n : ℕ) (ordered : Bool) (d c b l : ℕ) → conversionCause ws n 0 ordered d c b l ≡ conversionCause ws n 1 ordered d c b l
+cause-zero : (c : Call) → conversionCause (withLimit 0 c) ≡ conversionCause (withLimit 1 c)
 unfolding conversionConditions prepareConditions
-cause-zero ws n ordered d c b l =
-    ap (λ (x : ℕ). firstCause (prepareConditions ws n 1 d c b l ++ 8 unless leb x 31 ∷ [])) (same ws n ordered .level)
+cause-zero c =
+    ap (λ (x : ℕ). firstCause (prepareConditions (c .words) (leafCount c) 1 (lengthsOf c) ++ 8 unless leb x 31 ∷ []))
+    (same (c .words) (leafCount c) (c .ordered) .level)
 
-answer-zero : (ws : List ℕ) (n : ℕ) (ordered : Bool) (k : ℕ) → answerFor ws n 0 ordered k ≡ answerFor ws n 1 ordered k
+answer-zero : (c : Call) (k : ℕ) → answerFor (withLimit 0 c) k ≡ answerFor (withLimit 1 c) k
 unfolding answerFor
-answer-zero ws n ordered zero = ap₂ (λ (m d : ℕ). converted m d) (same ws n ordered .nodes) (same ws n ordered .level)
-answer-zero ws n ordered (suc k) = refl
+answer-zero c zero =
+    let e = same (c .words) (leafCount c) (c .ordered) in ap₂ (λ (m d : ℕ). converted m d) (e .nodes) (e .level)
+answer-zero c (suc k) = refl
 
 -- ---- the whole outcome: the answer and the four lent slices
-same-outcome : (x y : Outcome) → x .answer ≡ y .answer → x .decisions ≡ y .decisions → x .costs ≡ y .costs → x .bytes ≡ y .bytes → x .list ≡ y .list
-    → x ≡ y
-same-outcome x y a d c b l = λ i. record { answer = a i; decisions = d i; costs = c i; bytes = b i; list = l i }
+outcome-zero : (c : Call) (k : ℕ) → outcomeFor (withLimit 0 c) k ≡ outcomeFor (withLimit 1 c) k
+unfolding outcomeFor
+outcome-zero c k =
+    let n = leafCount c in
+    let e = same (c .words) n (c .ordered) in
+    λ i. record {
+      answer = answer-zero c k i;
+      decisions = workAfter 0 (words-zero i) (c .words) n k (c .decisions);
+      costs = workAfter plusZero (costs-zero i) (c .words) n k (c .costs);
+      bytes = outputAfter k (e .bytes i) (c .bytes);
+      list = outputAfter k (list-zero (c .words) (c .indices) (c .ordered) i) (c .list);
+    }
 
-pub limit-zero-as-one : (ws indices : List ℕ) (ordered : Bool) (ds : List ℕ) (cs : List Float) (bytes list : List ℕ)
-    → conversionOf ws indices 0 ordered ds cs bytes list ≡ conversionOf ws indices 1 ordered ds cs bytes list
+pub limit-zero-as-one : (c : Call) → conversionOf (withLimit 0 c) ≡ conversionOf (withLimit 1 c)
 unfolding conversionOf
-limit-zero-as-one ws indices ordered ds cs bytes list =
-    let n = length indices in
-    let e = cause-zero ws n ordered (length ds) (length cs) (length bytes) (length list) in
-    same-outcome _ _
-    (rw (e, answer-zero ws n ordered))
-    (rw (e, words-zero))
-    (rw (e, costs-zero))
-    (rw (e, same ws n ordered .bytes))
-    (rw (e, list-zero ws indices ordered))
+limit-zero-as-one c = outcome-zero c (conversionCause (withLimit 0 c)) ∙ ap (outcomeFor (withLimit 1 c)) (cause-zero c)

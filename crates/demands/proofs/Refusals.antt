@@ -8,192 +8,185 @@ use native.Mathlib.Decide.{decLt}
 use native.Mathlib.Omega.{arith}
 use lib.Dec.{T, leb}
 use lib.ListN.{length}
-use borrow.Author.Tests.{le-leb, lt-leb, leb-false}
+use borrow.Author.Tests.{lt-leb, leb-false}
 use Rattle.lists.proofs.Tells.{clash}
-use Rattle.causes.specs.Causes.{Condition, placeOf}
-use Rattle.causes.proofs.Causes.{Passed, sorted, allNumbers}
+use Rattle.causes.specs.Causes.{Condition, firstCause, placeOf}
+use Rattle.causes.proofs.Causes.{sorted, allNumbers}
 use Rattle.causes.proofs.First.{Shows, Fails, shows-append, shows-as, fails-first, fails-later, fails-parts, found-fails, first-none, first-is}
 use Rattle.bvh2.specs.Causes.{Cause}
 use Rattle.bvh2.specs.FirstCause.{sizeConditions, structureConditions}
 use Rattle.bvh2.proofs.First.{sizes-show, structure-shows, cause-fails}
 use Rattle.float.specs.Compare.{plusZero}
 use Rattle.cost.specs.Table.{wordOf, costOf}
-use Rattle.tables.specs.Tables.{tableSize, recordSize, hasRoom, prepareConditions, prepareCause, cleared}
-use Rattle.tables.proofs.Room.{room-parts, room-list}
+use Rattle.tables.specs.Call.{Lengths, lengthsOf}
+use Rattle.tables.specs.Tables.{tableSize, recordSize, hasRoom, prepareConditions, cleared}
+use Rattle.tables.proofs.Room.{room-parts, room-enough}
 use Rattle.tables.proofs.Causes.{rest, work-kept, work-cleared}
-use Rattle.tables.proofs.Prepared.{prepared, passed-prepared, prepared-none}
-use Rattle.bvh2_to_cwbvh.specs.Conversion.{refused, conversionConditions, nodesOf}
-use Rattle.bvh2_to_cwbvh.proofs.Endings.{last, cause-none}
+use Rattle.tables.proofs.Prepared.{prepared, passed-prepared}
+use Rattle.bvh2_to_cwbvh.specs.Conversion.{refused, conversionConditions, conversionOf}
+use Rattle.bvh2_to_cwbvh.proofs.Endings.{early, last, cause-none}
 use Rattle.bvh2_to_cwbvh.proofs.Answers as A
-use Rattle.demands.specs.Call.{Call, outcome, Answers, leafCount, deepestLevel, Convertible}
+use Rattle.demands.specs.Call.{Call, Answers, leafCount, definedNodes, deepestLevel, Convertible}
 use Rattle.demands.specs.Refusals.{Refusal, tree-refused, limit-over, decisions-short, costs-short, bytes-short, list-short, level-over, FirstRefusal}
 use Rattle.demands.proofs.Levels.{over-deepest}
 
 -- ---- the list of conditions, with or without leaves
-in-order : (ws : List ℕ) (n limit : ℕ) (ordered : Bool) (d c b l : ℕ) → T (sorted 0 (conversionConditions ws n limit ordered d c b l))
+in-order : (ws : List ℕ) (n limit : ℕ) (ordered : Bool) (l : Lengths) → T (sorted 0 (conversionConditions ws n limit ordered l))
 unfolding conversionConditions sizeConditions structureConditions sorted
-in-order ws zero limit ordered d c b l = tt
-in-order ws (suc n) limit ordered d c b l = tt
+in-order ws zero limit ordered l = tt
+in-order ws (suc n) limit ordered l = tt
 
-none-after-eight : (ws : List ℕ) (n limit d c b l : ℕ) → T (allNumbers (λ k. leb (placeOf k) (placeOf 8)) (prepareConditions ws n limit d c b l))
+none-after-eight : (ws : List ℕ) (n limit : ℕ) (l : Lengths) → T (allNumbers (λ k. leb (placeOf k) (placeOf 8)) (prepareConditions ws n limit l))
 unfolding prepareConditions sizeConditions structureConditions allNumbers placeOf
-none-after-eight ws zero limit d c b l = tt
-none-after-eight ws (suc n) limit d c b l = tt
+none-after-eight ws zero limit l = tt
+none-after-eight ws (suc n) limit l = tt
+
+-- some slice is too short
+abbrev Short : ℕ → Lengths → Type 0
+Short n l = (l .decisions < tableSize n) ⊎ ((l .costs < tableSize n) ⊎ ((l .bytes < recordSize n) ⊎ (l .list < n)))
+
+-- where there is no room one is,
+short : (n : ℕ) (l : Lengths) → hasRoom n l ≡ false → Short n l
+short n l e = pick (decLt (l .decisions) (tableSize n)) (decLt (l .costs) (tableSize n)) (decLt (l .bytes) (recordSize n)) (decLt (l .list) n)
+  where
+    pick : Dec (l .decisions < tableSize n) → Dec (l .costs < tableSize n) → Dec (l .bytes < recordSize n) → Dec (l .list < n) → Short n l
+    pick (yes p) q r t = inl p
+    pick (no p) (yes q) r t = inr (inl q)
+    pick (no p) (no q) (yes r) t = inr (inr (inl r))
+    pick (no p) (no q) (no r) (yes t) = inr (inr (inr t))
+    pick (no p) (no q) (no r) (no t) = clash (sym e ∙ room-enough n l (omega arith) (omega arith) (omega arith) (omega arith))
+
+-- and the test fails where one is
+lacking : (n : ℕ) (l : Lengths)
+    → ((tableSize n ≤ l .decisions) × (tableSize n ≤ l .costs) × (recordSize n ≤ l .bytes) × (n ≤ l .list) → ⊥) → hasRoom n l ≡ false
+lacking n l h = go (hasRoom n l) refl
+  where
+    go : (b : Bool) → hasRoom n l ≡ b → hasRoom n l ≡ false
+    go true e = absurd (h (room-parts n l e))
+    go false e = e
 
 module _ (c : Call) where
   abbrev n : ℕ
   n = leafCount c
 
+  -- the conditions, and the parts of which they are made
+  abbrev all : List Condition
+  all = conversionConditions (c .words) n (c .limit) (c .ordered) (lengthsOf c)
+
   abbrev sizes : List Condition
   sizes = sizeConditions (length (c .words)) n
 
   abbrev others : List Condition
-  others = rest (c .words) n (c .limit) (length (c .decisions)) (length (c .costs)) (length (c .bytes)) (length (c .list))
-
-  abbrev early : List Condition
-  early = prepareConditions (c .words) n (c .limit) (length (c .decisions)) (length (c .costs)) (length (c .bytes)) (length (c .list))
-
-  abbrev level : List Condition
-  level = last (c .words) n (c .limit) (c .ordered) (length (c .decisions)) (length (c .costs)) (length (c .bytes)) (length (c .list))
-
-  abbrev all : List Condition
-  all = conversionConditions (c .words) n (c .limit) (c .ordered) (length (c .decisions)) (length (c .costs)) (length (c .bytes)) (length (c .list))
-
-  abbrev enough : Bool
-  enough = hasRoom n (length (c .decisions)) (length (c .costs)) (length (c .bytes)) (length (c .list))
+  others = rest (c .words) n (c .limit) (lengthsOf c)
 
   -- ---- a test that fails shows its cause
-  short : enough ≡ false → Refusal c 4
-  short e =
-      pick (decLt (length (c .decisions)) (tableSize n)) (decLt (length (c .costs)) (tableSize n))
-      (decLt (length (c .bytes)) (recordSize n)) (decLt (length (c .list)) n)
+  room-shows : hasRoom n (lengthsOf c) ≡ false → Refusal c 4
+  room-shows e = pick (short n (lengthsOf c) e)
     where
-      pick : Dec (length (c .decisions) < tableSize n) → Dec (length (c .costs) < tableSize n) → Dec (length (c .bytes) < recordSize n)
-          → Dec (length (c .list) < n) → Refusal c 4
-      pick (yes p) q r t = decisions-short p
-      pick (no p) (yes q) r t = costs-short q
-      pick (no p) (no q) (yes r) t = bytes-short r
-      pick (no p) (no q) (no r) (yes t) = list-short t
-      pick (no p) (no q) (no r) (no t) =
-          clash (sym e
-          ∙ sym (room-list n (length (c .decisions)) (length (c .costs)) (length (c .bytes)) (length (c .list))
-          (omega arith) (omega arith) (omega arith))
-          ∙ le-leb n (length (c .list)) (omega arith))
+      pick : Short n (lengthsOf c) → Refusal c 4
+      pick (inl p) = decisions-short p
+      pick (inr (inl p)) = costs-short p
+      pick (inr (inr (inl p))) = bytes-short p
+      pick (inr (inr (inr p))) = list-short p
 
-  early-shows : Shows (Refusal c) early
+  early-shows : Shows (Refusal c) (early c)
   unfolding prepareConditions
   early-shows =
-      shows-append (Refusal c) sizes others (shows-as (Cause (c .words) n) (Refusal c) (λ k. tree-refused) sizes (sizes-show (c .words) n))
+      let of-tree = shows-as (Cause (c .words) n) (Refusal c) (λ k. tree-refused) in
+      shows-append (Refusal c) sizes others (of-tree sizes (sizes-show (c .words) n))
       (λ p. (
         λ e. limit-over (leb-false (c .limit) 3 e),
-        λ q. (
-          short,
-          λ r.
-              shows-as (Cause (c .words) n) (Refusal c) (λ k. tree-refused) (structureConditions (c .words) n) (structure-shows (c .words) n),
-        ),
+        λ q.
+            (room-shows, λ r. of-tree (structureConditions (c .words) n) (structure-shows (c .words) n)),
       ))
-
-  convertible : Passed early → Convertible c
-  convertible = passed-prepared (c .words) n (c .limit) (length (c .decisions)) (length (c .costs)) (length (c .bytes)) (length (c .list))
 
   all-shows : Shows (Refusal c) all
   unfolding conversionConditions
   all-shows =
-      shows-append (Refusal c) early level early-shows
-      (λ p. let h = convertible p in (λ e. level-over (h .accepted) (over-deepest c h .1 (leb-false (deepestLevel c) 31 e)), λ q. tt))
+      shows-append (Refusal c) (early c) (last c) early-shows
+      (λ p. let h = passed-prepared (c .words) n (c .limit) (lengthsOf c) p in
+      (λ e. level-over (h .accepted) (over-deepest c h .1 (leb-false (deepestLevel c) 31 e)), λ q. tt))
 
   -- ---- a cause that holds makes a test fail, no later than its own
-  no-room : enough ≡ false → Fails 4 all
-  unfolding conversionConditions prepareConditions placeOf
-  no-room e = fails-first 4 early level (fails-later 4 sizes others (inr (inl (e, tt))))
+  early-fails : (j : ℕ) → Fails j (early c) → Fails j all
+  unfolding conversionConditions
+  early-fails j = fails-first j (early c) (last c)
 
-  -- what a short slice says of the test of room
-  lacking : ((tableSize n ≤ length (c .decisions)) × (tableSize n ≤ length (c .costs)) × (recordSize n ≤ length (c .bytes)) × (n ≤ length (c .list))
-      → ⊥) → enough ≡ false
-  lacking h = go enough refl
-    where
-      go : (b : Bool) → enough ≡ b → enough ≡ false
-      go true e = absurd (h (room-parts n (length (c .decisions)) (length (c .costs)) (length (c .bytes)) (length (c .list)) e))
-      go false e = e
-
-  tree-fails : (k : ℕ) → Cause (c .words) n k → Fails k all
-  unfolding conversionConditions prepareConditions
+  tree-fails : (k : ℕ) → Cause (c .words) n k → Fails k (early c)
+  unfolding prepareConditions
   tree-fails k q = pick (fails-parts k sizes (structureConditions (c .words) n) (cause-fails (c .words) n k q))
     where
-      pick : Fails k sizes ⊎ Fails k (structureConditions (c .words) n) → Fails k all
-      pick (inl f) = fails-first k early level (fails-first k sizes others f)
-      pick (inr f) = fails-first k early level (fails-later k sizes others (inr (inr f)))
+      pick : Fails k sizes ⊎ Fails k (structureConditions (c .words) n) → Fails k (early c)
+      pick (inl f) = fails-first k sizes others f
+      pick (inr f) = fails-later k sizes others (inr (inr f))
+
+  limit-fails : 3 < c .limit → Fails 3 (early c)
+  unfolding prepareConditions placeOf
+  limit-fails h = fails-later 3 sizes others (inl (lt-leb (c .limit) 3 h, tt))
+
+  room-fails : hasRoom n (lengthsOf c) ≡ false → Fails 4 (early c)
+  unfolding prepareConditions placeOf
+  room-fails e = fails-later 4 sizes others (inr (inl (e, tt)))
 
   -- a level over 31 is looked for only where none of the other tests fails
-  level-fails : Refusal c 8 → (Convertible c → 31 < deepestLevel c) → Fails 8 all
+  level-fails : (Convertible c → 31 < deepestLevel c) → Fails 8 all
   unfolding conversionConditions placeOf
-  level-fails r h = go (prepareCause (c .words) n (c .limit) (length (c .decisions)) (length (c .costs)) (length (c .bytes)) (length (c .list))) refl
+  level-fails h = go (firstCause (early c)) refl
     where
-      go : (k : ℕ) → prepareCause (c .words) n (c .limit) (length (c .decisions)) (length (c .costs)) (length (c .bytes)) (length (c .list)) ≡ k
-          → Fails 8 all
-      go zero e =
-          let p = prepared (c .words) n (c .limit) (length (c .decisions)) (length (c .costs)) (length (c .bytes)) (length (c .list)) e in
-          fails-later 8 early level (inl (lt-leb (deepestLevel c) 31 (h p), tt))
-      go (suc k) e =
-          fails-first 8 early level
-          (found-fails 8 early
-          (none-after-eight (c .words) n (c .limit) (length (c .decisions)) (length (c .costs)) (length (c .bytes)) (length (c .list)))
-          (λ z. omega (arith, e, z)))
+      go : (k : ℕ) → firstCause (early c) ≡ k → Fails 8 all
+      go zero e = fails-later 8 (early c) (last c) (inl (lt-leb (deepestLevel c) 31 (h (prepared (c .words) n (c .limit) (lengthsOf c) e)), tt))
+      go (suc k) e = early-fails 8 (found-fails 8 (early c) (none-after-eight (c .words) n (c .limit) (lengthsOf c)) (λ z. omega (arith, e, z)))
 
   fails : (j : ℕ) → Refusal c j → Fails j all
-  unfolding conversionConditions prepareConditions placeOf
-  fails j (tree-refused q) = tree-fails j q
-  fails j (limit-over h) = fails-first 3 early level (fails-later 3 sizes others (inl (lt-leb (c .limit) 3 h, tt)))
-  fails j (decisions-short h) = no-room (lacking (λ r. omega (arith, h, r .0)))
-  fails j (costs-short h) = no-room (lacking (λ r. omega (arith, h, r .1)))
-  fails j (bytes-short h) = no-room (lacking (λ r. omega (arith, h, r .2)))
-  fails j (list-short h) = no-room (lacking (λ r. omega (arith, h, r .3)))
-  fails j (level-over a h) = level-fails (level-over a h) (λ p. over-deepest c p .0 h)
+  fails j (tree-refused q) = early-fails j (tree-fails j q)
+  fails j (limit-over h) = early-fails 3 (limit-fails h)
+  fails j (decisions-short h) = early-fails 4 (room-fails (lacking n (lengthsOf c) (λ r. omega (arith, h, r .0))))
+  fails j (costs-short h) = early-fails 4 (room-fails (lacking n (lengthsOf c) (λ r. omega (arith, h, r .1))))
+  fails j (bytes-short h) = early-fails 4 (room-fails (lacking n (lengthsOf c) (λ r. omega (arith, h, r .2))))
+  fails j (list-short h) = early-fails 4 (room-fails (lacking n (lengthsOf c) (λ r. omega (arith, h, r .3))))
+  fails j (level-over a h) = level-fails (λ p. over-deepest c p .0 h)
 
   -- ---- the first cause
   ordered : T (sorted 0 all)
-  ordered = in-order (c .words) n (c .limit) (c .ordered) (length (c .decisions)) (length (c .costs)) (length (c .bytes)) (length (c .list))
+  ordered = in-order (c .words) n (c .limit) (c .ordered) (lengthsOf c)
 
   -- The call is refused with the number of the first cause that holds,
-  pub refused-first : (k : ℕ) → outcome c .answer ≡ refused k ↔ FirstRefusal c k
+  pub refused-first : (k : ℕ) → conversionOf c .answer ≡ refused k ↔ FirstRefusal c k
   refused-first k =
-      let r = A.refused-cause (c .words) (c .indices) (c .limit) (c .ordered) (c .decisions) (c .costs) (c .bytes) (c .list) k in
+      let r = A.refused-cause c k in
       let f = first-is (Refusal c) all ordered all-shows fails k in
       (λ e. f .0 (r .0 e), λ h. r .1 (f .1 h))
 
   -- and answered exactly if none does.
   pub answered-none : (m d : ℕ) → Answers c m d → (j : ℕ) → Refusal c j → ⊥
   answered-none m d e =
-      let a = A.answered (c .words) (c .indices) (c .limit) (c .ordered) (c .decisions) (c .costs) (c .bytes) (c .list) m d e in
-      let p = prepared-none (c .words) n (c .limit) (length (c .decisions)) (length (c .costs)) (length (c .bytes)) (length (c .list)) (a .none) in
-      first-none (Refusal c) all ordered all-shows fails .0
-      (cause-none (c .words) n (c .limit) (c .ordered) (length (c .decisions)) (length (c .costs)) (length (c .bytes)) (length (c .list)) p (a .low))
+      let a = A.answered c m d e in
+      first-none (Refusal c) all ordered all-shows fails .0 (cause-none c (A.convertible-none c (a .none)) (a .low))
 
-  pub none-answered : ((j : ℕ) → Refusal c j → ⊥) → Answers c (nodesOf (c .words) n (c .limit) (c .ordered)) (deepestLevel c)
-  none-answered h =
-      A.answers-none (c .words) (c .indices) (c .limit) (c .ordered) (c .decisions) (c .costs) (c .bytes) (c .list)
-      (first-none (Refusal c) all ordered all-shows fails .1 h)
+  pub none-answered : ((j : ℕ) → Refusal c j → ⊥) → Answers c (definedNodes c) (deepestLevel c)
+  none-answered h = A.answers-none c (first-none (Refusal c) all ordered all-shows fails .1 h)
 
   -- A refusal leaves both outputs as they were;
-  pub outputs-stay : (k : ℕ) → outcome c .answer ≡ refused k → (outcome c .bytes ≡ c .bytes) × (outcome c .list ≡ c .list)
+  pub outputs-stay : (k : ℕ) → conversionOf c .answer ≡ refused k → (conversionOf c .bytes ≡ c .bytes) × (conversionOf c .list ≡ c .list)
   outputs-stay k e =
-      let r = A.refused-keeps (c .words) (c .indices) (c .limit) (c .ordered) (c .decisions) (c .costs) (c .bytes) (c .list) k e in
+      let r = A.refused-keeps c k e in
       (r .bytes-kept, r .list-kept)
 
   -- one of 1 to 4 the working slices too,
-  pub working-slices-stay : (k : ℕ) → outcome c .answer ≡ refused k → k ≤ 4 → (outcome c .decisions ≡ c .decisions) × (outcome c .costs ≡ c .costs)
+  pub working-slices-stay : (k : ℕ) → conversionOf c .answer ≡ refused k → k ≤ 4
+      → (conversionOf c .decisions ≡ c .decisions) × (conversionOf c .costs ≡ c .costs)
   working-slices-stay k e l =
-      let r = A.refused-keeps (c .words) (c .indices) (c .limit) (c .ordered) (c .decisions) (c .costs) (c .bytes) (c .list) k e in
-      let p = A.refused-cause (c .words) (c .indices) (c .limit) (c .ordered) (c .decisions) (c .costs) (c .bytes) (c .list) k .0 e .1 in (
+      let r = A.refused-keeps c k e in
+      let p = A.refused-cause c k .0 e .1 in (
         r .decisions ∙ sym (work-kept 0 (wordOf (c .limit)) (c .words) n k (c .decisions) p l),
         r .costs ∙ sym (work-kept plusZero (costOf (c .limit)) (c .words) n k (c .costs) p l),
       )
 
   -- and one of 5 to 8 zeroes the part of them that is needed.
-  pub working-slices-cleared : (k : ℕ) → outcome c .answer ≡ refused k → 5 ≤ k
-      → (outcome c .decisions ≡ cleared 0 (tableSize n) (c .decisions)) × (outcome c .costs ≡ cleared plusZero (tableSize n) (c .costs))
+  pub working-slices-cleared : (k : ℕ) → conversionOf c .answer ≡ refused k → 5 ≤ k
+      → (conversionOf c .decisions ≡ cleared 0 (tableSize n) (c .decisions)) × (conversionOf c .costs ≡ cleared plusZero (tableSize n) (c .costs))
   working-slices-cleared k e l =
-      let r = A.refused-keeps (c .words) (c .indices) (c .limit) (c .ordered) (c .decisions) (c .costs) (c .bytes) (c .list) k e in (
+      let r = A.refused-keeps c k e in (
         r .decisions ∙ work-cleared 0 (wordOf (c .limit)) (c .words) n k (c .decisions) l,
         r .costs ∙ work-cleared plusZero (costOf (c .limit)) (c .words) n k (c .costs) l,
       )

@@ -4,8 +4,8 @@ use mathlib.Core.Bool.{Bool, true, false}
 use mathlib.Core.List.{List}
 use Prim.Native.Nat.{ℕ, zero, suc, _+_, _*_, _≤_}
 use native.Mathlib.Omega.{arith}
-use lib.Ieee.{Float}
 use Rattle.bvh2.proofs.Decoded.{accepted-decoded}
+use Rattle.tables.specs.Call.{Call, leafCount, Lengths, lengthsOf}
 use Rattle.tables.specs.Tables.{Prepared}
 use Rattle.wide_tree.proofs.Ordered.{node-count}
 use Rattle.bvh2_to_cwbvh.specs.Conversion.{nodesOf, Answer, converted, refused, conversionOf}
@@ -37,24 +37,24 @@ numbers-apart (refused m) (converted n k) h i e = absurd (omega arith)
 numbers-apart (refused m) (refused n) h i e = ap refused (omega arith)
 
 -- ---- every answer fits
-few-nodes : (ws : List ℕ) (n limit : ℕ) (ordered : Bool) (d c b l : ℕ) → Prepared ws n limit d c b l → nodesOf ws n limit ordered ≤ 65535
+few-nodes : (ws : List ℕ) (n limit : ℕ) (ordered : Bool) (l : Lengths) → Prepared ws n limit l → nodesOf ws n limit ordered ≤ 65535
 unfolding nodesOf
-few-nodes ws zero limit ordered d c b l p = omega arith
-few-nodes ws (suc n) limit ordered d c b l p =
+few-nodes ws zero limit ordered l p = omega arith
+few-nodes ws (suc n) limit ordered l p =
     let t = accepted-decoded ws (suc n) (omega arith) .0 (p .accepted) in omega (arith, node-count ordered limit ws (suc n) t (p .small), t .few)
 
-module _ (ws indices : List ℕ) (limit : ℕ) (ds : List ℕ) (cs : List Float) (bytes list : List ℕ) where
-  conversion-fits : (ordered : Bool) → Fits (conversionOf ws indices limit ordered ds cs bytes list .answer)
-  unfolding Fits
-  conversion-fits ordered = go _ refl
-    where
-      go : (a : Answer) → conversionOf ws indices limit ordered ds cs bytes list .answer ≡ a → Fits a
-      go (converted m d) e =
-          let h = answered ws indices limit ordered ds cs bytes list m d e in (omega (arith, h .nodes, few-nodes ws _ limit ordered _ _ _ _ (h .none)), omega (arith, h .level, h .low))
-      go (refused k) e = tt
+conversion-fits : (c : Call) → Fits (conversionOf c .answer)
+unfolding Fits
+conversion-fits c = go _ refl
+  where
+    go : (a : Answer) → conversionOf c .answer ≡ a → Fits a
+    go (converted m d) e =
+        let h = answered c m d e in
+        (omega (arith, h .nodes, few-nodes (c .words) (leafCount c) (c .limit) (c .ordered) (lengthsOf c) (h .none)), omega (arith, h .level, h .low))
+    go (refused k) e = tt
 
-  pub answer-fits : (order : ℕ) → Fits (conversionBy ws indices limit order ds cs bytes list .answer)
-  unfolding conversionBy Fits
-  answer-fits zero = conversion-fits false
-  answer-fits (suc zero) = conversion-fits true
-  answer-fits (suc (suc k)) = tt
+pub answer-fits : (order : ℕ) (call : Bool → Call) → Fits (conversionBy order call .answer)
+unfolding conversionBy Fits
+answer-fits zero call = conversion-fits (call false)
+answer-fits (suc zero) call = conversion-fits (call true)
+answer-fits (suc (suc k)) call = tt

@@ -11,7 +11,7 @@ ghost use Rattle.record_shape.specs.Check.{checkOf, wordsAfter};
 ghost use Rattle.validate.specs.Validity.{answerOf};
 ghost use Rattle.bvh2_to_cwbvh.specs.Answer.{answerOf as conversionAnswer};
 ghost use Rattle.funnelcress.specs.Answers.{answerNumber};
-ghost use Rattle.funnelcress.specs.Converted.{conversionBy, conversionNumber};
+ghost use Rattle.funnelcress.specs.Converted.{conversionBy, conversionNumber, handed};
 ghost use Rattle.any_hit.specs.AnyHit.{answerOf as anyHitAnswer};
 ghost use Rattle.closest.specs.Panes.{closestAnswer, closestResult, missResult};
 ghost use Rattle.funnelcress.specs.Queries.{anyHitBy, listBy, closestBy, distanceIn, missBy, shortCause};
@@ -163,11 +163,22 @@ pub extern "C" fn funnelcress_bvh2_to_cwbvh(
     record: &mut [u8],
     list: &mut [u32],
 ) -> u64
-    ensures { λ r. ⌜ r ≡ conversionNumber (conversionBy (now (words .entry)) (now (indices .entry)) limit order (now (decisions .entry)) (now (costs .entry)) (now («record» .entry)) (now (list .entry)) .answer) ⌝ }
-    ensures { λ _. ⌜ now (decisions .exit) ≡ conversionBy (now (words .entry)) (now (indices .entry)) limit order (now (decisions .entry)) (now (costs .entry)) (now («record» .entry)) (now (list .entry)) .decisions ⌝ }
-    ensures { λ _. ⌜ now (costs .exit) ≡ conversionBy (now (words .entry)) (now (indices .entry)) limit order (now (decisions .entry)) (now (costs .entry)) (now («record» .entry)) (now (list .entry)) .costs ⌝ }
-    ensures { λ _. ⌜ now («record» .exit) ≡ conversionBy (now (words .entry)) (now (indices .entry)) limit order (now (decisions .entry)) (now (costs .entry)) (now («record» .entry)) (now (list .entry)) .bytes ⌝ }
-    ensures { λ _. ⌜ now (list .exit) ≡ conversionBy (now (words .entry)) (now (indices .entry)) limit order (now (decisions .entry)) (now (costs .entry)) (now («record» .entry)) (now (list .entry)) .list ⌝ }
+    ensures { λ r. ⌜ record {
+      number = r;
+      decisions = now (decisions .exit);
+      costs = now (costs .exit);
+      bytes = now («record» .exit);
+      list = now (list .exit);
+    } ≡ handed (conversionBy order (λ ordered. record {
+      words = now (words .entry);
+      indices = now (indices .entry);
+      limit = limit;
+      ordered = ordered;
+      decisions = now (decisions .entry);
+      costs = now (costs .entry);
+      bytes = now («record» .entry);
+      list = now (list .entry);
+    })) ⌝ }
 {
     if order > 1 {
         let cause = bvh2_check::sizes(words, indices.len());

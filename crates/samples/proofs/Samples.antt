@@ -47,7 +47,7 @@ use Rattle.wide.specs.Shape.{nodeAt}
 use Rattle.record.specs.Record.{metas, innerMask, gridBox, gridBoxes, nodeOf, joined, recordBytes}
 use Rattle.tables.specs.Tables.{recordSize, hasRoom, prepareConditions}
 use Rattle.bvh2_to_cwbvh.specs.Conversion.{converted, refused, recordOf, nodesOf, levelOf, positionsOf, listOf}
-use Rattle.bvh2_to_cwbvh.specs.Conversion.{conversionConditions, answerFor, conversionOf}
+use Rattle.bvh2_to_cwbvh.specs.Conversion.{conversionConditions, answerFor, outcomeFor, conversionOf}
 use Rattle.samples.specs.TreeT.{number, wordsT, indicesT, panesT, bytesT}
 use Rattle.samples.specs.Samples.{nextAbove, extentByte, convert, ahead, beside, rootWord, rootCost, Samples}
 
@@ -73,26 +73,30 @@ unfolding recordOf linkOf boxAt readLink boxOf positions table decision bestOf l
 ordered-T = refl
 
 nothing : convert [] [] 3 ≡ converted 0 0
-unfolding convert conversionOf conversionConditions answerFor levelOf nodesOf firstCause prepareConditions hasRoom recordSize sizeConditions
+unfolding convert conversionOf outcomeFor conversionConditions answerFor levelOf nodesOf firstCause prepareConditions hasRoom recordSize
+    sizeConditions
     structureConditions
     isInside isPosition isWhole eachOnce isTree same count labels allBelow inBounds boundedVec acceptedBox aabb.inOrder le
 nothing = refl
 
 limit-3 : convert wordsT indicesT 3 ≡ converted 1 0
-unfolding convert conversionOf conversionConditions answerFor levelOf nodesOf firstCause prepareConditions hasRoom recordSize sizeConditions
+unfolding convert conversionOf outcomeFor conversionConditions answerFor levelOf nodesOf firstCause prepareConditions hasRoom recordSize
+    sizeConditions
     structureConditions
     isInside isPosition isWhole eachOnce isTree same count labels allBelow inBounds boundedVec acceptedBox aabb.inOrder le linkOf boxAt readLink
     boxOf positions table decision bestOf leaves halfArea wideOf slotsFrom childrenOf slotsOf inOrder partner ofBits ofInt add sub mul lt
 limit-3 = refl
 
 limit-4 : convert wordsT indicesT 4 ≡ refused 3
-unfolding convert conversionOf conversionConditions answerFor levelOf nodesOf firstCause prepareConditions hasRoom recordSize sizeConditions
+unfolding convert conversionOf outcomeFor conversionConditions answerFor levelOf nodesOf firstCause prepareConditions hasRoom recordSize
+    sizeConditions
     structureConditions
     isInside isPosition isWhole eachOnce isTree same count labels allBelow inBounds boundedVec acceptedBox aabb.inOrder le
 limit-4 = refl
 
 limit-4-nothing : convert [] [] 4 ≡ refused 3
-unfolding convert conversionOf conversionConditions answerFor levelOf nodesOf firstCause prepareConditions hasRoom recordSize sizeConditions
+unfolding convert conversionOf outcomeFor conversionConditions answerFor levelOf nodesOf firstCause prepareConditions hasRoom recordSize
+    sizeConditions
     structureConditions
     isInside isPosition isWhole eachOnce isTree same count labels allBelow inBounds boundedVec acceptedBox aabb.inOrder le
 limit-4-nothing = refl

@@ -26,7 +26,16 @@ extentByte x = exponentOf (number 0) x
 -- a conversion's answer for a leaf limit, with room for two leaves
 unfoldable pub convert : List ℕ → List ℕ → ℕ → Answer
 unfolding conversionOf
-convert ws indices limit = conversionOf ws indices limit false (replicate 21 0) (replicate 21 (number 0)) (replicate 80 0) (replicate 2 0) .answer
+convert ws indices limit = conversionOf (record {
+  words = ws;
+  indices = indices;
+  limit = limit;
+  ordered = false;
+  decisions = replicate 21 0;
+  costs = replicate 21 (number 0);
+  bytes = replicate 80 0;
+  list = replicate 2 0;
+}) .answer
 
 -- the sample's ray, and its neighbour with −0.0: their reach is without end
 abbrev pub ahead : Ray

@@ -1,6 +1,5 @@
 -- What is printed from the lent slices is the tree's text, whatever stands behind the record and the list.
 use mathlib.Core.Path.{_≡_, refl, sym, ap, ap₂, _∙_}
-use mathlib.Core.Bool.{Bool}
 use mathlib.Core.List.{List, _++_}
 use Prim.Native.Nat.{ℕ, zero, suc, _+_, _*_, _≤_, _<_}
 use native.Mathlib.Omega.{arith}
@@ -10,10 +9,11 @@ use lib.Seq.{take-append-le, drop-append-le}
 use Rattle.lists.specs.Splice.{splice}
 use Rattle.lists.proofs.Splice.{splice-taken}
 use Rattle.show.specs.Show.{nodeLine, nodeLines, indicesLine, recordText, refusalText}
-use Rattle.bvh2_to_cwbvh.specs.Conversion.{recordOf, nodesOf, listOf, conversionOf}
+use Rattle.tables.specs.Call.{Call, leafCount}
+use Rattle.bvh2_to_cwbvh.specs.Conversion.{definedRecord, definedNodes, definedList, conversionOf}
 use Rattle.bvh2_to_cwbvh.specs.declared.Conversion.{Conversion}
 use Rattle.bvh2_to_cwbvh.specs.declared.Conversion.the-variants.{Refused}
-use Rattle.bvh2_to_cwbvh.specs.Answer.{answerOf}
+use Rattle.bvh2_to_cwbvh.specs.Answer.{outcomeOf}
 use Rattle.show_text.specs.ShowText.{mostLeaves, causeText, treeText}
 use Rattle.show_text.specs.Room.{Room}
 use Rattle.show_text.proofs.Trees.{Converts, refuses}
@@ -50,27 +50,28 @@ wrote-fits s text r t h =
     let e : take (length text) t ≡ text = ap (take (length text)) (h .1) ∙ splice-taken s text (length text) refl in
     omega (arith, h .0, ap length e, length-take (length text) t)
 
-module _ (ws indices : List ℕ) (limit : ℕ) (ordered : Bool) (ds : List ℕ) (cs : List Float) (bytes list : List ℕ) (out : ℕ)
-    (few : length indices ≤ mostLeaves) (room : Room (length ds) (length cs) (length bytes) (length list) out) where
+module _ (c : Call) (out : ℕ) (few : leafCount c ≤ mostLeaves)
+    (room : Room (length (c .decisions)) (length (c .costs)) (length (c .bytes)) (length (c .list)) out) where
   -- the record and the list, as they are printed
-  pub record-shown : (m : ℕ) (bytes₁ list₁ : List ℕ) → Converts ws indices limit ordered ds cs bytes list out few room m bytes₁ list₁
-      → recordText bytes₁ m (take (length indices) list₁) ≡ treeText ws indices limit ordered
+  pub record-shown : (m : ℕ) (bytes₁ list₁ : List ℕ) → Converts c out few room m bytes₁ list₁
+      → recordText bytes₁ m (take (leafCount c) list₁) ≡ treeText (c .words) (c .indices) (c .limit) (c .ordered)
   unfolding treeText causeText
   record-shown m bytes₁ list₁ h =
-      let b = recordOf ws (length indices) limit ordered in
-      let l = listOf ws indices limit ordered in
-      let w = record-written bytes b list l (nodesOf ws (length indices) limit ordered) (length indices) (h .sizes-are .bytes-length) (h .sizes-are .list-length) in
-      ap₂ (λ (x y : List ℕ). recordText x m (take (length indices) y)) (h .bytes-are) (h .list-is)
-      ∙ ap (λ (k : ℕ). recordText (splice bytes 0 b) k (take (length indices) (splice list 0 l))) (h .nodes-are)
-      ∙ w ∙ ap (causeText ws indices limit ordered) (sym (h .none))
+      let b = definedRecord c in
+      let l = definedList c in
+      let w = record-written (c .bytes) b (c .list) l (definedNodes c) (leafCount c) (h .sizes-are .bytes-length) (h .sizes-are .list-length) in
+      ap₂ (λ (x y : List ℕ). recordText x m (take (leafCount c) y)) (h .bytes-are) (h .list-is)
+      ∙ ap (λ (k : ℕ). recordText (splice (c .bytes) 0 b) k (take (leafCount c) (splice (c .list) 0 l))) (h .nodes-are)
+      ∙ w ∙ ap (causeText (c .words) (c .indices) (c .limit) (c .ordered)) (sym (h .none))
 
   -- the number of the cause
-  pub refusal-shown : (v : Conversion) (k : ℕ) → v ≡ Refused k → answerOf v ≡ conversionOf ws indices limit ordered ds cs bytes list .answer → refusalText k ≡ treeText ws indices limit ordered
+  pub refusal-shown : (v : Conversion) (ds₁ : List ℕ) (cs₁ : List Float) (bytes₁ list₁ : List ℕ) → outcomeOf v ds₁ cs₁ bytes₁ list₁ ≡ conversionOf c
+      → (k : ℕ) → v ≡ Refused k → refusalText k ≡ treeText (c .words) (c .indices) (c .limit) (c .ordered)
   unfolding treeText causeText
-  refusal-shown v k e a =
-      let h = refuses ws indices limit ordered ds cs bytes list out few room v k e a in
-      number k (h .1) ∙ ap (causeText ws indices limit ordered) (sym (h .0))
+  refusal-shown v ds₁ cs₁ bytes₁ list₁ e k q =
+      let h = refuses c out few room v ds₁ cs₁ bytes₁ list₁ e k q in
+      number k (h .1) ∙ ap (causeText (c .words) (c .indices) (c .limit) (c .ordered)) (sym (h .0))
     where
-      number : (k : ℕ) → 0 < k → refusalText k ≡ causeText ws indices limit ordered k
+      number : (k : ℕ) → 0 < k → refusalText k ≡ causeText (c .words) (c .indices) (c .limit) (c .ordered) k
       number zero h = absurd (omega arith)
       number (suc k) h = refl

@@ -6,8 +6,10 @@ use lib.Dec.{eqb, leb, ltb}
 use lib.ListN.{length}
 use Rattle.words.specs.Le.{leAt}
 use Rattle.bvh2.specs.Words.{nodeCount}
+use Rattle.causes.specs.Causes.{firstCause}
+use Rattle.tables.specs.Call.{Lengths}
 use Rattle.tables.specs.Tables.{tableSize, recordSize}
-use Rattle.bvh2_to_cwbvh.specs.Conversion.{recordOf, nodesOf, listOf, conversionCause}
+use Rattle.bvh2_to_cwbvh.specs.Conversion.{recordOf, nodesOf, listOf, conversionConditions}
 use Rattle.show.specs.Input.{inputWords}
 use Rattle.show.specs.Show.{recordText, refusalText}
 
@@ -34,9 +36,13 @@ indexWords input n = inputWords input (12 + 4 * treeSize n) n
 
 -- ---- the answer
 
+-- slices as long as n leaves need
+abbrev pub needed : ℕ → Lengths
+needed n = record { decisions = tableSize n; costs = tableSize n; bytes = recordSize n; list = n }
+
 -- conversion's first cause of refusal where no slice is short; 0 for none
 abbrev pub roomyCause : List ℕ → (n limit : ℕ) → Bool → ℕ
-roomyCause ws n limit ordered = conversionCause ws n limit ordered (tableSize n) (tableSize n) (recordSize n) n
+roomyCause ws n limit ordered = firstCause (conversionConditions ws n limit ordered (needed n))
 
 -- the record and the index list of a tree, or the number of the cause
 unfoldable pub causeText : (ws indices : List ℕ) (limit : ℕ) → Bool → ℕ → List ℕ

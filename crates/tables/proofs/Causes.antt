@@ -7,12 +7,16 @@ use Prim.Native.Nat.{ℕ, zero, suc, _≤_, _<_}
 use native.Mathlib.Omega.{arith}
 use lib.Dec.{T, leb, leb→le}
 use lib.ListN.{length}
+use lib.Ieee.{Float}
 use borrow.Author.Tests.{le-leb, lt-leb}
+use Rattle.float.specs.Compare.{plusZero}
 use Rattle.causes.specs.Causes.{Condition, _unless_, firstCause}
 use Rattle.causes.proofs.Causes.{first-here, first-later, Passed, sorted, none-passed, append-first, append-later, allNumbers, first-among}
 use Rattle.bvh2.specs.Tree.{Tree}
 use Rattle.bvh2.specs.FirstCause.{sizeConditions, structureConditions, sizesCause, structureCause}
 use Rattle.bvh2.proofs.First.{sizes-passed, sizes-none}
+use Rattle.cost.specs.Table.{wordOf, costOf}
+use Rattle.tables.specs.Call.{Lengths}
 use Rattle.tables.specs.Tables.{tableSize, hasRoom, prepareConditions, prepareCause, cleared, tabled, workAfter}
 
 -- ---- the range of each part
@@ -37,37 +41,37 @@ structure-range ws n = pick (first-among (leb 5) (structureConditions ws n) (num
     pick (inr h) = inr (leb→le 5 (structureCause ws n) h)
 
 -- ---- the first cause
-prepare-sorted : (ws : List ℕ) (n limit d c b l : ℕ) → T (sorted 0 (prepareConditions ws n limit d c b l))
+prepare-sorted : (ws : List ℕ) (n limit : ℕ) (l : Lengths) → T (sorted 0 (prepareConditions ws n limit l))
 unfolding prepareConditions sizeConditions structureConditions sorted
-prepare-sorted ws zero limit d c b l = tt
-prepare-sorted ws (suc n) limit d c b l = tt
+prepare-sorted ws zero limit l = tt
+prepare-sorted ws (suc n) limit l = tt
 
-module _ (ws : List ℕ) (n limit d c b l : ℕ) where
+module _ (ws : List ℕ) (n limit : ℕ) (l : Lengths) where
   -- behind the sizes
   abbrev pub rest : List Condition
-  rest = 3 unless leb limit 3 ∷ 4 unless hasRoom n d c b l ∷ structureConditions ws n
+  rest = 3 unless leb limit 3 ∷ 4 unless hasRoom n l ∷ structureConditions ws n
 
-  pub cause-size : (k : ℕ) → k ≡ sizesCause (length ws) n → (k ≡ 0 → ⊥) → k ≡ prepareCause ws n limit d c b l
+  pub cause-size : (k : ℕ) → k ≡ sizesCause (length ws) n → (k ≡ 0 → ⊥) → k ≡ prepareCause ws n limit l
   unfolding prepareConditions
   cause-size k e h = e ∙ sym (append-first (sizeConditions (length ws) n) rest (λ z. h (e ∙ z)))
 
   module _ (size : sizesCause (length ws) n ≡ 0) where
-    behind : prepareCause ws n limit d c b l ≡ firstCause rest
+    behind : prepareCause ws n limit l ≡ firstCause rest
     unfolding prepareConditions
     behind = append-later (sizeConditions (length ws) n) rest (sizes-passed ws n (sizes-none ws n .0 size))
 
-    pub cause-limit : 3 < limit → 3 ≡ prepareCause ws n limit d c b l
+    pub cause-limit : 3 < limit → 3 ≡ prepareCause ws n limit l
     cause-limit h = sym (behind ∙ first-here _ (lt-leb limit 3 h))
 
-    pub cause-room : limit ≤ 3 → hasRoom n d c b l ≡ false → 4 ≡ prepareCause ws n limit d c b l
+    pub cause-room : limit ≤ 3 → hasRoom n l ≡ false → 4 ≡ prepareCause ws n limit l
     cause-room h r = sym (behind ∙ first-later 3 _ (le-leb limit 3 h) ∙ first-here _ r)
 
-    pub cause-structure : limit ≤ 3 → hasRoom n d c b l ≡ true → structureCause ws n ≡ prepareCause ws n limit d c b l
+    pub cause-structure : limit ≤ 3 → hasRoom n l ≡ true → structureCause ws n ≡ prepareCause ws n limit l
     cause-structure h r = sym (behind ∙ first-later 3 _ (le-leb limit 3 h) ∙ first-later 4 _ r)
 
   -- all tests pass where there is none
-  pub prepare-passed : prepareCause ws n limit d c b l ≡ 0 → Passed (prepareConditions ws n limit d c b l)
-  prepare-passed e = none-passed 0 (prepareConditions ws n limit d c b l) (prepare-sorted ws n limit d c b l) e
+  pub prepare-passed : prepareCause ws n limit l ≡ 0 → Passed (prepareConditions ws n limit l)
+  prepare-passed e = none-passed 0 (prepareConditions ws n limit l) (prepare-sorted ws n limit l) e
 
 -- ---- the working slices
 module _ {A : Type 0} (z : A) (g : Tree ℕ → ℕ → A) (ws : List ℕ) where
@@ -97,6 +101,11 @@ module _ {A : Type 0} (z : A) (g : Tree ℕ → ℕ → A) (ws : List ℕ) where
   work-tabled (suc n) zero s u p r e = e
   work-tabled (suc n) (suc k) s u p (inl r) e = absurd (omega arith)
   work-tabled (suc n) (suc k) s u p (inr r) e = e ∙ sym (work-cleared (suc n) (suc k) s r)
+
+-- decisions and costs, for causes 1 to 4
+pub both-kept : (limit : ℕ) (ws : List ℕ) (n k : ℕ) (ds : List ℕ) (cs : List Float) → 0 < k → k ≤ 4
+    → (ds ≡ workAfter 0 (wordOf limit) ws n k ds) × (cs ≡ workAfter plusZero (costOf limit) ws n k cs)
+both-kept limit ws n k ds cs p q = (work-kept 0 (wordOf limit) ws n k ds p q, work-kept plusZero (costOf limit) ws n k cs p q)
 
 -- no leaf, no cause of structure
 pub nothing : (ws : List ℕ) (n : ℕ) → n ≡ 0 → 0 ≡ structureCause ws n

@@ -4,7 +4,7 @@ use mathlib.Core.List.{List}
 use Prim.Native.Nat.{ℕ, zero, suc, _≤_, _<_}
 use native.Mathlib.Omega.{arith}
 use lib.ListN.{length}
-use borrow.Author.Tests.{le-leb, leb-true}
+use borrow.Author.Tests.{leb-true}
 use Rattle.causes.proofs.Causes.{Passed, passed-none, passed-parts}
 use Rattle.bvh2.specs.Tree.{Tree}
 use Rattle.bvh2.specs.Words.{nodeCount, treeOf}
@@ -14,20 +14,21 @@ use Rattle.bvh2.proofs.First.{sizes-fit, sizes-none, structure-none, accepted-s
 use Rattle.bvh2.proofs.Subtree.{root}
 use Rattle.cost.specs.Rows.{fill, Holds}
 use Rattle.cost.proofs.Fill.{inside, length-fill}
+use Rattle.tables.specs.Call.{Lengths}
 use Rattle.tables.specs.Tables.{Prepared, tableSize, prepareConditions, prepareCause, cleared, tabled, workAfter}
 use Rattle.tables.proofs.Cleared.{cleared-length}
-use Rattle.tables.proofs.Room.{room-parts, room-list}
+use Rattle.tables.proofs.Room.{room-parts, room-enough}
 use Rattle.tables.proofs.Causes.{rest, cause-structure, prepare-passed}
 
 -- ---- none of causes 1 to 7
-module _ (ws : List ℕ) (n limit d c b l : ℕ) where
+module _ (ws : List ℕ) (n limit : ℕ) (l : Lengths) where
   -- from the tests
-  pub passed-prepared : Passed (prepareConditions ws n limit d c b l) → Prepared ws n limit d c b l
+  pub passed-prepared : Passed (prepareConditions ws n limit l) → Prepared ws n limit l
   unfolding prepareConditions
   passed-prepared p =
-      let q = passed-parts (sizeConditions (length ws) n) (rest ws n limit d c b l) p in
+      let q = passed-parts (sizeConditions (length ws) n) (rest ws n limit l) p in
       let s = sizes-fit ws n (q .0) in
-      let r = room-parts n d c b l (q .1 .1 .0) in
+      let r = room-parts n l (q .1 .1 .0) in
       record {
         accepted = structure-none ws n s .0 (passed-none (structureConditions ws n) (q .1 .1 .1));
         small = leb-true limit 3 (q .1 .0);
@@ -37,13 +38,13 @@ module _ (ws : List ℕ) (n limit d c b l : ℕ) where
         list = r .3;
       }
 
-  pub prepared : prepareCause ws n limit d c b l ≡ 0 → Prepared ws n limit d c b l
-  prepared e = passed-prepared (prepare-passed ws n limit d c b l e)
+  pub prepared : prepareCause ws n limit l ≡ 0 → Prepared ws n limit l
+  prepared e = passed-prepared (prepare-passed ws n limit l e)
 
-  pub prepared-none : Prepared ws n limit d c b l → prepareCause ws n limit d c b l ≡ 0
+  pub prepared-none : Prepared ws n limit l → prepareCause ws n limit l ≡ 0
   prepared-none h =
       let s = accepted-sized ws n (h .accepted) in
-      sym (cause-structure ws n limit d c b l (sizes-none ws n .1 s) (h .small) (sym (room-list n d c b l (h .words) (h .costs) (h .bytes)) ∙ le-leb n l (h .list)))
+      sym (cause-structure ws n limit l (sizes-none ws n .1 s) (h .small) (room-enough n l (h .words) (h .costs) (h .bytes) (h .list)))
       ∙ structure-none ws n s .1 (h .accepted)
 
 -- ---- the tables then

@@ -10,6 +10,7 @@ use Rattle.bvh2.specs.Words.{nodeCount, treeOf}
 use Rattle.bvh2.specs.Causes.{Accepted}
 use Rattle.bvh2.specs.FirstCause.{sizeConditions, structureConditions}
 use Rattle.cost.specs.Rows.{fill}
+use Rattle.tables.specs.Call.{Lengths}
 
 -- how many decision words, and how many costs, n leaves need
 abbrev pub tableSize : ℕ → ℕ
@@ -21,27 +22,26 @@ recordSize zero = 0
 recordSize (suc k) = 80 * max 1 k
 
 -- decisions, costs, record bytes and output indices are long enough
-unfoldable pub hasRoom : ℕ → (decisions costs bytes list : ℕ) → Bool
+unfoldable pub hasRoom : ℕ → Lengths → Bool
 unfolding recordSize
-hasRoom n decisions costs bytes list = leb (tableSize n) decisions && leb (tableSize n) costs && leb (recordSize n) bytes && leb n list
+hasRoom n l = leb (tableSize n) (l .decisions) && leb (tableSize n) (l .costs) && leb (recordSize n) (l .bytes) && leb n (l .list)
 
 -- the tree's sizes, then the leaf limit, then the lengths, then the tree's structure
-unfoldable pub prepareConditions : List ℕ → (n limit decisions costs bytes list : ℕ) → List Condition
+unfoldable pub prepareConditions : List ℕ → (n limit : ℕ) → Lengths → List Condition
 unfolding sizeConditions structureConditions hasRoom
-prepareConditions ws n limit decisions costs bytes list =
-    sizeConditions (length ws) n ++ 3 unless leb limit 3 ∷ 4 unless hasRoom n decisions costs bytes list ∷ structureConditions ws n
+prepareConditions ws n limit l = sizeConditions (length ws) n ++ 3 unless leb limit 3 ∷ 4 unless hasRoom n l ∷ structureConditions ws n
 
-abbrev pub prepareCause : List ℕ → (n limit decisions costs bytes list : ℕ) → ℕ
-prepareCause ws n limit decisions costs bytes list = firstCause (prepareConditions ws n limit decisions costs bytes list)
+abbrev pub prepareCause : List ℕ → (n limit : ℕ) → Lengths → ℕ
+prepareCause ws n limit l = firstCause (prepareConditions ws n limit l)
 
--- none of these causes: the tree is accepted, the limit is at most 3, and d decision words, c costs, b record bytes and l output indices are enough
-pub record Prepared (ws : List ℕ) (n limit d c b l : ℕ) : Type 0 where
+-- none of these causes: the tree is accepted, the limit is at most 3, and the slices are long enough
+pub record Prepared (ws : List ℕ) (n limit : ℕ) (l : Lengths) : Type 0 where
   pub accepted : Accepted ws n
   pub small : limit ≤ 3
-  pub words : tableSize n ≤ d
-  pub costs : tableSize n ≤ c
-  pub bytes : recordSize n ≤ b
-  pub list : n ≤ l
+  pub words : tableSize n ≤ l .decisions
+  pub costs : tableSize n ≤ l .costs
+  pub bytes : recordSize n ≤ l .bytes
+  pub list : n ≤ l .list
 
 -- the list with its first k elements made z
 abbrev pub cleared : {A : Type 0} → A → ℕ → List A → List A

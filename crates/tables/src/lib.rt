@@ -49,7 +49,7 @@ fn record_size(n: usize) -> usize
 // Whether decisions, costs, record bytes and output indices are long enough for n leaves.
 fn has_room(n: usize, decisions: usize, costs: usize, bytes: usize, list: usize) -> bool
     requires { ⌜ n ≤ 65536 ⌝ }
-    ensures { λ r. ⌜ r ≡ hasRoom n decisions costs bytes list ⌝ }
+    ensures { λ r. ⌜ r ≡ hasRoom n (record { decisions = decisions; costs = costs; bytes = bytes; list = list }) ⌝ }
 {
     if n == 0 {
         return true;
@@ -96,7 +96,8 @@ pub fn prepare(
     decisions: &mut [u32],
     costs: &mut [f32],
 ) -> u32
-    ensures { λ r. ⌜ r ≡ prepareCause (now (words .entry)) n limit (length (now (decisions .entry))) (length (now (costs .entry))) bytes list ⌝ }
+    ensures { λ r. ⌜ r ≡ prepareCause (now (words .entry)) n limit
+        (record { decisions = length (now (decisions .entry)); costs = length (now (costs .entry)); bytes = bytes; list = list }) ⌝ }
     ensures { λ r. ⌜ now (decisions .exit) ≡ workAfter 0 (wordOf limit) (now (words .entry)) n r (now (decisions .entry)) ⌝ }
     ensures { λ r. ⌜ now (costs .exit) ≡ workAfter plusZero (costOf limit) (now (words .entry)) n r (now (costs .entry)) ⌝ }
 {

@@ -1,12 +1,34 @@
 use Prim.Native.Nat.{_<_}
 use native.Mathlib.Omega.{arith}
-use lib.ListN.{length}
 use borrow.Author.Needs.{needs}
+use Rattle.tables.specs.Call.{Call, leafCount}
 use Rattle.bvh2_to_cwbvh.specs.Answer.{answerOf}
-use Rattle.bvh2_to_cwbvh.proofs.Endings.{early-ends, empty-ends, level-ready, emit-ready, few-leaves, words-room, costs-room, deep-ends, written-ends, nodes-fit}
+use Rattle.bvh2_to_cwbvh.proofs.Endings.{Prepares, early-ends, empty-ends, level-ready, emit-ready, few-leaves, words-room, costs-room}
+use Rattle.bvh2_to_cwbvh.proofs.Endings.{deep-ends, written-ends, nodes-fit}
 use Rattle.bvh2_to_cwbvh.proofs.bvh2_to_cwbvh.Statement.{statement}
 use Rattle.bvh2_to_cwbvh.proofs.bvh2_to_cwbvh.Tie as tie
 
+-- ---- the call, and what is known once the tables are made
+abbrev call : tie.After-prepare → Call
+call q =
+    let b = q .before .before .before in
+    let d = b .before .before .before in
+    let a = d .before .before .before .args in
+    record {
+      words = a .words .now;
+      indices = a .indices .now;
+      limit = a .limit;
+      ordered = a .ordered;
+      decisions = a .decisions .now;
+      costs = a .costs .now;
+      bytes = a .«record» .now;
+      list = a .list .now;
+    }
+
+prepares : (q : tie.After-prepare) → let l = q .prepare .last .1 .1 .1 .1 .1 in Prepares (call q) (q .prepare .result) (l .0) (l .1 .0)
+prepares q = let e = q .prepare .ensures in record { cause = e .0; decisions = e .1 .0; costs = e .1 .1 }
+
+-- ---- the needs
 prepare-requires : tie.Need-prepare-requires
 prepare-requires c κs = search needs
 
@@ -19,9 +41,9 @@ same-length-2 c = search needs
 returns : tie.Need-returns
 unfolding answerOf
 returns c =
-    let q = c .before .before .before .before .before in
-    let a = q .before .before .before .before .before .before .before .before .before .args in
-    early-ends (a .words .now) (a .indices .now) (a .limit) (a .ordered) (a .decisions .now) (a .costs .now) (a .«record» .now) (a .list .now) (q .prepare .result) (q .prepare .last .1 .1 .1 .1 .1 .0) (q .prepare .last .1 .1 .1 .1 .1 .1 .0) (q .prepare .ensures) (c .if1 .taken)
+    let b = c .before .before in
+    let q = b .before .before .before in
+    early-ends (prepares q) (c .if1 .taken)
 
 same-length-3 : tie.Need-same-length-3
 same-length-3 c = search needs
@@ -32,16 +54,19 @@ same-length-4 c = search needs
 returns-2 : tie.Need-returns-2
 unfolding answerOf
 returns-2 c =
-    let q = c .before .before .before .before .before .before in
-    let a = q .before .before .before .before .before .before .before .before .before .args in
-    empty-ends (a .words .now) (a .indices .now) (a .limit) (a .ordered) (a .decisions .now) (a .costs .now) (a .«record» .now) (a .list .now) (q .prepare .result) (q .prepare .last .1 .1 .1 .1 .1 .0) (q .prepare .last .1 .1 .1 .1 .1 .1 .0) (q .prepare .ensures) (c .before .if1 .left) (c .if2 .taken)
+    let e = c .before in
+    let b = e .before .before in
+    let q = b .before .before .before in
+    empty-ends (prepares q) (e .if1 .left) (c .if2 .taken)
 
 deepest-level-requires : tie.Need-deepest-level-requires
 deepest-level-requires c κs =
-    let q = c .before .before .before .before .before .before .before in
-    let a = q .before .before .before .before .before .before .before .before .before .args in
-    let some : 0 < length (a .indices .now) = omega (arith, c .before .if2 .left) in
-    level-ready (a .words .now) (a .indices .now) (a .limit) (a .ordered) (a .decisions .now) (a .costs .now) (a .«record» .now) (a .list .now) (q .prepare .result) (q .prepare .last .1 .1 .1 .1 .1 .0) (q .prepare .last .1 .1 .1 .1 .1 .1 .0) (q .prepare .ensures) (c .before .before .if1 .left) some
+    let s = c .before in
+    let e = s .before in
+    let b = e .before .before in
+    let q = b .before .before .before in
+    let some : 0 < leafCount (call q) = omega (arith, s .if2 .left) in
+    level-ready (prepares q) (e .if1 .left) some
 
 mul-k : tie.Need-mul-k
 mul-k c = search needs
@@ -51,24 +76,33 @@ sub-k c = search needs
 
 mul-k-2 : tie.Need-mul-k-2
 mul-k-2 c =
-    let q = c .before .before .before .before .before .before .before .before .before in
-    let a = q .before .before .before .before .before .before .before .before .before .args in
-    let some : 0 < length (a .indices .now) = omega (arith, c .before .before .before .if2 .left) in
-    omega (arith, few-leaves (a .words .now) (a .indices .now) (a .limit) (a .ordered) (a .decisions .now) (a .costs .now) (a .«record» .now) (a .list .now) (q .prepare .result) (q .prepare .last .1 .1 .1 .1 .1 .0) (q .prepare .last .1 .1 .1 .1 .1 .1 .0) (q .prepare .ensures) (c .before .before .before .before .if1 .left) some)
+    let s = c .before .before .before in
+    let e = s .before in
+    let b = e .before .before in
+    let q = b .before .before .before in
+    let some : 0 < leafCount (call q) = omega (arith, s .if2 .left) in
+    omega (arith, few-leaves (prepares q) (e .if1 .left) some)
 
 clear-words-requires : tie.Need-clear-words-requires
 clear-words-requires c κs =
-    let q = c .before .before .before .before .before .before .before .before .before .before in
-    let a = q .before .before .before .before .before .before .before .before .before .args in
-    let some : 0 < length (a .indices .now) = omega (arith, c .before .before .before .before .if2 .left) in
-    omega (arith, words-room (a .words .now) (a .indices .now) (a .limit) (a .ordered) (a .decisions .now) (a .costs .now) (a .«record» .now) (a .list .now) (q .prepare .result) (q .prepare .last .1 .1 .1 .1 .1 .0) (q .prepare .last .1 .1 .1 .1 .1 .1 .0) (q .prepare .ensures) (c .before .before .before .before .before .if1 .left) some)
+    let t = c .before .before in
+    let s = t .before .before in
+    let e = s .before in
+    let b = e .before .before in
+    let q = b .before .before .before in
+    let some : 0 < leafCount (call q) = omega (arith, s .if2 .left) in
+    omega (arith, words-room (prepares q) (e .if1 .left) some)
 
 clear-costs-requires : tie.Need-clear-costs-requires
 clear-costs-requires c κs =
-    let q = c .before .before .before .before .before .before .before .before .before .before .before .before .before .before in
-    let a = q .before .before .before .before .before .before .before .before .before .args in
-    let some : 0 < length (a .indices .now) = omega (arith, c .before .before .before .before .before .before .before .before .if2 .left) in
-    omega (arith, costs-room (a .words .now) (a .indices .now) (a .limit) (a .ordered) (a .decisions .now) (a .costs .now) (a .«record» .now) (a .list .now) (q .prepare .result) (q .prepare .last .1 .1 .1 .1 .1 .0) (q .prepare .last .1 .1 .1 .1 .1 .1 .0) (q .prepare .ensures) (c .before .before .before .before .before .before .before .before .before .if1 .left) some)
+    let w = c .before .before .before in
+    let t = w .before .before .before in
+    let s = t .before .before in
+    let e = s .before in
+    let b = e .before .before in
+    let q = b .before .before .before in
+    let some : 0 < leafCount (call q) = omega (arith, s .if2 .left) in
+    omega (arith, costs-room (prepares q) (e .if1 .left) some)
 
 same-length-5 : tie.Need-same-length-5
 same-length-5 c = search needs
@@ -79,24 +113,41 @@ same-length-6 c = search needs
 returns-3 : tie.Need-returns-3
 unfolding answerOf
 returns-3 c =
-    let q = c .before .before .before .before .before .before .before .before .before .before .before .before .before .before .before .before .before in
-    let a = q .before .before .before .before .before .before .before .before .before .args in
-    let some : 0 < length (a .indices .now) = omega (arith, c .before .before .before .before .before .before .before .before .before .before .before .if2 .left) in
-    deep-ends (a .words .now) (a .indices .now) (a .limit) (a .ordered) (a .decisions .now) (a .costs .now) (a .«record» .now) (a .list .now) (q .prepare .result) (q .prepare .last .1 .1 .1 .1 .1 .0) (q .prepare .last .1 .1 .1 .1 .1 .1 .0) (q .prepare .ensures) (c .before .before .before .before .before .before .before .before .before .before .before .before .if1 .left) some (c .before .before .before .before .before .before .before .before .before .deepest-level .result) (c .before .before .before .before .before .before .before .before .before .deepest-level .ensures) _ _ (c .before .before .before .before .before .before .before .before .if3 .taken) (c .before .before .before .before .before .before .clear-words .ensures) (c .before .before .clear-costs .ensures)
+    let k = c .before .before in
+    let w = k .before .before .before .before in
+    let t = w .before .before in
+    let d = t .before in
+    let s = d .before .before in
+    let e = s .before in
+    let b = e .before .before in
+    let q = b .before .before .before in
+    let some : 0 < leafCount (call q) = omega (arith, s .if2 .left) in
+    deep-ends (prepares q) (e .if1 .left) some (d .deepest-level .result) (d .deepest-level .ensures) _ _
+    (t .if3 .taken) (w .clear-words .ensures) (k .clear-costs .ensures)
 
 emit-requires : tie.Need-emit-requires
 emit-requires c κs =
-    let q = c .before .before .before .before .before .before .before .before .before .before .before .before in
-    let a = q .before .before .before .before .before .before .before .before .before .args in
-    let some : 0 < length (a .indices .now) = omega (arith, c .before .before .before .before .before .before .if2 .left) in
-    emit-ready (a .words .now) (a .indices .now) (a .limit) (a .ordered) (a .decisions .now) (a .costs .now) (a .«record» .now) (a .list .now) (q .prepare .result) (q .prepare .last .1 .1 .1 .1 .1 .0) (q .prepare .last .1 .1 .1 .1 .1 .1 .0) (q .prepare .ensures) (c .before .before .before .before .before .before .before .if1 .left) some
+    let t = c .before .before .before in
+    let s = t .before .before .before in
+    let e = s .before in
+    let b = e .before .before in
+    let q = b .before .before .before in
+    let some : 0 < leafCount (call q) = omega (arith, s .if2 .left) in
+    emit-ready (prepares q) (e .if1 .left) some
 
 cast-m : tie.Need-cast-m
 cast-m c =
-    let q = c .before .before .before .before .before .before .before .before .before .before .before .before .before .before .before .before .before .before in
-    let a = q .before .before .before .before .before .before .before .before .before .args in
-    let some : 0 < length (a .indices .now) = omega (arith, c .before .before .before .before .before .before .before .before .before .before .before .before .if2 .left) in
-    omega (arith, nodes-fit (a .words .now) (a .indices .now) (a .limit) (a .ordered) (a .decisions .now) (a .costs .now) (a .«record» .now) (a .list .now) (q .prepare .result) (q .prepare .last .1 .1 .1 .1 .1 .0) (q .prepare .last .1 .1 .1 .1 .1 .1 .0) (q .prepare .ensures) (c .before .before .before .before .before .before .before .before .before .before .before .before .before .if1 .left) some (c .before .before .before .before .before .before .before .before .before .before .deepest-level .result) (c .before .before .before .before .before .before .before .before .before .before .deepest-level .ensures) _ _ (c .before .before .before .before .before .emit .result) (c .before .before .before .before .before .emit .ensures))
+    let u = c .before .before in
+    let w = u .before .before .before in
+    let t = w .before .before .before in
+    let d = t .before .before in
+    let s = d .before .before in
+    let e = s .before in
+    let b = e .before .before in
+    let q = b .before .before .before in
+    let some : 0 < leafCount (call q) = omega (arith, s .if2 .left) in
+    let r = d .deepest-level in
+    omega (arith, nodes-fit (prepares q) (e .if1 .left) some (r .result) (r .ensures) _ _ (w .emit .result) (w .emit .ensures))
 
 same-length-7 : tie.Need-same-length-7
 same-length-7 c = search needs
@@ -113,10 +164,19 @@ same-length-10 c = search needs
 returns-4 : tie.Need-returns-4
 unfolding answerOf
 returns-4 c =
-    let q = c .before .before .before .before .before .before .before .before .before .before .before .before .before .before .before .before .before .before in
-    let a = q .before .before .before .before .before .before .before .before .before .args in
-    let some : 0 < length (a .indices .now) = omega (arith, c .before .before .before .before .before .before .before .before .before .before .before .before .if2 .left) in
-    written-ends (a .words .now) (a .indices .now) (a .limit) (a .ordered) (a .decisions .now) (a .costs .now) (a .«record» .now) (a .list .now) (q .prepare .result) (q .prepare .last .1 .1 .1 .1 .1 .0) (q .prepare .last .1 .1 .1 .1 .1 .1 .0) (q .prepare .ensures) (c .before .before .before .before .before .before .before .before .before .before .before .before .before .if1 .left) some (c .before .before .before .before .before .before .before .before .before .before .deepest-level .result) (c .before .before .before .before .before .before .before .before .before .before .deepest-level .ensures) (c .before .before .before .before .before .before .before .before .before .if3 .left) (c .before .before .before .before .before .emit .last .1 .1 .1 .0) (c .before .before .before .before .before .emit .last .1 .1 .1 .1 .0) (c .before .before .before .before .before .emit .result) (c .before .before .before .before .before .emit .ensures)
+    let u = c .before .before in
+    let w = u .before .before .before in
+    let t = w .before .before .before in
+    let f = t .before in
+    let d = f .before in
+    let s = d .before .before in
+    let e = s .before in
+    let b = e .before .before in
+    let q = b .before .before .before in
+    let some : 0 < leafCount (call q) = omega (arith, s .if2 .left) in
+    let o = w .emit .last .1 .1 .1 in
+    written-ends (prepares q) (e .if1 .left) some (d .deepest-level .result) (d .deepest-level .ensures) (f .if3 .left)
+    (o .0) (o .1 .0) (w .emit .result) (w .emit .ensures)
 
 pub bvh2-to-cwbvh-spec : {M : Type 1} → statement M
 bvh2-to-cwbvh-spec =

@@ -13,8 +13,8 @@ conversion-number-requires c κs = search needs
 returns : tie.Need-returns
 returns c =
     let s = c .before .before in
-    let a = s .before .before .before .before .before .before .before .before .args in
-    by-other (a .words .now) (a .indices .now) (a .limit) (a .order) (a .decisions .now) (a .costs .now) (a .«record» .now) (a .list .now) (omega (arith, s .before .if1 .taken)) _ _ (c .conversion-number .ensures) (sizes-first _ _ _ (s .sizes .ensures) (c .before .if2 .taken))
+    by-other _ _ (omega (arith, s .before .if1 .taken)) _ _ (c .conversion-number .ensures)
+    (sizes-first _ _ _ (s .sizes .ensures) (c .before .if2 .taken))
 
 conversion-number-requires-2 : tie.Need-conversion-number-requires-2
 conversion-number-requires-2 c κs = search needs
@@ -22,8 +22,8 @@ conversion-number-requires-2 c κs = search needs
 returns-2 : tie.Need-returns-2
 returns-2 c =
     let s = c .before .before in
-    let a = s .before .before .before .before .before .before .before .before .args in
-    by-other (a .words .now) (a .indices .now) (a .limit) (a .order) (a .decisions .now) (a .costs .now) (a .«record» .now) (a .list .now) (omega (arith, s .before .if1 .taken)) _ _ (c .conversion-number2 .ensures) (then-three _ _ _ (s .sizes .ensures) (c .before .if2 .left))
+    by-other _ _ (omega (arith, s .before .if1 .taken)) _ _ (c .conversion-number2 .ensures)
+    (then-three _ _ _ (s .sizes .ensures) (c .before .if2 .left))
 
 bvh2-to-cwbvh-requires : tie.Need-bvh2-to-cwbvh-requires
 bvh2-to-cwbvh-requires c κs = search needs
@@ -45,10 +45,12 @@ same-length-4 c = search needs
 
 returns-3 : tie.Need-returns-3
 returns-3 c =
-    let b = c .before .before .before .before .before .before .before .before .before in
-    let e = b .before .before .before .before .before in
-    let a = e .before .before .before .before .before .before .before .args in
-    by-either (a .words .now) (a .indices .now) (a .limit) (a .order) (a .decisions .now) (a .costs .now) (a .«record» .now) (a .list .now) (omega (arith, e .if1 .left)) _ _ _ _ _ _ (c .conversion-number3 .ensures) (b .bvh2-to-cwbvh .ensures)
+    let l = c .before .before .before in
+    let m = l .before .before .before in
+    let b = m .before .before .before in
+    let d = b .before .before .before in
+    let e = d .before .before in
+    by-either _ _ (omega (arith, e .if1 .left)) _ _ _ _ _ _ (c .conversion-number3 .ensures) (b .bvh2-to-cwbvh .ensures)
 
 pub funnelcress-bvh2-to-cwbvh-spec : {M : Type 1} → statement M
 funnelcress-bvh2-to-cwbvh-spec =
