@@ -44,7 +44,7 @@ module _ (bytes : List ℕ) (n : ℕ) (ray : Ray) where
   -- The answer and the list of the public call: k positions after t tests; they are the first node's listing; each position passed stands among them
   -- once, and no other; and the tests are as many as the nodes reached.
   pub record Lists (before : List ℕ) (k t : ℕ) : Type 0 where
-    pub answer : anyHitOf bytes n ray (length before) ≡ listed k t
+    pub answer : anyHitOf bytes n ray (length before) ≡ record { answer = listed k; tests = t }
     pub listing : take k (listAfter bytes n ray before) ≡ listingAt bytes beams n (beamOf ray)
     pub passed-once : (p : ℕ) → Passed bytes n ray p → count p (take k (listAfter bytes n ray before)) ≡ 1
     pub no-other : (p : ℕ) → ¬ (Passed bytes n ray p) → count p (take k (listAfter bytes n ray before)) ≡ 0
