@@ -29,7 +29,7 @@ metIn before noted = splice before 0 (take (length before) noted)
 
 -- a list after so many positions were to come into it
 abbrev pub listWith : (count tests : ℕ) → (noted before : List ℕ) → List ℕ
-listWith count tests noted before = listFor (fitted count tests (length before)) noted before
+listWith count tests noted before = listFor (fitted count tests (length before) .answer) noted before
 
 -- where a walk stands after a search for positions with this answer
 unfoldable pub stateOf : Answer → State

@@ -9,7 +9,7 @@ ghost use Rattle.slot.specs.Parts.{endsOf};
 ghost use Rattle.advance.specs.Turn.{walkerOf};
 ghost use Rattle.walk_record.specs.Beam.{beamOf, forgedBeam};
 ghost use Rattle.query.specs.Walk.{Sized};
-ghost use Rattle.any_hit.specs.AnyHit.{answerOf, fitted, walkOf, listOf, anyHitOf, listAfter};
+ghost use Rattle.any_hit.specs.AnyHit.{fitted, walkOf, listOf, anyHitOf, listAfter, resultOf};
 ghost use Rattle.any_hit.specs.Gather.{Walking, Counted, Gathers, listWith};
 use advance::Answer;
 use advance::Walk;
@@ -23,12 +23,17 @@ const ALL: u32 = 0xffff_ffff;
 // Over any number of positions that a walk reports.
 const MANY: u32 = 0xffff_0000;
 
-// How any-hit ends: so many positions listed after so many node tests; or the list is short, refused 11 with the length needed; or refused for
-// another cause.
+// How any-hit ends: so many positions listed; or the list is short, refused 11 with the length needed; or refused for another cause.
 pub enum AnyHit {
-    Listed(u32, u32),
+    Listed(u32),
     Short(u32),
     Refused(u32),
+}
+
+// Any-hit's answer with its node tests, 0 beside a refusal.
+pub struct AnyHitFound {
+    pub answer: AnyHit,
+    pub tests: u32,
 }
 
 // Where a walk that gathers positions stands: it is done, or paused where those of another node may find no room, or refused for the cause of this
@@ -137,16 +142,18 @@ fn copy(found: &[u32], count: usize, list: &mut [u32])
 }
 
 // Positions kept aside come into a list that is long enough for them.
-fn deliver(found: &[u32], count: u32, tests: u32, list: &mut [u32]) -> AnyHit
+fn deliver(found: &[u32], count: u32, tests: u32, list: &mut [u32]) -> AnyHitFound
     requires { ⌜ count ≤ length (now found) ⌝ }
-    ensures { λ r. ⌜ answerOf r ≡ fitted count tests (length (now (list .entry))) ⌝ }
+    ensures { λ r. ⌜ resultOf r ≡ fitted count tests (length (now (list .entry))) ⌝ }
     ensures { λ _. ⌜ now (list .exit) ≡ listWith count tests (take count (now (found .entry))) (now (list .entry)) ⌝ }
 {
     if count as usize > list.len() {
-        return AnyHit::Short(count);
+        let answer = AnyHit::Short(count);
+        return AnyHitFound { answer, tests: 0 };
     }
     copy(found, count as usize, list);
-    AnyHit::Listed(count, tests)
+    let answer = AnyHit::Listed(count);
+    AnyHitFound { answer, tests }
 }
 
 // After a walk without a fault: another one writes its positions into a list that is long enough for them.
@@ -158,20 +165,23 @@ fn walk_again(
     count: u32,
     tests: u32,
     list: &mut [u32],
-) -> AnyHit
+) -> AnyHitFound
     requires { ⌜ Sized (now «record») n × (forgedBeam (beamOf ray) ≡ false) × (octant ≡ octantOf (ray .direction)) ⌝ }
     requires { ⌜ Counted (now «record») n ray count tests ⌝ }
-    ensures { λ r. ⌜ answerOf r ≡ walkOf (now («record» .entry)) n (beamOf ray) (length (now (list .entry))) ⌝ }
+    ensures { λ r. ⌜ resultOf r ≡ walkOf (now («record» .entry)) n (beamOf ray) (length (now (list .entry))) ⌝ }
     ensures { λ _. ⌜ now (list .exit) ≡ listOf (now («record» .entry)) n (beamOf ray) (now (list .entry)) ⌝ }
 {
     if list.len() < count as usize {
-        return AnyHit::Short(count);
+        let answer = AnyHit::Short(count);
+        return AnyHitFound { answer, tests: 0 };
     }
     let start = advance::begin();
     let mut stack = [0u64; 32];
     let e = slot::near_ends(ray.direction);
     let again = gather(record, n, ray, e, octant, start, 0, MANY, &mut stack, list);
-    AnyHit::Listed(again.count, again.walk.tests)
+    let answer = AnyHit::Listed(again.count);
+    let tests = again.walk.tests;
+    AnyHitFound { answer, tests }
 }
 
 // Goes on with a walk whose positions so far lie in `found`. Up to 1,024 are kept aside until it has ended.
@@ -184,11 +194,11 @@ fn walk_on(
     found: &[u32],
     stack: &mut [u64],
     list: &mut [u32],
-) -> AnyHit
+) -> AnyHitFound
     requires { ⌜ Sized (now «record») n × (forgedBeam (beamOf ray) ≡ false) × (octant ≡ octantOf (ray .direction)) ⌝ }
     requires { ⌜ Walking (now «record») n ray (walkerOf ray octant (first .walk) (now stack)) (first .count) (now found) (now found) ⌝ }
     requires { ⌜ (first .walk .positions .bits ≡ 0) × (first .count ≤ length (now found)) × (first .count ≤ 1024) ⌝ }
-    ensures { λ r. ⌜ answerOf r ≡ walkOf (now («record» .entry)) n (beamOf ray) (length (now (list .entry))) ⌝ }
+    ensures { λ r. ⌜ resultOf r ≡ walkOf (now («record» .entry)) n (beamOf ray) (length (now (list .entry))) ⌝ }
     ensures { λ _. ⌜ now (list .exit) ≡ listOf (now («record» .entry)) n (beamOf ray) (now (list .entry)) ⌝ }
 {
     let mut more = [0u32; 1024];
@@ -209,7 +219,10 @@ fn walk_on(
     );
     let state = rest.state;
     match state {
-        State::Refused(k) => AnyHit::Refused(k),
+        State::Refused(k) => {
+            let answer = AnyHit::Refused(k);
+            AnyHitFound { answer, tests: 0 }
+        }
         _ => {
             if rest.count > 1024 {
                 return walk_again(record, n, ray, octant, rest.count, rest.walk.tests, list);
@@ -220,9 +233,9 @@ fn walk_on(
 }
 
 // A whole walk over a record with nodes: most rays pass few positions, for which 64 words are set aside; it goes on with more where they may not do.
-fn walk_whole(record: &[u8], n: usize, ray: Ray, list: &mut [u32]) -> AnyHit
+fn walk_whole(record: &[u8], n: usize, ray: Ray, list: &mut [u32]) -> AnyHitFound
     requires { ⌜ Sized (now «record») n × (forgedBeam (beamOf ray) ≡ false) ⌝ }
-    ensures { λ r. ⌜ answerOf r ≡ walkOf (now («record» .entry)) n (beamOf ray) (length (now (list .entry))) ⌝ }
+    ensures { λ r. ⌜ resultOf r ≡ walkOf (now («record» .entry)) n (beamOf ray) (length (now (list .entry))) ⌝ }
     ensures { λ _. ⌜ now (list .exit) ≡ listOf (now («record» .entry)) n (beamOf ray) (now (list .entry)) ⌝ }
 {
     let octant = ray::octant(ray.direction);
@@ -245,7 +258,10 @@ fn walk_whole(record: &[u8], n: usize, ray: Ray, list: &mut [u32]) -> AnyHit
     let state = first.state;
     match state {
         State::Done => deliver(&found, first.count, first.walk.tests, list),
-        State::Refused(k) => AnyHit::Refused(k),
+        State::Refused(k) => {
+            let answer = AnyHit::Refused(k);
+            AnyHitFound { answer, tests: 0 }
+        }
         State::Paused => walk_on(record, n, ray, octant, first, &found, &mut stack, list),
     }
 }
@@ -260,17 +276,19 @@ pub fn any_hit(
     tmin: f32,
     tmax: f32,
     list: &mut [u32],
-) -> AnyHit
-    ensures { λ r. ⌜ answerOf r ≡ anyHitOf (now («record» .entry)) n (rayOf origin direction tmin tmax) (length (now (list .entry))) ⌝ }
+) -> AnyHitFound
+    ensures { λ r. ⌜ resultOf r ≡ anyHitOf (now («record» .entry)) n (rayOf origin direction tmin tmax) (length (now (list .entry))) ⌝ }
     ensures { λ _. ⌜ now (list .exit) ≡ listAfter (now («record» .entry)) n (rayOf origin direction tmin tmax) (now (list .entry)) ⌝ }
 {
     let ray = Ray::new(origin, direction, tmin, tmax);
     let cause = query::entry_cause(true, record.len(), n, 0, ray);
     if cause != 0 {
-        return AnyHit::Refused(cause);
+        let answer = AnyHit::Refused(cause);
+        return AnyHitFound { answer, tests: 0 };
     }
     if record.len() == 0 {
-        return AnyHit::Listed(0, 0);
+        let answer = AnyHit::Listed(0);
+        return AnyHitFound { answer, tests: 0 };
     }
     walk_whole(record, n, ray, list)
 }

@@ -27,6 +27,7 @@ use Rattle.advance.specs.declared.Answer.{Answer}
 use Rattle.advance.specs.declared.Answer.the-variants.{Tested, Position, Done, Refused as AnswerRefused}
 use Rattle.advance.specs.Turn.{groupOf, walkerOf, seeking, answerOf, turned}
 use Rattle.advance.proofs.Seeks.{seeking-from}
+use Rattle.query.specs.Result.{Result, walked}
 use Rattle.query.specs.Walk.{Sized}
 use Rattle.query.proofs.Leads.{Leads, Goes, Sought, leads-past, leads-stops, leads-on, seek-sought}
 use Rattle.query.proofs.Begins.{steady}
@@ -35,8 +36,8 @@ use Rattle.closest.specs.declared.ClosestHit.the-variants.{Hit, NoHit, R
 use Rattle.closest.specs.declared.Met.{Met}
 use Rattle.closest.specs.declared.Met.the-variants.{At, Faulty}
 use Rattle.closest.proofs.Panes.{position-there, position-past}
-use Rattle.closest.specs.Panes.{paneMet, positionMet, paneOf, nearer, paneOfMet, Result}
-use Rattle.closest.specs.Panes.{ClosestAnswer, blocked, refusedClosest, refusedMiss, closestFound, missFound, closestAnswer, walked}
+use Rattle.closest.specs.Panes.{paneMet, positionMet, paneOf, nearer, paneOfMet}
+use Rattle.closest.specs.Panes.{ClosestAnswer, blocked, refusedClosest, refusedMiss, closestFound, missFound, closestAnswer}
 
 -- ---- what a walk that has ended gives
 

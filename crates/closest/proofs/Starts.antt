@@ -18,7 +18,8 @@ use Rattle.walk_record.proofs.Beam.{begun-accepted}
 use Rattle.query.specs.Walk.{Sized}
 use Rattle.query.proofs.Entry
 use Rattle.query.proofs.Begins.{query-empty}
-use Rattle.closest.specs.Panes.{Result, walked, entered, paneCause}
+use Rattle.query.specs.Result.{Result, walked, entered}
+use Rattle.closest.specs.Panes.{paneCause}
 
 -- the ray that the code makes of its arguments, and the cause that it finds
 pub record Starting (bytes indices : List ℕ) (panes : List Float) (o d : Vec3) (near far : Float) (ray : Ray) (cause : ℕ) : Type 0 where

@@ -2,7 +2,7 @@
 -- its index word names.
 use mathlib.Core.Bool.{Bool, cond}
 use mathlib.Core.List.{List}
-use Prim.Native.Nat.{ℕ, zero, suc, _/_, _%_}
+use Prim.Native.Nat.{ℕ, _/_, _%_}
 use lib.Dec.{eqb, ltb}
 use lib.ListN.{length, getD}
 use lib.Ieee.{Float}
@@ -10,13 +10,13 @@ use Rattle.ray.specs.declared.Ray.{Ray}
 use Rattle.ray.specs.Ray.{counts}
 use Rattle.aabb.specs.Aabb.{acceptedBox, entryDistance}
 use Rattle.packed.specs.Packed.{boxIn}
-use Rattle.walk.specs.Step as S
 use Rattle.walk.specs.Queries.{Pane, distance, faulty, Found, none, hit, fault, closest, miss}
 use Rattle.walk.specs.WordQueries.{OutcomeWords}
 use Rattle.walk_record.specs.Beam.{Beam, beamOf, beams}
 use Rattle.walk_record.specs.Walk.{queryAt}
 use Rattle.causes.specs.Causes.{firstCause}
 use Rattle.query.specs.Entry.{entryConditions, entryCause}
+use Rattle.query.specs.Result.{Result, unanswered, walked, entered}
 use Rattle.closest.specs.declared.ClosestHit.{ClosestHit}
 use Rattle.closest.specs.declared.ClosestHit.the-variants as C
 use Rattle.closest.specs.declared.Occlusion.{Occlusion}
@@ -50,11 +50,6 @@ nearer t b = counts (b .ray) t
 
 -- ---- answers
 
--- an answer with the node tests; beside a refusal these are 0 and no part of it
-pub record Result (A : Type 0) : Type 0 where
-  pub answer : A
-  pub tests : ℕ
-
 -- closest: the position that is hit and how far off, or that none is, or a refusal
 pub data ClosestAnswer : Type 0 where
   hitAt : (position : ℕ) → Float → ClosestAnswer
@@ -71,24 +66,12 @@ pub data MissAnswer : Type 0 where
 unfoldable pub closestFound : Found Float → ℕ → Result ClosestAnswer
 closestFound none tests = record { answer = noHit; tests = tests }
 closestFound (hit p t) tests = record { answer = hitAt p t; tests = tests }
-closestFound (fault k) tests = record { answer = refusedClosest k; tests = 0 }
+closestFound (fault k) tests = unanswered (refusedClosest k)
 
 unfoldable pub missFound : Found Float → ℕ → Result MissAnswer
 missFound none tests = record { answer = missed; tests = tests }
 missFound (hit p t) tests = record { answer = blocked; tests = tests }
-missFound (fault k) tests = record { answer = refusedMiss k; tests = 0 }
-
--- how a walk ended. (One that was not refused ends with done, or stopped at a position: law query-halts.)
-unfoldable pub walked : {A : Type 0} → (ℕ → A) → (Found Float → ℕ → Result A) → OutcomeWords Beam (Found Float) → S.Answer → Result A
-walked refuse found o (S.tested v) = record { answer = refuse 10; tests = 0 }
-walked refuse found o (S.position p) = found (o .noted) (o .walker .tests)
-walked refuse found o S.done = found (o .noted) (o .walker .tests)
-walked refuse found o (S.refused k) = record { answer = refuse k; tests = 0 }
-
--- refused on entry, or what the walk gives
-unfoldable pub entered : {A : Type 0} → (ℕ → A) → (cause : ℕ) → Result A → Result A
-entered refuse zero w = w
-entered refuse (suc k) w = record { answer = refuse (suc k); tests = 0 }
+missFound (fault k) tests = unanswered (refusedMiss k)
 
 -- ---- the queries
 

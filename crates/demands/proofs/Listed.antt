@@ -2,7 +2,7 @@
 use mathlib.Core.Bool.{Bool, true, false}
 use mathlib.Core.List.{List}
 use mathlib.Core.Path.{_≡_, refl, ap, _∙_}
-use Prim.Native.Nat.{ℕ, zero, suc, _+_, _≤_}
+use Prim.Native.Nat.{ℕ, _+_, _≤_}
 use lib.ListN.{length, take, drop}
 use lib.Seq.{take-at}
 use borrow.Author.Tests.{le-leb}
@@ -11,9 +11,10 @@ use Rattle.ray.specs.declared.Ray.{Ray}
 use Rattle.walk.specs.Step as S
 use Rattle.walk_record.specs.Beam.{beamOf, beams}
 use Rattle.walk_record.specs.Walk.{anyHitAt}
+use Rattle.query.specs.Result.{Result, unanswered, walked, entered}
 use Rattle.query.proofs.Entry.{entry-none}
 use Rattle.demands.specs.Walks.{Good, AcceptedRay, found, counted, listLeft}
-use Rattle.any_hit.specs.AnyHit.{Answer, listed, lacking, refused, fitted, walked, walkOf, anyHitOf, listFor, listAfter}
+use Rattle.any_hit.specs.AnyHit.{Answer, listed, lacking, refused, fitted, walkOf, anyHitOf, listFor, listAfter}
 
 module _ {bytes : List ℕ} {n d : ℕ} {r : Ray} (good : Good bytes n d) (accepted : AcceptedRay r) (before : List ℕ)
     (ends : anyHitAt bytes beams n (beamOf r) .ended ≡ S.done) (room : length (found bytes r n) ≤ length before) where
@@ -23,27 +24,27 @@ module _ {bytes : List ℕ} {n d : ℕ} {r : Ray} (good : Good bytes n d) (accep
   abbrev tests : ℕ
   tests = counted bytes r n
 
-  answer-listed : walkOf bytes n (beamOf r) (length before) ≡ listed (length met) tests
+  abbrev result : Result Answer
+  result = record { answer = listed (length met); tests = tests }
+
+  answer-listed : walkOf bytes n (beamOf r) (length before) ≡ result
   unfolding walkOf walked fitted
   answer-listed =
-      ap (λ (a : S.Answer). walked (anyHitAt bytes beams n (beamOf r)) a (length before)) ends
+      ap (λ (a : S.Answer). walked refused (λ noted tests. fitted (length noted) tests (length before)) (anyHitAt bytes beams n (beamOf r)) a) ends
       ∙ ap by (le-leb (length met) (length before) room)
     where
-      by : Bool → Answer
-      by b = elim b [ true ↦ listed (length met) tests | false ↦ lacking 11 (length met) ]
+      by : Bool → Result Answer
+      by b = elim b [ true ↦ result | false ↦ unanswered (lacking 11 (length met)) ]
 
-  pub answers-listed : anyHitOf bytes n r (length before) ≡ listed (length met) tests
-  unfolding anyHitOf
+  pub answers-listed : anyHitOf bytes n r (length before) ≡ result
+  unfolding anyHitOf entered
   answers-listed =
-      ap by
+      ap (λ (k : ℕ). entered refused k (walkOf bytes n (beamOf r) (length before)))
       (entry-none true (length bytes) n 0 r refl (record { whole = good .layout; few = good .positions; small = good .nodes }) refl (accepted .accepted))
       ∙ answer-listed
-    where
-      by : ℕ → Answer
-      by k = elim k [ suc k ↦ refused (suc k) | zero ↦ walkOf bytes n (beamOf r) (length before) ]
 
   pub list-found : listLeft bytes r n before ≡ met
   unfolding listAfter listFor splice
   list-found =
-      ap (λ (a : Answer). take (length met) (listFor a met before)) answers-listed
+      ap (λ (a : Result Answer). take (length met) (listFor (a .answer) met before)) answers-listed
       ∙ take-at met (drop (0 + length met) before) (length met) refl

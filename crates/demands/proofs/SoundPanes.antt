@@ -26,7 +26,8 @@ use Rattle.walk_record.specs.Beam.{Beam, beamOf, beams}
 use Rattle.walk_record.specs.Record.{slotsAt}
 use Rattle.walk_record.specs.Walk.{queryAt}
 use Rattle.query.proofs.Entry.{entry-none}
-use Rattle.closest.specs.Panes.{paneMet, paneOf, nearer, Result, walked, entered, paneCause}
+use Rattle.query.specs.Result.{Result, walked, entered}
+use Rattle.closest.specs.Panes.{paneMet, paneOf, nearer, paneCause}
 use Rattle.closest.specs.Panes.{ClosestAnswer, hitAt, noHit, refusedClosest, closestFound, closestWalk, closestOf}
 use Rattle.closest.specs.Panes.{MissAnswer, missed, blocked, refusedMiss, missFound, missWalk, missOf}
 use Rattle.closest.proofs.Distances.{Number, distances-ordered, met-there, panes-reached}

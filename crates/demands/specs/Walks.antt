@@ -96,7 +96,7 @@ module _ (bytes : List ℕ) (ray : Ray) where
     -- The answer and the list of the public call, for a list as it was before: so many positions after so many tests. They are the first node's
     -- listing; each position passed stands among them once, and no other; and the tests are as many as the nodes reached.
     pub record Lists (before : List ℕ) : Type 0 where
-      pub answer : anyHitOf bytes n ray (length before) ≡ listed (length found) counted
+      pub answer : anyHitOf bytes n ray (length before) ≡ record { answer = listed (length found); tests = counted }
       pub listing : listLeft before ≡ listingAt bytes beams n (beamOf ray)
       pub passed-once : (p : ℕ) → Passed bytes n ray p → count p (listLeft before) ≡ 1
       pub no-other : (p : ℕ) → ¬ (Passed bytes n ray p) → count p (listLeft before) ≡ 0

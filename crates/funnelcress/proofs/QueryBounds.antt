@@ -23,6 +23,7 @@ use Rattle.walk_record.specs.Walk.{queryAt, anyHitAt}
 use Rattle.causes.specs.Sizes.{recordConditions}
 use Rattle.causes.proofs.Causes.{allNumbers, first-among}
 use Rattle.query.specs.Entry.{entryConditions, entryCause}
+use Rattle.query.specs.Result as R
 use Rattle.query.proofs.Entry.{entered}
 use Rattle.any_hit.specs.AnyHit as H
 use Rattle.closest.specs.Panes as P
@@ -46,17 +47,17 @@ fitted-fits : (count tests room : ℕ) → tests ≤ 65535 → count < 0x1_0000_
 unfolding H.fitted AnyHitFits
 fitted-fits count tests room t c = go (leb count room)
   where
-    go : (b : Bool) → AnyHitFits (elim b [ true ↦ H.listed count tests | false ↦ H.lacking 11 count ])
+    go : (b : Bool) → AnyHitFits (elim b [ true ↦ record { answer = H.listed count; tests = tests } | false ↦ R.unanswered (H.lacking 11 count) ])
     go true = (t, c)
-    go false = (refl, c)
+    go false = (refl, refl, c)
 
 walked-fits : (n : ℕ) (o : OutcomeWords Beam (List ℕ)) (e : S.Answer) (room : ℕ) → o .walker .tests ≤ 65535
-    → length (o .noted) < 0x1_0000_0000 → Below n e → AnyHitFits (H.walked o e room)
-unfolding H.walked AnyHitFits
-walked-fits n o (S.tested v) room t c l = omega arith
-walked-fits n o (S.position p) room t c l = omega arith
+    → length (o .noted) < 0x1_0000_0000 → Below n e → AnyHitFits (R.walked H.refused (λ noted tests. H.fitted (length noted) tests room) o e)
+unfolding R.walked AnyHitFits
+walked-fits n o (S.tested v) room t c l = (refl, omega arith)
+walked-fits n o (S.position p) room t c l = fitted-fits (length (o .noted)) (o .walker .tests) room t c
 walked-fits n o S.done room t c l = fitted-fits (length (o .noted)) (o .walker .tests) room t c
-walked-fits n o (S.refused k) room t c l = l
+walked-fits n o (S.refused k) room t c l = (refl, l)
 
 -- noted positions and the steps left are no more than the steps given
 abbrev Noted : List ℕ → ℕ → List ℕ → Type 0
@@ -71,13 +72,13 @@ walk-fits bytes n b m room =
     walked-fits n o (o .ended) room (omega (arith, q .0)) (omega (arith, q .2)) (q .1)
 
 pub any-hit-fits : (bytes : List ℕ) (n : ℕ) (r : Ray) (room : ℕ) → AnyHitFits (H.anyHitOf bytes n r room)
-unfolding H.anyHitOf AnyHitFits
-any-hit-fits bytes n r room = go (entryCause true (length bytes) n 0 r) refl (entry-most true (length bytes) n r)
+unfolding H.anyHitOf R.entered AnyHitFits
+any-hit-fits bytes n r room = go (entryCause true (length bytes) n 0 r) refl (entry-most true (length bytes) n 0 r)
   where
     go : (c : ℕ) → entryCause true (length bytes) n 0 r ≡ c → c ≤ 11
-        → AnyHitFits (elim c [ suc k ↦ H.refused (suc k) | zero ↦ H.walkOf bytes n (beamOf r) room ])
+        → AnyHitFits (R.entered H.refused c (H.walkOf bytes n (beamOf r) room))
     go zero e l = walk-fits bytes n (beamOf r) (entered true (length bytes) n 0 r e .sizes .small) room
-    go (suc k) e l = l
+    go (suc k) e l = (refl, l)
 
 -- ---- closest and miss
 
@@ -87,26 +88,26 @@ Small none = Unit {0}
 Small (hit p t) = p < 65536
 Small (fault k) = k ≤ 11
 
-module _ {A : Type 0} (F : P.Result A → Type 0) (refuse : ℕ → A) (found : Found Float → ℕ → P.Result A)
+module _ {A : Type 0} (F : R.Result A → Type 0) (refuse : ℕ → A) (found : Found Float → ℕ → R.Result A)
     (refuses : (k : ℕ) → k ≤ 11 → F (record { answer = refuse k; tests = 0 }))
     (finds : (x : Found Float) (tests : ℕ) → Small x → tests ≤ 65535 → F (found x tests)) where
   ended-fits : (n : ℕ) (o : OutcomeWords Beam (Found Float)) (e : S.Answer) → o .walker .tests ≤ 65535 → Below n e → Small (o .noted)
-      → F (P.walked refuse found o e)
-  unfolding P.walked
+      → F (R.walked refuse found o e)
+  unfolding R.walked
   ended-fits n o (S.tested v) t l x = refuses 10 (omega arith)
   ended-fits n o (S.position p) t l x = finds (o .noted) (o .walker .tests) x t
   ended-fits n o S.done t l x = finds (o .noted) (o .walker .tests) x t
   ended-fits n o (S.refused k) t l x = refuses k l
 
-  entered-fits : (c : ℕ) (w : P.Result A) → c ≤ 11 → (c ≡ 0 → F w) → F (P.entered refuse c w)
-  unfolding P.entered
+  entered-fits : (c : ℕ) (w : R.Result A) → c ≤ 11 → (c ≡ 0 → F w) → F (R.entered refuse c w)
+  unfolding R.entered
   entered-fits zero w l h = h refl
   entered-fits (suc k) w l h = refuses (suc k) l
 
   module _ (bytes indices : List ℕ) (panes : List Float) (r : Ray) (react : ℕ → Beam → Found Float → Reaction Float (Found Float))
       (reacts : (p : ℕ) (b : Beam) (x : Found Float) → p < 65536 → Small x → Small (react p b x .noted)) where
     query-fits : let o = queryAt bytes beams react none (length indices) (beamOf r) in
-        F (P.entered refuse (P.paneCause bytes indices panes r) (P.walked refuse found o (o .ended)))
+        F (R.entered refuse (P.paneCause bytes indices panes r) (R.walked refuse found o (o .ended)))
     unfolding queryAt
     query-fits =
         let o = queryAt bytes beams react none (length indices) (beamOf r) in
@@ -178,8 +179,8 @@ module _ (bytes indices : List ℕ) (panes : List Float) (r : Ray) where
 pub any-hit-number-fits : (bytes : List ℕ) (n : ℕ) (ray : List Float) (room : ℕ) → AnyHitFits (anyHitBy bytes n ray room)
 unfolding AnyHitFits anyHitBy
 any-hit-number-fits bytes n ray room =
-    cond-elim AnyHitFits (eqb (length ray) 8) (H.anyHitOf bytes n (rayIn ray 0) room) (H.refused 1)
-    (λ _. any-hit-fits bytes n (rayIn ray 0) room) (λ _. omega arith)
+    cond-elim AnyHitFits (eqb (length ray) 8) (H.anyHitOf bytes n (rayIn ray 0) room) (R.unanswered (H.refused 1))
+    (λ _. any-hit-fits bytes n (rayIn ray 0) room) (λ _. (refl, omega arith))
 
 short-most : (cause : ℕ) → shortCause cause ≤ 11
 unfolding shortCause

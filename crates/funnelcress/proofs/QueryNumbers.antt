@@ -1,15 +1,17 @@
 -- The numbers of the queries' answers, case by case, and that no two answers share one.
 use mathlib.Core.List.{List, _∷_}
-use mathlib.Core.Path.{_≡_, refl, ap, ap₂, subst}
+use mathlib.Core.Path.{_≡_, refl, ap, ap₂, subst, _∙_}
 use Prim.Native.Nat.{ℕ, zero, suc, _+_, _≤_, _<_}
 use native.Mathlib.Omega.{arith}
 use lib.Ieee.{Float, nan}
 use lib.ListN.{set, getD}
 use borrow.Author.Tests.{le-ltb, lt-ltb}
-use Rattle.any_hit.specs.AnyHit.{Answer, listed, refused, lacking, answerOf}
+use Rattle.query.specs.Result.{Result}
+use Rattle.any_hit.specs.AnyHit.{Answer, listed, refused, lacking, answerOf, resultOf}
 use Rattle.any_hit.specs.declared.AnyHit.{AnyHit}
+use Rattle.any_hit.specs.declared.AnyHitFound.{AnyHitFound}
 use Rattle.any_hit.specs.declared.AnyHit.the-variants as A
-use Rattle.closest.specs.Panes.{Result, ClosestAnswer, hitAt, noHit, refusedClosest, MissAnswer, missed, blocked, refusedMiss}
+use Rattle.closest.specs.Panes.{ClosestAnswer, hitAt, noHit, refusedClosest, MissAnswer, missed, blocked, refusedMiss}
 use Rattle.closest.specs.Panes.{closestAnswer, closestResult, missAnswer, missResult}
 use Rattle.closest.specs.declared.ClosestHit.{ClosestHit}
 use Rattle.closest.specs.declared.ClosestHit.the-variants as C
@@ -21,34 +23,50 @@ use Rattle.funnelcress.specs.Queries.{distanceIn, shortCause, AnyHitFits
 
 -- ---- any-hit
 
-pub number-listed : (a : AnyHit) (count tests : ℕ) → a ≡ A.Listed count tests → numberOf tests 0 count ≡ anyHitNumber (answerOf a)
-unfolding anyHitNumber answerOf
-number-listed a count tests e = rw e
+module _ (r : AnyHitFound) where
+  abbrev Ends : AnyHit → Type 0
+  Ends a = r .answer ≡ a
 
-pub number-short : (a : AnyHit) (needed : ℕ) → a ≡ A.Short needed → numberOf 0 1 needed ≡ anyHitNumber (answerOf a)
-unfolding anyHitNumber answerOf
-number-short a needed e = rw e
+  pub number-listed : (count : ℕ) → Ends (A.Listed count) → numberOf (r .tests) 0 count ≡ anyHitNumber (resultOf r)
+  unfolding anyHitNumber answerOf
+  number-listed count e = rw e
 
-pub number-refused : (a : AnyHit) (number : ℕ) → a ≡ A.Refused number → 0x2_0000_0000 + number ≡ anyHitNumber (answerOf a)
-unfolding anyHitNumber answerOf
-number-refused a number e = rw e
+  pub number-short : (needed : ℕ) → Ends (A.Short needed) → numberOf (r .tests) 1 needed ≡ anyHitNumber (resultOf r)
+  unfolding anyHitNumber answerOf
+  number-short needed e = rw e
 
-pub listed-tests : (a : AnyHit) (count tests : ℕ) → a ≡ A.Listed count tests → AnyHitFits (answerOf a) → tests ≤ 65535
-unfolding AnyHitFits answerOf
-listed-tests a count tests e h = (subst (λ (x : AnyHit). AnyHitFits (answerOf x)) e h) .0
+  pub number-refused : (number : ℕ) → Ends (A.Refused number) → 0x2_0000_0000 + number ≡ anyHitNumber (resultOf r)
+  unfolding anyHitNumber answerOf
+  number-refused number e = rw e
 
--- answers with the same number are the same
-pub any-hit-apart : (a b : Answer) → AnyHitFits a → AnyHitFits b → anyHitNumber a ≡ anyHitNumber b → a ≡ b
+  pub listed-tests : (count : ℕ) → Ends (A.Listed count) → AnyHitFits (resultOf r) → r .tests ≤ 65535
+  unfolding AnyHitFits answerOf
+  listed-tests count e h = let k : (r .tests ≤ 65535) × (count < 0x1_0000_0000) = rw e at h in k .0
+
+  pub short-tests : (needed : ℕ) → Ends (A.Short needed) → AnyHitFits (resultOf r) → r .tests ≤ 65535
+  unfolding AnyHitFits answerOf
+  short-tests needed e h =
+      let k : (r .tests ≡ 0) × (_≡_ {A = ℕ} 11 11) × (needed < 0x1_0000_0000) = rw e at h in omega (arith, k .0)
+
+-- results with the same number are the same
+abbrev made : Answer → ℕ → Result Answer
+made a t = record { answer = a; tests = t }
+
+pub any-hit-apart : (x y : Result Answer) → AnyHitFits x → AnyHitFits y → anyHitNumber x ≡ anyHitNumber y → x ≡ y
 unfolding anyHitNumber AnyHitFits
-any-hit-apart (listed c t) (listed e u) h k q = ap₂ listed (omega arith) (omega arith)
-any-hit-apart (listed c t) (lacking m e) h k q = absurd (omega arith)
-any-hit-apart (listed c t) (refused m) h k q = absurd (omega arith)
-any-hit-apart (lacking l c) (listed e u) h k q = absurd (omega arith)
-any-hit-apart (lacking l c) (lacking m e) h k q = ap₂ lacking (omega arith) (omega arith)
-any-hit-apart (lacking l c) (refused m) h k q = absurd (omega arith)
-any-hit-apart (refused l) (listed e u) h k q = absurd (omega arith)
-any-hit-apart (refused l) (lacking m e) h k q = absurd (omega arith)
-any-hit-apart (refused l) (refused m) h k q = ap refused (omega arith)
+any-hit-apart x y = go (x .answer) (y .answer) (x .tests) (y .tests)
+  where
+    go : (a b : Answer) (t u : ℕ) → AnyHitFits (made a t) → AnyHitFits (made b u) → anyHitNumber (made a t) ≡ anyHitNumber (made b u) → made a t ≡ made b u
+    go (listed c) (listed e) t u h k q = ap₂ (λ (i j : ℕ). made (listed i) j) (omega arith) (omega arith)
+    go (listed c) (lacking m e) t u h k q = absurd (omega arith)
+    go (listed c) (refused m) t u h k q = absurd (omega arith)
+    go (lacking l c) (listed e) t u h k q = absurd (omega arith)
+    go (lacking l c) (lacking m e) t u h k q =
+        ap₂ (λ (i j : ℕ). made (lacking i j) t) (omega arith) (omega arith) ∙ ap (made (lacking m e)) (omega arith)
+    go (lacking l c) (refused m) t u h k q = absurd (omega arith)
+    go (refused l) (listed e) t u h k q = absurd (omega arith)
+    go (refused l) (lacking m e) t u h k q = absurd (omega arith)
+    go (refused l) (refused m) t u h k q = ap₂ (λ (i j : ℕ). made (refused i) j) (omega arith) (omega arith)
 
 -- ---- closest
 

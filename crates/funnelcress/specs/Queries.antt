@@ -7,7 +7,8 @@ use lib.Dec.{eqb, ltb}
 use lib.ListN.{length, set}
 use lib.Ieee.{Float}
 use Rattle.any_hit.specs.AnyHit.{Answer, listed, refused, lacking, anyHitOf, listAfter}
-use Rattle.closest.specs.Panes.{Result, ClosestAnswer, hitAt, noHit, refusedClosest, MissAnswer, missed, blocked, refusedMiss}
+use Rattle.query.specs.Result.{Result, unanswered}
+use Rattle.closest.specs.Panes.{ClosestAnswer, hitAt, noHit, refusedClosest, MissAnswer, missed, blocked, refusedMiss}
 use Rattle.closest.specs.Panes.{paneCause, closestOf, missOf}
 use Rattle.packed.specs.Packed.{rayIn}
 
@@ -17,8 +18,8 @@ ofEight ray unfit fit = cond (eqb (length ray) 8) fit unfit
 
 -- ---- the answers
 
-unfoldable pub anyHitBy : List ℕ → ℕ → List Float → ℕ → Answer
-anyHitBy bytes n ray room = ofEight ray (refused 1) (anyHitOf bytes n (rayIn ray 0) room)
+unfoldable pub anyHitBy : List ℕ → ℕ → List Float → ℕ → Result Answer
+anyHitBy bytes n ray room = ofEight ray (unanswered (refused 1)) (anyHitOf bytes n (rayIn ray 0) room)
 
 -- the list at the end
 unfoldable pub listBy : List ℕ → ℕ → List Float → List ℕ → List ℕ
@@ -32,12 +33,12 @@ shortCause (suc k) = cond (ltb (suc k) 4) (suc k) 4
 -- with so many floats lent for a distance
 unfoldable pub closestIn : ℕ → (bytes indices : List ℕ) → (panes ray : List Float) → Result ClosestAnswer
 unfolding shortCause
-closestIn zero bytes indices panes ray = record { answer = refusedClosest (shortCause (paneCause bytes indices panes (rayIn ray 0))); tests = 0 }
+closestIn zero bytes indices panes ray = unanswered (refusedClosest (shortCause (paneCause bytes indices panes (rayIn ray 0))))
 closestIn (suc room) bytes indices panes ray = closestOf bytes indices panes (rayIn ray 0)
 
 unfoldable pub closestBy : ℕ → (bytes indices : List ℕ) → (panes ray : List Float) → Result ClosestAnswer
 unfolding closestIn
-closestBy room bytes indices panes ray = ofEight ray (record { answer = refusedClosest 1; tests = 0 }) (closestIn room bytes indices panes ray)
+closestBy room bytes indices panes ray = ofEight ray (unanswered (refusedClosest 1)) (closestIn room bytes indices panes ray)
 
 -- a hit's distance is the first of the floats lent; nothing else is written
 unfoldable pub distanceIn : ClosestAnswer → List Float → List Float
@@ -46,7 +47,7 @@ distanceIn noHit out = out
 distanceIn (refusedClosest number) out = out
 
 unfoldable pub missBy : (bytes indices : List ℕ) → (panes ray : List Float) → Result MissAnswer
-missBy bytes indices panes ray = ofEight ray (record { answer = refusedMiss 1; tests = 0 }) (missOf bytes indices panes (rayIn ray 0))
+missBy bytes indices panes ray = ofEight ray (unanswered (refusedMiss 1)) (missOf bytes indices panes (rayIn ray 0))
 
 -- ---- their numbers: node tests times 2^48, the kind of answer times 2^32, and what the answer holds; a refusal's is the record check's
 
@@ -54,10 +55,13 @@ abbrev pub numberOf : (tests kind held : ℕ) → ℕ
 numberOf tests kind held = tests * 0x1_0000_0000_0000 + kind * 0x1_0000_0000 + held
 
 -- kind 0 has listed so many positions, kind 1 is short of the length needed (refused 11)
-unfoldable pub anyHitNumber : Answer → ℕ
-anyHitNumber (listed count tests) = numberOf tests 0 count
-anyHitNumber (lacking number needed) = numberOf 0 1 needed
-anyHitNumber (refused number) = 0x2_0000_0000 + number
+unfoldable pub anyHitNumber : Result Answer → ℕ
+anyHitNumber r =
+    elim (r .answer) [
+      | listed count ↦ numberOf (r .tests) 0 count
+      | lacking number needed ↦ numberOf (r .tests) 1 needed
+      | refused number ↦ 0x2_0000_0000 + number
+    ]
 
 -- kind 0 is a hit with its position, kind 1 no hit
 unfoldable pub closestNumber : Result ClosestAnswer → ℕ
@@ -70,10 +74,13 @@ missNumber r = elim (r .answer) [ missed ↦ numberOf (r .tests) 0 0 | blocked �
 
 -- ---- what every answer meets: tests of sixteen bits, words, and a cause's number
 
-unfoldable pub AnyHitFits : Answer → Type 0
-AnyHitFits (listed count tests) = (tests ≤ 65535) × (count < 0x1_0000_0000)
-AnyHitFits (lacking number needed) = (number ≡ 11) × (needed < 0x1_0000_0000)
-AnyHitFits (refused number) = number ≤ 11
+unfoldable pub AnyHitFits : Result Answer → Type 0
+AnyHitFits r =
+    elim (r .answer) [
+      | listed count ↦ (r .tests ≤ 65535) × (count < 0x1_0000_0000)
+      | lacking number needed ↦ (r .tests ≡ 0) × (number ≡ 11) × (needed < 0x1_0000_0000)
+      | refused number ↦ (r .tests ≡ 0) × (number ≤ 11)
+    ]
 
 unfoldable pub ClosestFits : Result ClosestAnswer → Type 0
 ClosestFits r =

@@ -12,12 +12,13 @@ ghost use Rattle.validate.specs.Validity.{answerOf};
 ghost use Rattle.bvh2_to_cwbvh.specs.Answer.{answerOf as conversionAnswer};
 ghost use Rattle.funnelcress.specs.Answers.{answerNumber};
 ghost use Rattle.funnelcress.specs.Converted.{conversionBy, conversionNumber, handed};
-ghost use Rattle.any_hit.specs.AnyHit.{answerOf as anyHitAnswer};
+ghost use Rattle.any_hit.specs.AnyHit.{resultOf as anyHitResult};
 ghost use Rattle.closest.specs.Panes.{closestAnswer, closestResult, missResult};
 ghost use Rattle.funnelcress.specs.Queries.{anyHitBy, listBy, closestBy, distanceIn, missBy, shortCause};
 ghost use Rattle.funnelcress.specs.Queries.{numberOf, anyHitNumber, closestNumber, missNumber, AnyHitFits, ClosestFits, MissFits};
 ghost use Rattle.funnelcress.specs.Lists.{filled, areaAt, entryAt, refusal, rayRefusal, answered};
 use any_hit::AnyHit;
+use any_hit::AnyHitFound;
 use bvh2_to_cwbvh::Conversion;
 use closest::ClosestFound;
 use closest::ClosestHit;
@@ -209,13 +210,14 @@ fn query_number(tests: u32, kind: u64, held: u32) -> u64
 }
 
 // Any-hit's answer as a number.
-fn any_hit_number(answer: AnyHit) -> u64
-    requires { ⌜ AnyHitFits (anyHitAnswer answer) ⌝ }
-    ensures { λ r. ⌜ r ≡ anyHitNumber (anyHitAnswer answer) ⌝ }
+fn any_hit_number(found: AnyHitFound) -> u64
+    requires { ⌜ AnyHitFits (anyHitResult found) ⌝ }
+    ensures { λ r. ⌜ r ≡ anyHitNumber (anyHitResult found) ⌝ }
 {
+    let answer = found.answer;
     match answer {
-        AnyHit::Listed(count, tests) => return query_number(tests, 0, count),
-        AnyHit::Short(needed) => return query_number(0, 1, needed),
+        AnyHit::Listed(count) => return query_number(found.tests, 0, count),
+        AnyHit::Short(needed) => return query_number(found.tests, 1, needed),
         AnyHit::Refused(number) => return refusal_number(number),
     }
 }

@@ -1,2 +1,3 @@
 pub mod Entry
+pub mod Result
 pub mod Walk

@@ -37,7 +37,7 @@ fn same_any(ray: &[u8], record: &[u8], n: usize, room: usize, space: &mut [u32])
     if room > space.len() {
         return false;
     }
-    let answer = any_hit::any_hit(
+    let found = any_hit::any_hit(
         record,
         n,
         vector(ray, 0),
@@ -46,9 +46,10 @@ fn same_any(ray: &[u8], record: &[u8], n: usize, room: usize, space: &mut [u32])
         real(ray, 7),
         &mut space[..room],
     );
+    let answer = found.answer;
     match answer {
-        AnyHit::Listed(count, tests) => {
-            if tests != word(ray, 8) {
+        AnyHit::Listed(count) => {
+            if found.tests != word(ray, 8) {
                 return false;
             }
             if count != word(ray, 9) {

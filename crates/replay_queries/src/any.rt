@@ -1,6 +1,7 @@
 // Any-hit on a stored question: a ray's eight floats, the number of positions, the words lent, and the answer.
 use crate::head::same_head;
 use any_hit::AnyHit;
+use any_hit::AnyHitFound;
 use stored::all_are;
 use stored::real;
 use stored::vector;
@@ -35,21 +36,23 @@ fn same_list(asked: &[u8], space: &[u32], count: usize) -> bool {
 }
 
 // Whether this is the stored answer, and leaves in the words, those past the lent ones too, what it should: all as it was beside a refusal.
-fn same_answer(asked: &[u8], answer: AnyHit, space: &[u32]) -> bool {
+fn same_answer(asked: &[u8], found: AnyHitFound, space: &[u32]) -> bool {
+    let answer = found.answer;
     match answer {
-        AnyHit::Listed(count, tests) => {
-            if same_head(asked, 10, 0, tests, count) {
+        AnyHit::Listed(count) => {
+            if same_head(asked, 10, 0, found.tests, count) {
                 return same_list(asked, space, count as usize);
             }
             false
         }
         AnyHit::Short(needed) => {
-            if same_head(asked, 10, 11, 0, 1) {
+            if same_head(asked, 10, 11, found.tests, 1) {
                 return word(asked, 13) == needed && all_are(space, BEFORE);
             }
             false
         }
-        AnyHit::Refused(number) => same_head(asked, 10, number, 0, 0) && all_are(space, BEFORE),
+        AnyHit::Refused(number) => same_head(asked, 10, number, found.tests, 0)
+            && all_are(space, BEFORE),
     }
 }
 
@@ -60,7 +63,7 @@ fn answers(asked: &[u8], record: &[u8], space: &mut [u32]) -> bool {
     if lent > space.len() {
         return false;
     }
-    let answer = any_hit::any_hit(
+    let found = any_hit::any_hit(
         record,
         n,
         vector(asked, 0),
@@ -69,7 +72,7 @@ fn answers(asked: &[u8], record: &[u8], space: &mut [u32]) -> bool {
         real(asked, 7),
         &mut space[..lent],
     );
-    same_answer(asked, answer, space)
+    same_answer(asked, found, space)
 }
 
 // Whether any-hit answers as stored.

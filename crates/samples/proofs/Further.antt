@@ -40,8 +40,9 @@ use Rattle.walk.specs.WordStep.{stepWords, advanceWords, reportWords, visitWord
 use Rattle.walk.specs.WordQueries.{queryWords}
 use Rattle.walk_record.specs.Walk.{queryAt}
 use Rattle.query.specs.Entry.{entryConditions}
+use Rattle.query.specs.Result.{walked, entered}
 use Rattle.closest.specs.Panes.{paneMet, paneOf, hitAt, noHit, refusedClosest, missed, blocked, refusedMiss}
-use Rattle.closest.specs.Panes.{closestFound, missFound, walked, entered, closestWalk, missWalk, closestOf, missOf}
+use Rattle.closest.specs.Panes.{closestFound, missFound, closestWalk, missWalk, closestOf, missOf}
 use Rattle.text.specs.Text.{chars, digits, decimal, hexDigit, hex}
 use Rattle.show.specs.Input.{inputWords}
 use Rattle.show.specs.Show.{nodeLine, nodeLines, spaced, indicesLine, recordText, numbered}

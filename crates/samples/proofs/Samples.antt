@@ -40,9 +40,9 @@ use Rattle.walk.specs.WordStep.{stepWords, advanceWords, reportWords, visitWord
 use Rattle.walk.specs.WordQueries.{queryWords}
 use Rattle.walk_record.specs.Walk.{queryAt, anyHitAt}
 use Rattle.query.specs.Entry.{entryConditions}
+use Rattle.query.specs.Result.{walked, entered}
 use Rattle.closest.specs.Panes.{paneMet, paneOf, hitAt, noHit, closestFound, closestWalk, closestOf}
-use Rattle.closest.specs.Panes as panes
-use Rattle.any_hit.specs.AnyHit.{listed, fitted, walked, walkOf, anyHitOf, listFor, listAfter}
+use Rattle.any_hit.specs.AnyHit.{listed, fitted, walkOf, anyHitOf, listFor, listAfter}
 use Rattle.wide.specs.Shape.{nodeAt}
 use Rattle.record.specs.Record.{metas, innerMask, gridBox, gridBoxes, nodeOf, joined, recordBytes}
 use Rattle.tables.specs.Tables.{recordSize, hasRoom, prepareConditions}
@@ -122,11 +122,11 @@ unfolding exponentOf extentScale nextPower maxOf ofInt round sub mul div lt le
 extent-0 = refl
 
 any-hits :
-    (anyHitOf bytesT 2 ahead 2 ≡ listed 2 1)
+    (anyHitOf bytesT 2 ahead 2 ≡ record { answer = listed 2; tests = 1 })
     × (listAfter bytesT 2 ahead (7 ∷ 7 ∷ 7 ∷ []) ≡ 1 ∷ 0 ∷ 7 ∷ [])
-    × (anyHitOf bytesT 2 beside 2 ≡ listed 0 1)
-    × (anyHitOf [] 0 ahead 0 ≡ listed 0 0)
-unfolding anyHitOf listAfter listFor splice entryConditions recordConditions firstCause walkOf walked fitted anyHitAt queryAt queryWords stepWords
+    × (anyHitOf bytesT 2 beside 2 ≡ record { answer = listed 0; tests = 1 })
+    × (anyHitOf [] 0 ahead 0 ≡ record { answer = listed 0; tests = 0 })
+unfolding anyHitOf listAfter listFor splice entryConditions recordConditions firstCause entered walkOf walked fitted anyHitAt queryAt queryWords stepWords
     advanceWords reportWords
     visitWords popWords rayOf octantOf hitMask slotHit hitBits orOf passes nearOf farOf maxOf minOf planeAt adjustedInverse adjustedOrigin nearLimit
     scaleOf nodeFrom leAt sumOf slotFrom slotOffset nodeRule headOk childrenOk slotsOk slotOk leafTop pointOk exponentOk inBounds onesBelow field
@@ -137,7 +137,7 @@ closest :
     (closestOf bytesT indicesT panesT ahead ≡ record { answer = hitAt 0 (number 1); tests = 1 })
     × (closestOf bytesT indicesT panesT beside ≡ record { answer = noHit; tests = 1 })
     × (closestOf [] [] [] ahead ≡ record { answer = noHit; tests = 0 })
-unfolding closestOf closestWalk closestFound panes.walked panes.entered entryConditions recordConditions firstCause paneOf paneMet counts boxIn vecIn queryAt
+unfolding closestOf closestWalk closestFound walked entered entryConditions recordConditions firstCause paneOf paneMet counts boxIn vecIn queryAt
     queryWords stepWords advanceWords
     reportWords visitWords popWords rayOf octantOf hitMask slotHit hitBits orOf passes nearOf farOf maxOf minOf planeAt adjustedInverse
     adjustedOrigin nearLimit scaleOf nodeFrom leAt sumOf slotFrom slotOffset nodeRule headOk childrenOk slotsOk slotOk leafTop pointOk exponentOk

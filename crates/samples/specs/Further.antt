@@ -9,7 +9,8 @@ use Rattle.bvh2.specs.Words.{treeOf}
 use Rattle.cost.specs.Table.{wordOf}
 use Rattle.node.specs.Bytes.{bytes}
 use Rattle.text.specs.Text.{chars}
-use Rattle.closest.specs.Panes.{Result, ClosestAnswer, hitAt, noHit, refusedClosest, MissAnswer, missed, blocked, refusedMiss, closestOf, missOf}
+use Rattle.query.specs.Result.{Result}
+use Rattle.closest.specs.Panes.{ClosestAnswer, hitAt, noHit, refusedClosest, MissAnswer, missed, blocked, refusedMiss, closestOf, missOf}
 use Rattle.show_text.specs.ShowText.{showText}
 use Rattle.samples.specs.TreeT.{number, wordsT, indicesT, panesT, bytesT, rayAlong}
 use Rattle.samples.specs.Samples.{ahead}

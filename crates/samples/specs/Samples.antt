@@ -69,15 +69,15 @@ pub record Samples : Type 0 where
   -- with ordering on, A (position 0) is in slot 0 and B (position 1) in slot 4
   pub ordered-T : take 8 (drop 24 (recordOf wordsT 2 3 true)) ≡ 0x20 ∷ 0 ∷ 0 ∷ 0 ∷ 0x21 ∷ 0 ∷ 0 ∷ 0 ∷ []
   -- along (1, 0, 0): any-hit lists position 1, then 0, by one test; closest is position 0 at 1.0, by one test
-  pub any-hit-T : anyHitOf bytesT 2 ahead 2 ≡ listed 2 1
+  pub any-hit-T : anyHitOf bytesT 2 ahead 2 ≡ record { answer = listed 2; tests = 1 }
   pub any-hit-T-list : listAfter bytesT 2 ahead (7 ∷ 7 ∷ 7 ∷ []) ≡ 1 ∷ 0 ∷ 7 ∷ []
   pub closest-T : closestOf bytesT indicesT panesT ahead ≡ record { answer = hitAt 0 (number 1); tests = 1 }
   -- along (1, −0.0, 0) neither meets anything, by one test
-  pub any-hit-zero : anyHitOf bytesT 2 beside 2 ≡ listed 0 1
+  pub any-hit-zero : anyHitOf bytesT 2 beside 2 ≡ record { answer = listed 0; tests = 1 }
   pub closest-zero : closestOf bytesT indicesT panesT beside ≡ record { answer = noHit; tests = 1 }
   -- without leaves there are no nodes, and neither meets anything, without a test
   pub nothing : convert [] [] 3 ≡ converted 0 0
-  pub any-hit-nothing : anyHitOf [] 0 ahead 0 ≡ listed 0 0
+  pub any-hit-nothing : anyHitOf [] 0 ahead 0 ≡ record { answer = listed 0; tests = 0 }
   pub closest-nothing : closestOf [] [] [] ahead ≡ record { answer = noHit; tests = 0 }
   -- a leaf limit of 3 is accepted, 4 is refused 3, without leaves too
   pub limit-3 : convert wordsT indicesT 3 ≡ converted 1 0

@@ -1,6 +1,7 @@
 use mathlib.Core.Path.{ap, _∙_}
 use lib.ListN.{take}
 use borrow.Author.Needs.{needs}
+use Rattle.query.specs.Result.{Result}
 use Rattle.any_hit.specs.AnyHit.{Answer, answerOf, listFor}
 use Rattle.any_hit.proofs.Answers.{fits, lacks}
 use Rattle.any_hit.proofs.deliver.Statement.{statement}
@@ -11,7 +12,7 @@ unfolding answerOf listFor
 returns c =
     let a = c .before .before .before .args in
     let e = lacks (a .count) (a .tests) _ (c .if1 .taken) in
-    (e, ap (λ (x : Answer). listFor x (take (a .count) (a .found .now)) (a .list .now)) e)
+    (e, ap (λ (x : Result Answer). listFor (x .answer) (take (a .count) (a .found .now)) (a .list .now)) e)
 
 copy-requires : tie.Need-copy-requires
 copy-requires c κs = search needs
@@ -26,7 +27,7 @@ returns-2 c =
     let i = k .before .before in
     let a = i .before .before .before .args in
     let e = fits (a .count) (a .tests) _ (i .if1 .left) in
-    (e, k .copy .ensures ∙ ap (λ (x : Answer). listFor x (take (a .count) (a .found .now)) (a .list .now)) e)
+    (e, k .copy .ensures ∙ ap (λ (x : Result Answer). listFor (x .answer) (take (a .count) (a .found .now)) (a .list .now)) e)
 
 pub deliver-spec : {M : Type 1} → statement M
 deliver-spec = tie.close (tie.spec returns copy-requires same-length returns-2)

@@ -1,6 +1,6 @@
 use mathlib.Core.Path.{_∙_}
 use native.Mathlib.Omega.{arith}
-use Rattle.funnelcress.proofs.QueryNumbers.{number-listed, number-short, number-refused, listed-tests}
+use Rattle.funnelcress.proofs.QueryNumbers.{number-listed, number-short, number-refused, listed-tests, short-tests}
 use borrow.Author.Needs.{needs}
 use Rattle.funnelcress.proofs.any_hit_number.Statement.{statement}
 use Rattle.funnelcress.proofs.any_hit_number.Tie as tie
@@ -9,16 +9,16 @@ enum-known-answer : tie.Need-enum-known-answer
 enum-known-answer c = search needs
 
 query-number-requires : tie.Need-query-number-requires
-query-number-requires c κs = (listed-tests _ _ _ (c .before .answer .given .1) (c .before .before .before .pre), omega arith)
+query-number-requires c κs = (listed-tests _ _ (c .before .answer .given .1) (c .before .before .before .pre), omega arith)
 
 returns : tie.Need-returns
-returns c = c .query-number .ensures ∙ number-listed _ _ _ (c .before .before .answer .given .1)
+returns c = c .query-number .ensures ∙ number-listed _ _ (c .before .before .answer .given .1)
 
 enum-known-answer-2 : tie.Need-enum-known-answer-2
 enum-known-answer-2 c = search needs
 
 query-number-requires-2 : tie.Need-query-number-requires-2
-query-number-requires-2 c κs = search needs
+query-number-requires-2 c κs = (short-tests _ _ (c .before .answer2 .given .1) (c .before .before .before .pre), omega arith)
 
 returns-2 : tie.Need-returns-2
 returns-2 c = c .query-number2 .ensures ∙ number-short _ _ (c .before .before .answer2 .given .1)
