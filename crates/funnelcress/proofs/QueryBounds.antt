@@ -73,7 +73,7 @@ walk-fits bytes n b m room =
 
 pub any-hit-fits : (bytes : List ℕ) (n : ℕ) (r : Ray) (room : ℕ) → AnyHitFits (H.anyHitOf bytes n r room)
 unfolding H.anyHitOf R.entered AnyHitFits
-any-hit-fits bytes n r room = go (entryCause true (length bytes) n 0 r) refl (entry-most true (length bytes) n 0 r)
+any-hit-fits bytes n r room = go (entryCause true (length bytes) n 0 r) refl (entry-most true (length bytes) n r)
   where
     go : (c : ℕ) → entryCause true (length bytes) n 0 r ≡ c → c ≤ 11
         → AnyHitFits (R.entered H.refused c (H.walkOf bytes n (beamOf r) room))
