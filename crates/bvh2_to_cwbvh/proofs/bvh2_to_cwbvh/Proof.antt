@@ -114,7 +114,8 @@ returns-3 : tie.Need-returns-3
 unfolding answerOf
 returns-3 c =
     let k = c .before .before in
-    let w = k .before .before .before .before in
+    let l = k .before .before in
+    let w = l .before .before in
     let t = w .before .before in
     let d = t .before in
     let s = d .before .before in

@@ -68,10 +68,12 @@ cast-print-record c = search needs
 
 print-record-requires : tie.Need-print-record-requires
 print-record-requires c κs =
-    let g = c .before .before .before .before in
-    let b = g .before .before .before .before in
-    let d = b .before .before .before .before in
-    let q = d .before .before in
+    let w = c .before .before in
+    let g = w .before .before in
+    let b = g .before .before .before in
+    let d = b .before .before .before in
+    let f = d .before .before .before in
+    let q = f .before in
     let r = q .bvh2-to-cwbvh in
     let k = r .kept .1 .1 .1 .1 .1 .1 in
     print-ready (call q) (out q) (few q) (room q) _ _ _ (converts-at q _ _ (g .c .given .1)) (k .0) (k .1 .0)
@@ -94,10 +96,12 @@ same-length-5 c = search needs
 returns : tie.Need-returns
 returns c =
     let p = c .before .before in
-    let g = p .before .before .before .before .before in
-    let b = g .before .before .before .before in
-    let d = b .before .before .before .before in
-    let q = d .before .before in
+    let w = p .before .before .before in
+    let g = w .before .before in
+    let b = g .before .before .before in
+    let d = b .before .before .before in
+    let f = d .before .before .before in
+    let q = f .before in
     wrote-as _ _ _ _ _
     (record-shown (call q) (out q) (few q) (room q) _ _ _ (converts-at q _ _ (g .c .given .1))) (p .print-record .ensures)
 
@@ -126,9 +130,10 @@ returns-2 : tie.Need-returns-2
 returns-2 c =
     let p = c .before .before in
     let g = p .before .before .before in
-    let b = g .before .before .before .before in
-    let d = b .before .before .before .before in
-    let q = d .before .before in
+    let b = g .before .before .before in
+    let d = b .before .before .before in
+    let f = d .before .before .before in
+    let q = f .before in
     let r = q .bvh2-to-cwbvh in
     wrote-as _ _ _ _ _
     (refusal-shown (call q) (out q) (few q) (room q) (r .result) _ _ _ _ (r .ensures) _ (g .c2 .given .1))

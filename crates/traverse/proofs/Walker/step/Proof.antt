@@ -53,7 +53,8 @@ returns-3 c =
 
 turn-requires : tie.Need-turn-requires
 turn-requires c κs =
-    let f = c .before .before .before .before in
+    let o = c .before .before in
+    let f = o .before .before in
     let s = f .before .before .before in
     let a = s .before .before .before .args in
     walks (a .«record» .now) (a .n) (wordsOf (a .self)) (fit s) (sym (f .before .is-forged .ensures) ∙ f .if2 .left)
