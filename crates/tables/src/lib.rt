@@ -41,9 +41,9 @@ fn record_size(n: usize) -> usize
         return 0;
     }
     if n == 1 {
-        return 80;
+        return node::BYTES;
     }
-    80 * (n - 1)
+    node::BYTES * (n - 1)
 }
 
 // Whether decisions, costs, record bytes and output indices are long enough for n leaves.

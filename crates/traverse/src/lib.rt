@@ -101,14 +101,14 @@ fn is_over(m: usize, walk: Walk, octant: u32) -> bool
     if walk.positions.bits != 0 {
         return false;
     }
-    if current.bits < 0x100_0000 {
+    if current.bits < advance::CHILDREN {
         return false;
     }
     if advance::first_child(current, octant) != 0 {
         return false;
     }
     let rest = advance::rest_of(current);
-    if rest.bits >= 0x100_0000 {
+    if rest.bits >= advance::CHILDREN {
         return false;
     }
     walk.depth == 0
@@ -236,7 +236,7 @@ impl Walker {
                 answer: Answer::Refused(cause),
             };
         }
-        let m = record.len() / 80;
+        let m = record.len() / node::BYTES;
         let walk = self.walk;
         if is_forged(self.ray, self.octant, walk.depth, walk.tests, m) {
             return Stepped {

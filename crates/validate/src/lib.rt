@@ -173,6 +173,6 @@ pub fn validate(record: &[u8], n: usize, work: &mut [u32]) -> Validity
     if c != 0 {
         return Validity::Refused(c);
     }
-    let m = record.len() / 80;
+    let m = record.len() / node::BYTES;
     run(record, m, n, &mut work[..m + n])
 }
