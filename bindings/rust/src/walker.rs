@@ -25,8 +25,8 @@ pub enum Step {
     Done,
 }
 
-/// A walk of a ray through a record: an iterator over the positions that the ray passes, highest first in a node. A
-/// caller with a pane test of its own tells the walker each distance, and what is farther is then passed over.
+/// A walk of a ray through a record: an iterator over the positions that the ray passes, highest first in a node. Told
+/// how far off a hit is, it passes over what lies farther.
 ///
 /// ```
 /// use funnelcress::{Options, Ray, Tree};

@@ -48,9 +48,11 @@ of-extents x y z p q r =
     let s : Upto (add binary32 x y) (2 ^ 42) 1 = add-upto binary32 x y (2 ^ 41) (2 ^ 41) 1 (lit< tt) (held-pow binary32 42 (lit≤ tt)) p q in
     let t : Upto (mul binary32 (add binary32 x y) z) (2 ^ 83) 1 =
     mul-upto binary32 (add binary32 x y) z (2 ^ 42) 1 (2 ^ 41) 1 (lit< tt) (lit< tt) (held-pow binary32 83 (lit≤ tt)) s r in
-    let u : Upto (mul binary32 x y) (2 ^ 82) 1 = mul-upto binary32 x y (2 ^ 41) 1 (2 ^ 41) 1 (lit< tt) (lit< tt) (held-pow binary32 82 (lit≤ tt)) p q in
+    let u : Upto (mul binary32 x y) (2 ^ 82) 1 = mul-upto binary32 x y (2 ^ 41) 1 (2 ^ 41) 1 (lit< tt) (lit< tt) (held-pow binary32 82 (lit≤ tt)) p
+    q in
     upto-le (add binary32 (mul binary32 (add binary32 x y) z) (mul binary32 x y)) (2 ^ 83 + 2 ^ 82) 1 (2 ^ 84) 1 (lit< tt) (lit≤ tt)
-    (add-upto binary32 (mul binary32 (add binary32 x y) z) (mul binary32 x y) (2 ^ 83) (2 ^ 82) 1 (lit< tt) (held-up binary32 3 82 (lit< tt) (lit≤ tt)) t u)
+    (add-upto binary32 (mul binary32 (add binary32 x y) z) (mul binary32 x y) (2 ^ 83) (2 ^ 82) 1 (lit< tt)
+    (held-up binary32 3 82 (lit< tt) (lit≤ tt)) t u)
 
 -- finite, not negative as a number (it can be -0), and at most 2 ^ 84
 pub half-area-bound : (b : Aabb) → Accepted b → Upto (halfArea b) (2 ^ 84) 1

@@ -27,7 +27,8 @@ module _ (g : W.Group) (stack : List ℕ) (depth : ℕ) where
     unfolding dueGroup
     due-none z = let q : waitingDepth stack depth ≡ 0 = sym e ∙ z in rw (lt-leb 0x100_0000 (g .bits) empty, q)
 
-    pub due-top : 0 < d → (word : ℕ) → word ≡ topOf stack d → record { group = record { base = word % 2 ^ 32; bits = word / 2 ^ 32 }; depth = d - 1 } ≡ dueGroup g stack depth
+    pub due-top : 0 < d → (word : ℕ) → word ≡ topOf stack d
+        → record { group = record { base = word % 2 ^ 32; bits = word / 2 ^ 32 }; depth = d - 1 } ≡ dueGroup g stack depth
     unfolding dueGroup
     due-top h word f = rw (lt-leb 0x100_0000 (g .bits) empty, ← e, f) (go d h)
       where
@@ -55,7 +56,8 @@ module _ {s d : Type 0} (m : ℕ) (N : NodeWords s d) (n : ℕ) (w : WalkerWords
   due = dueGroup (w .current) (w .stack) (w .depth)
 
   pops : (k : ℕ) → (0 < k → hasChild (unpacked (topOf (w .stack) k)) ≡ true)
-      → cond (hasChild (popped (w .stack) k .group)) (visitWords m N n w (popped (w .stack) k .group) (popped (w .stack) k .depth)) (stayWords w S.done) ≡ popWords m N n w k
+      → cond (hasChild (popped (w .stack) k .group)) (visitWords m N n w (popped (w .stack) k .group) (popped (w .stack) k .depth))
+      (stayWords w S.done) ≡ popWords m N n w k
   unfolding popWords
   pops zero h = refl
   pops (suc k) h = let z : suc k - 1 ≡ k = omega arith in rw (h (omega arith), lt-ltb 0 (suc k) (omega arith), z)
@@ -78,7 +80,9 @@ module _ {s d : Type 0} (m : ℕ) (N : NodeWords s d) (n : ℕ) (w : WalkerWords
     does = ap (λ (x : DueGroup). cond (hasChild (x .group)) (visitWords m N n w (x .group) (x .depth)) (stayWords w S.done)) is ∙ turn-due
 
     pub turn-none : g .group .bits < 0x100_0000 → stayWords w S.done ≡ advanceWords m N n w
-    turn-none h = sym (ap (λ (b : Bool). cond b (visitWords m N n w (g .group) (g .depth)) (stayWords w S.done)) (lt-leb 0x100_0000 (g .group .bits) h)) ∙ does
+    turn-none h = sym (ap (λ (b : Bool). cond b (visitWords m N n w (g .group) (g .depth)) (stayWords w S.done))
+        (lt-leb 0x100_0000 (g .group .bits) h)) ∙ does
 
     pub turn-visits : 0x100_0000 ≤ g .group .bits → visitWords m N n w (g .group) (g .depth) ≡ advanceWords m N n w
-    turn-visits h = sym (ap (λ (b : Bool). cond b (visitWords m N n w (g .group) (g .depth)) (stayWords w S.done)) (le-leb 0x100_0000 (g .group .bits) h)) ∙ does
+    turn-visits h = sym (ap (λ (b : Bool). cond b (visitWords m N n w (g .group) (g .depth)) (stayWords w S.done))
+        (le-leb 0x100_0000 (g .group .bits) h)) ∙ does

@@ -17,13 +17,14 @@ use Rattle.advance.specs.declared.Turn.{Turn}
 use Rattle.advance.specs.declared.Answer.{Answer}
 use Rattle.advance.specs.declared.Answer.the-variants.{Tested, Position, Done, Refused}
 use Rattle.advance.specs.declared.Walk.{Walk}
-use Rattle.advance.specs.Turn.{answerOf, walkerOf, seeking, goesOn}
+use Rattle.advance.specs.Turn.{stepAnswer, walkerOf, seeking, goesOn}
 use Rattle.advance.proofs.Answer.{the-type}
 use Rattle.advance.proofs.Shows.{Shows, turn-shows}
 
 -- A search from a walk without positions in hand, by its numbers, is one from the walk.
 pub seeking-from : (ray : Ray) (octant : ℕ) (stack : List ℕ) (v : Walk) → v .positions .bits ≡ 0
-    → walkerOf ray octant (seeking (v .tests) (v .positions .base) (v .current .base) (v .current .bits) (v .depth)) stack ≡ walkerOf ray octant v stack
+    → walkerOf ray octant (seeking (v .tests) (v .positions .base) (v .current .base) (v .current .bits) (v .depth)) stack
+    ≡ walkerOf ray octant v stack
 seeking-from ray octant stack v e =
     ap (λ (bits : ℕ). walkerOf ray octant
     (record {
@@ -39,18 +40,19 @@ seeking-from ray octant stack v e =
 
 module _ (t : Turn) (left : ℕ) where
   pub found-some : (v : ℕ) → t .answer ≡ Tested v → 0 < t .walk .positions .bits → false ≡ goesOn t left
-  unfolding goesOn answerOf
+  unfolding goesOn stepAnswer
   found-some v e h = rw (e, ne-eqb (t .walk .positions .bits) 0 (λ z. omega arith))
 
   pub found-none : (v : ℕ) → t .answer ≡ Tested v → t .walk .positions .bits ≤ 0 → ltb 0 left ≡ goesOn t left
-  unfolding goesOn answerOf
+  unfolding goesOn stepAnswer
   found-none v e h = rw (e, eq-eqb (t .walk .positions .bits) 0 (omega arith))
 
   pub found-end : OneOf (1 ∷ 2 ∷ 3 ∷ []) (tagOf the-type (t .answer)) → false ≡ goesOn t left
-  unfolding goesOn answerOf
+  unfolding goesOn stepAnswer
   found-end h = go (t .answer) h
     where
-      go : (b : Answer) → OneOf (1 ∷ 2 ∷ 3 ∷ []) (tagOf the-type b) → false ≡ (isTest (answerOf b) && eqb (t .walk .positions .bits) 0 && ltb 0 left)
+      go : (b : Answer) → OneOf (1 ∷ 2 ∷ 3 ∷ []) (tagOf the-type b) → false
+          ≡ (isTest (stepAnswer b) && eqb (t .walk .positions .bits) 0 && ltb 0 left)
       go (Tested v) k = absurd (⊎-elim (λ e. omega arith) (⊎-elim (λ e. omega arith) (λ e. omega arith)) k)
       go (Position p) k = refl
       go Done k = refl
@@ -63,7 +65,8 @@ and-true true true e = (refl, refl)
 and-true true false e = (refl, e)
 and-true false b e = (e, absurd (let z : _≡_ {A = ℕ} 0 1 = cc in omega arith))
 
-module _ {s d : Type 0} (m : ℕ) (N : NodeWords s d) (n : ℕ) (w : WalkerWords s) (r : SteppedWords s) (left : ℕ) (turn : r ≡ advanceWords m N n w) where
+module _ {s d : Type 0} (m : ℕ) (N : NodeWords s d) (n : ℕ) (w : WalkerWords s) (r : SteppedWords s) (left : ℕ)
+    (turn : r ≡ advanceWords m N n w) where
   -- with k more turns allowed after it
   abbrev after : ℕ → SteppedWords s → SteppedWords s
   after k x = cond (findsNone x) (seekWords m N k n (x .walker)) x

@@ -1,4 +1,5 @@
--- What the answer of a turn tells, for any fields and masks of nodes and any rays; and that a turn is the defined step where nothing stands in the way.
+-- What the answer of a turn tells, for any fields and masks of nodes and any rays; and that a turn is the defined step where nothing stands in the
+-- way.
 use mathlib.Core.Bool.{Bool, true, false, not, _&&_, _||_, cond}
 use mathlib.Core.Path.{_≡_, refl}
 use Prim.Native.Nat.{ℕ, suc, _≤_, _<_}
@@ -8,7 +9,8 @@ use borrow.Author.Tests.{le-leb, lt-leb, le-ltb, leb-false, ltb-true, ltb-false}
 use Rattle.faststack.specs.Stack.{capacity, hasRoom, topOf}
 use Rattle.walk.specs.Step.{Answer, tested, position, done, refused}
 use Rattle.walk.specs.Words.{Group, unpacked, restOf, firstPosition, firstChild, hasChild, waitingDepth}
-use Rattle.walk.specs.WordStep.{WalkerWords, SteppedWords, NodeWords, leaving, pastSkips, badChild, reportWords, visitWords, popWords, turnWords, advanceWords, stepWords}
+use Rattle.walk.specs.WordStep.{WalkerWords, SteppedWords, NodeWords, leaving, pastSkips, badChild, reportWords, visitWords, popWords, turnWords}
+use Rattle.walk.specs.WordStep.{advanceWords, stepWords}
 use Rattle.walk.proofs.Cases.{cond-elim, or-false}
 use Rattle.walk.proofs.Stacks.{waiting-most}
 

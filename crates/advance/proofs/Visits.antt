@@ -10,15 +10,16 @@ use borrow.Author.Tests.{le-leb, lt-leb, leb-false}
 use Rattle.ray.specs.declared.Ray.{Ray}
 use Rattle.node.specs.declared.Node.{Node}
 use Rattle.node.specs.Node.{nodeAt}
-use Rattle.rule.specs.Rule.{nodeRule}
-use Rattle.slot.specs.Mask.{hitMask}
+use Rattle.node_rule.specs.Rule.{nodeRule}
+use Rattle.node_slot.specs.Mask.{hitMask}
 use Rattle.node_test.specs.declared.Tested.{Tested}
 use Rattle.node_test.specs.Test.{tested, broken}
 use Rattle.record_shape.specs.Record.{nodeCount}
 use Rattle.walk.specs.Step as S
 use Rattle.walk.specs.Words as W
-use Rattle.walk.specs.WordStep.{WalkerWords, SteppedWords, NodeWords, stayWords, passedPositions, passedChildren, afterTestWords, visitWords, badChild}
-use Rattle.walk_record.specs.Beam.{Beam, beams}
+use Rattle.walk.specs.WordStep.{WalkerWords, SteppedWords, NodeWords, stayWords, passedPositions, passedChildren, afterTestWords, visitWords}
+use Rattle.walk.specs.WordStep.{badChild}
+use Rattle.walk_record.specs.WalkRay.{WalkRay, byBoxes}
 use Rattle.walk_record.specs.Record.{nodeWordsAt}
 use Rattle.advance.specs.declared.Walk.{Walk}
 use Rattle.advance.specs.Turn.{groupOf, walkerOf, lacksRoom, isPast, waits, stacked, followed}
@@ -72,10 +73,12 @@ module _ {s d : Type 0} (m : ℕ) (N : NodeWords s d) (n : ℕ) (w : WalkerWords
   pub visit-past : crowded ≡ false → isPast child (w .tests) m ≡ true → stayWords w (S.refused 10) ≡ visitWords m N n w g depth
   visit-past e f = picked true e (rw f)
 
-  pub visit-broken : crowded ≡ false → isPast child (w .tests) m ≡ false → N .rule n child ≡ false → stayWords w (S.refused 10) ≡ visitWords m N n w g depth
+  pub visit-broken : crowded ≡ false → isPast child (w .tests) m ≡ false → N .rule n child ≡ false → stayWords w (S.refused 10)
+      ≡ visitWords m N n w g depth
   visit-broken e f r = picked true e (rw (f, r))
 
-  pub visit-tested : crowded ≡ false → isPast child (w .tests) m ≡ false → N .rule n child ≡ true → afterTestWords m N w g depth ≡ visitWords m N n w g depth
+  pub visit-tested : crowded ≡ false → isPast child (w .tests) m ≡ false → N .rule n child ≡ true → afterTestWords m N w g depth
+      ≡ visitWords m N n w g depth
   visit-tested e f r = picked false e (rw (f, r))
 
 -- ---- what a test gives
@@ -93,8 +96,22 @@ module _ (v : Node) (m n i : ℕ) (r : Ray) (octant : ℕ) (t : Tested) (e : t �
     where
       go : (b : Bool) → nodeRule v m n i ≡ b → (nodeRule v m n i ≡ true) × Passed v r octant t
       go true q =
-          let f : t ≡ record { meets = true; mask = hitMask v r octant; imask = v .imask; «child_base_idx» = v .«child_base_idx»; «primitive_base_idx» = v .«primitive_base_idx» } = rw q at e in
-          (q, record { mask = ap (λ (x : Tested). x .mask) f; imask = ap (λ (x : Tested). x .imask) f; childBase = ap (λ (x : Tested). x .«child_base_idx») f; positionBase = ap (λ (x : Tested). x .«primitive_base_idx») f })
+          let f : t ≡ record {
+            meets = true;
+            mask = hitMask v r octant;
+            imask = v .imask;
+            «child_base_idx» = v .«child_base_idx»;
+            «primitive_base_idx» = v .«primitive_base_idx»;
+          } = rw q at e in (
+            q,
+            record {
+              mask = ap (λ (x : Tested). x .mask) f;
+              imask = ap (λ (x : Tested). x .imask) f;
+              childBase = ap
+                  (λ (x : Tested). x .«child_base_idx») f;
+              positionBase = ap (λ (x : Tested). x .«primitive_base_idx») f;
+            },
+          )
       go false q = absurd (let f : t ≡ broken = rw q at e in subst T (sym (ap (λ (x : Tested). not (x .meets)) f) ∙ h) tt)
 
   pub broke-rule : not (t .meets) ≡ true → nodeRule v m n i ≡ false
@@ -104,7 +121,13 @@ module _ (v : Node) (m n i : ℕ) (r : Ray) (octant : ℕ) (t : Tested) (e : t �
       go : (b : Bool) → nodeRule v m n i ≡ b → nodeRule v m n i ≡ false
       go true q =
           absurd
-          (let f : t ≡ record { meets = true; mask = hitMask v r octant; imask = v .imask; «child_base_idx» = v .«child_base_idx»; «primitive_base_idx» = v .«primitive_base_idx» } = rw q at e in
+          (let f : t ≡ record {
+            meets = true;
+            mask = hitMask v r octant;
+            imask = v .imask;
+            «child_base_idx» = v .«child_base_idx»;
+            «primitive_base_idx» = v .«primitive_base_idx»;
+          } = rw q at e in
           subst T (sym h ∙ ap (λ (x : Tested). not (x .meets)) f) tt)
       go false q = q
 
@@ -112,11 +135,11 @@ module _ (v : Node) (m n i : ℕ) (r : Ray) (octant : ℕ) (t : Tested) (e : t �
 
 module _ (bytes : List ℕ) (n : ℕ) (ray : Ray) (octant : ℕ) (walk : Walk) (stack : List ℕ) (g : W.Group) (depth : ℕ) (rest : W.Group) (c : ℕ)
     (left : rest ≡ W.restOf g) (named : c ≡ W.firstChild octant g) where
-  abbrev w : WalkerWords Beam
+  abbrev w : WalkerWords WalkRay
   w = walkerOf ray octant walk stack
 
-  abbrev goal : SteppedWords Beam
-  goal = visitWords (nodeCount bytes) (nodeWordsAt bytes beams) n w g depth
+  abbrev goal : SteppedWords WalkRay
+  goal = visitWords (nodeCount bytes) (nodeWordsAt bytes byBoxes) n w g depth
 
   room-is : (b : Bool) → lacksRoom depth (rest .bits) ≡ b → lacksRoom depth (W.restOf g .bits) ≡ b
   room-is b e = ap (λ (x : W.Group). lacksRoom depth (x .bits)) (sym left) ∙ e
@@ -125,22 +148,23 @@ module _ (bytes : List ℕ) (n : ℕ) (ray : Ray) (octant : ℕ) (walk : Walk) (
   past-is b e = ap (λ (x : ℕ). isPast x (walk .tests) (nodeCount bytes)) (sym named) ∙ e
 
   pub turn-crowded : lacksRoom depth (rest .bits) ≡ true → stayWords w (S.refused 10) ≡ goal
-  turn-crowded e = visit-crowded (nodeCount bytes) (nodeWordsAt bytes beams) n w g depth (room-is true e)
+  turn-crowded e = visit-crowded (nodeCount bytes) (nodeWordsAt bytes byBoxes) n w g depth (room-is true e)
 
   pub turn-past : lacksRoom depth (rest .bits) ≡ false → isPast c (walk .tests) (nodeCount bytes) ≡ true → stayWords w (S.refused 10) ≡ goal
-  turn-past e f = visit-past (nodeCount bytes) (nodeWordsAt bytes beams) n w g depth (room-is false e) (past-is true f)
+  turn-past e f = visit-past (nodeCount bytes) (nodeWordsAt bytes byBoxes) n w g depth (room-is false e) (past-is true f)
 
   module _ (roomy : lacksRoom depth (rest .bits) ≡ false) (there : isPast c (walk .tests) (nodeCount bytes) ≡ false) (t : Tested)
       (test : t ≡ tested (nodeAt bytes c) (nodeCount bytes) n c ray octant) where
-    rule-is : (b : Bool) → nodeRule (nodeAt bytes c) (nodeCount bytes) n c ≡ b → nodeWordsAt bytes beams .rule n (W.firstChild octant g) ≡ b
+    rule-is : (b : Bool) → nodeRule (nodeAt bytes c) (nodeCount bytes) n c ≡ b → nodeWordsAt bytes byBoxes .rule n (W.firstChild octant g) ≡ b
     rule-is b e = ap (λ (x : ℕ). nodeRule (nodeAt bytes x) (nodeCount bytes) n x) (sym named) ∙ e
 
     pub turn-broken : not (t .meets) ≡ true → stayWords w (S.refused 10) ≡ goal
     turn-broken h =
-        visit-broken (nodeCount bytes) (nodeWordsAt bytes beams) n w g depth (room-is false roomy) (past-is false there)
+        visit-broken (nodeCount bytes) (nodeWordsAt bytes byBoxes) n w g depth (room-is false roomy) (past-is false there)
         (rule-is false (broke-rule (nodeAt bytes c) (nodeCount bytes) n c ray octant t test h))
 
-    pub turn-tested : not (t .meets) ≡ false → (v : Walk) (k : ℕ) (stack₁ : List ℕ) → v ≡ followed (walk .tests) t k → k ≡ waits depth (rest .bits) → stack₁ ≡ stacked stack depth rest
+    pub turn-tested : not (t .meets) ≡ false → (v : Walk) (k : ℕ) (stack₁ : List ℕ) → v ≡ followed (walk .tests) t k → k ≡ waits depth (rest .bits)
+        → stack₁ ≡ stacked stack depth rest
         → record { walker = walkerOf ray octant v stack₁; answer = S.tested c } ≡ goal
     unfolding followed hitMask
     turn-tested h v k stack₁ ve ke se =
@@ -163,4 +187,4 @@ module _ (bytes : List ℕ) (n : ℕ) (ray : Ray) (octant : ℕ) (walk : Walk) (
           };
           answer = S.tested (named j);
         })
-        ∙ visit-tested (nodeCount bytes) (nodeWordsAt bytes beams) n w g depth (room-is false roomy) (past-is false there) (rule-is true (p .0))
+        ∙ visit-tested (nodeCount bytes) (nodeWordsAt bytes byBoxes) n w g depth (room-is false roomy) (past-is false there) (rule-is true (p .0))

@@ -1,4 +1,4 @@
--- Internal: all but `answerOf`, `groupOf` and `walkerOf`. What the core of a walk says of the walker whose numbers it takes (01, "Walking").
+-- Internal: all but `stepAnswer`, `groupOf` and `walkerOf`. What the core of a walk says of the walker whose numbers it takes (01, "Walking").
 use mathlib.Core.Bool.{Bool, not, _&&_, _||_, cond}
 use mathlib.Core.List.{List}
 use mathlib.Core.Path.{_≡_}
@@ -7,14 +7,14 @@ use lib.Dec.{eqb, leb, ltb}
 use lib.ListN.{length}
 use Rattle.ray.specs.declared.Ray.{Ray}
 use Rattle.faststack.specs.Stack.{capacity, hasRoom, pushed, topOf}
-use Rattle.slot.specs.declared.Ends.{Ends}
-use Rattle.slot.specs.Parts.{endsOf}
+use Rattle.node_slot.specs.declared.Ends.{Ends}
+use Rattle.node_slot.specs.Parts.{endsOf}
 use Rattle.node_test.specs.declared.Tested.{Tested}
 use Rattle.record_shape.specs.Record.{nodeCount}
 use Rattle.walk.specs.Step as S
 use Rattle.walk.specs.Words as W
 use Rattle.walk.specs.WordStep.{WalkerWords, SteppedWords, isTest, noGroup}
-use Rattle.walk_record.specs.Beam.{Beam}
+use Rattle.walk_record.specs.WalkRay.{WalkRay}
 use Rattle.advance.specs.declared.Group.{Group}
 use Rattle.advance.specs.declared.Walk.{Walk}
 use Rattle.advance.specs.declared.Turn.{Turn}
@@ -26,23 +26,24 @@ abbrev pub groupOf : Group → W.Group
 groupOf g = record { base = g .base; bits = g .bits }
 
 -- an answer in the requirements' terms: a node tested, a position reported, done, or refused with the number of a cause
-unfoldable pub answerOf : Answer → S.Answer
-answerOf (TestedNode v) = S.tested v
-answerOf (Position p) = S.position p
-answerOf Done = S.done
-answerOf (Refused k) = S.refused k
+unfoldable pub stepAnswer : Answer → S.Answer
+stepAnswer (TestedNode v) = S.tested v
+stepAnswer (Position p) = S.position p
+stepAnswer Done = S.done
+stepAnswer (Refused k) = S.refused k
 
 -- only the first node is in hand
 abbrev pub begun : Walk
 begun = record { tests = 0; positions = record { base = 0; bits = 0 }; current = record { base = 0; bits = 0x8000_0000 }; depth = 0 }
 
--- a walk without positions in hand, by its numbers: the tests made, the base of the positions last in hand, the group in hand, and how many groups wait
+-- a walk without positions in hand, by its numbers: the tests made, the base of the positions last in hand, the group in hand, and how many groups
+-- wait
 abbrev pub seeking : (tests held current bits depth : ℕ) → Walk
 seeking tests held current bits depth =
     record { tests = tests; positions = record { base = held; bits = 0 }; current = record { base = current; bits = bits }; depth = depth }
 
 -- the walker of a ray with its octant, a walk and a stack
-abbrev pub walkerOf : Ray → ℕ → Walk → List ℕ → WalkerWords Beam
+abbrev pub walkerOf : Ray → ℕ → Walk → List ℕ → WalkerWords WalkRay
 walkerOf ray octant v stack =
     record {
       ray = record { ray = ray; octant = octant };
@@ -54,8 +55,8 @@ walkerOf ray octant v stack =
     }
 
 -- the walker after a turn, and the turn's answer
-abbrev pub turned : Ray → ℕ → Turn → List ℕ → SteppedWords Beam
-turned ray octant t stack = record { walker = walkerOf ray octant (t .walk) stack; answer = answerOf (t .answer) }
+abbrev pub turned : Ray → ℕ → Turn → List ℕ → SteppedWords WalkRay
+turned ray octant t stack = record { walker = walkerOf ray octant (t .walk) stack; answer = stepAnswer (t .answer) }
 
 -- what the core asks: a record of whole nodes within the bounds, the ends that the ray meets first, an octant, and a stack
 pub record Walkable (bytes : List ℕ) (n : ℕ) (ray : Ray) (e : Ends) (octant depth room : ℕ) : Type 0 where
@@ -117,5 +118,5 @@ followed tests t depth =
 
 -- a node was tested of which no position is passed, and tests are left
 unfoldable pub goesOn : Turn → ℕ → Bool
-unfolding answerOf
-goesOn t left = isTest (answerOf (t .answer)) && eqb (t .walk .positions .bits) 0 && ltb 0 left
+unfolding stepAnswer
+goesOn t left = isTest (stepAnswer (t .answer)) && eqb (t .walk .positions .bits) 0 && ltb 0 left

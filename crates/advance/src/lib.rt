@@ -5,15 +5,16 @@ ghost use Prim.Native.Nat.{_≤_, _<_};
 ghost use lib.ListN.{length};
 ghost use Rattle.faststack.specs.Stack.{capacity};
 ghost use Rattle.record_shape.specs.Record.{nodeCount};
-ghost use Rattle.slot.specs.Parts.{endsOf};
+ghost use Rattle.node_slot.specs.Parts.{endsOf};
 ghost use Rattle.walk.specs.Words.{firstPosition, firstChild, restOf, waitingDepth};
 ghost use Rattle.walk.specs.WordStep.{visitWords, advanceWords, seekWords};
-ghost use Rattle.walk_record.specs.Beam.{beams};
+ghost use Rattle.walk_record.specs.WalkRay.{byBoxes};
 ghost use Rattle.walk_record.specs.Record.{nodeWordsAt};
-ghost use Rattle.advance.specs.Turn.{groupOf, walkerOf, begun, turned, seeking, Walkable, dueIn, dueGroup, lacksRoom, waits, stacked, isPast, followed, goesOn};
+ghost use Rattle.advance.specs.Turn.{groupOf, walkerOf, begun, turned, seeking, Walkable, dueIn, dueGroup, lacksRoom, waits, stacked, isPast};
+ghost use Rattle.advance.specs.Turn.{followed, goesOn};
+use node_slot::Ends;
 use node_test::Tested;
 use ray::Ray;
-use slot::Ends;
 
 // Bits 31 to 24 of a group are its children.
 pub const CHILDREN: u32 = 0x100_0000;
@@ -94,7 +95,7 @@ pub fn first_child(g: Group, octant: u32) -> usize
     ensures { λ r. ⌜ r ≡ firstChild octant (groupOf g) ⌝ }
 {
     let top = words::highest(g.bits);
-    slot::hit_child(g.base, g.bits, top, octant)
+    node_slot::hit_child(g.base, g.bits, top, octant)
 }
 
 // How many groups wait, those on top left out that hold no child.
@@ -207,7 +208,9 @@ fn visit(
     n: usize,
 ) -> Turn
     requires { ⌜ Walkable (now «record») n ray e octant (g .depth) (length (now stack)) × (0x100_0000 ≤ g .group .bits) ⌝ }
-    ensures { λ r. ⌜ turned ray octant r (now (stack .exit)) ≡ visitWords (nodeCount (now («record» .entry))) (nodeWordsAt (now («record» .entry)) beams) n (walkerOf ray octant walk (now (stack .entry))) (groupOf (g .group)) (g .depth) ⌝ }
+    ensures { λ r. ⌜ turned ray octant r (now (stack .exit))
+        ≡ visitWords (nodeCount (now («record» .entry))) (nodeWordsAt (now («record» .entry)) byBoxes) n
+        (walkerOf ray octant walk (now (stack .entry))) (groupOf (g .group)) (g .depth) ⌝ }
 {
     let group = g.group;
     let rest = rest_of(group);
@@ -250,7 +253,9 @@ fn test_due(
     n: usize,
 ) -> Turn
     requires { ⌜ Walkable (now «record») n ray e octant (walk .depth) (length (now stack)) × (walk .positions .bits ≡ 0) ⌝ }
-    ensures { λ r. ⌜ turned ray octant r (now (stack .exit)) ≡ advanceWords (nodeCount (now («record» .entry))) (nodeWordsAt (now («record» .entry)) beams) n (walkerOf ray octant walk (now (stack .entry))) ⌝ }
+    ensures { λ r. ⌜ turned ray octant r (now (stack .exit))
+        ≡ advanceWords (nodeCount (now («record» .entry))) (nodeWordsAt (now («record» .entry)) byBoxes) n
+        (walkerOf ray octant walk (now (stack .entry))) ⌝ }
 {
     let current = walk.current;
     let g = due_group(current, walk.depth, stack);
@@ -279,8 +284,9 @@ fn goes_on(turn: Turn, left: u32) -> bool
     }
 }
 
-// On from a walk without positions in hand until some are, nothing is left, or a test is refused: one test, and up to `most` more. It takes the walk's
-// numbers one by one, which go in registers: a struct would go through memory, and what is stored in parts and read whole waits for the stores.
+// On from a walk without positions in hand until some are, nothing is left, or a test is refused: one test, and up to `most` more. It takes the
+// walk's numbers one by one, which go in registers: a struct would go through memory, and what is stored in parts and read whole waits for the
+// stores.
 pub fn seek(
     tests: u32,
     held: u32,
@@ -297,7 +303,7 @@ pub fn seek(
 ) -> Turn
     requires { ⌜ Walkable (now «record») n ray e octant depth (length (now stack)) ⌝ }
     ensures { λ r. ⌜ turned ray octant r (now (stack .exit))
-        ≡ seekWords (nodeCount (now («record» .entry))) (nodeWordsAt (now («record» .entry)) beams) most n
+        ≡ seekWords (nodeCount (now («record» .entry))) (nodeWordsAt (now («record» .entry)) byBoxes) most n
         (walkerOf ray octant (seeking tests held current bits depth) (now (stack .entry))) ⌝ }
 {
     let mut walk = Walk {

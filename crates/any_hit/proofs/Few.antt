@@ -7,7 +7,8 @@ use borrow.Author.Tests.{ltb-true, eqb-true}
 use Rattle.words.specs.Ones.{onesBelow}
 use Rattle.words.proofs.Ranks.{ones-word}
 use Rattle.walk.specs.Words.{Group, unpacked, hasChild, waitingDepth}
-use Rattle.walk.specs.WordStep.{WalkerWords, SteppedWords, NodeWords, isTest, findsNone, badChild, visitWords, popWords, turnWords, advanceWords, seekWords}
+use Rattle.walk.specs.WordStep.{WalkerWords, SteppedWords, NodeWords, isTest, findsNone, badChild, visitWords, popWords, turnWords, advanceWords}
+use Rattle.walk.specs.WordStep.{seekWords}
 use Rattle.walk.proofs.Cases.{cond-elim, and-true}
 use Rattle.walk.proofs.Words.{empty-front}
 use Rattle.walk.proofs.WordKept.{unskipped-turn}

@@ -11,7 +11,7 @@ use Rattle.walk.specs.Queries.{append}
 use Rattle.walk.specs.WordStep.{WalkerWords}
 use Rattle.walk.specs.WordQueries.{OutcomeWords}
 use Rattle.walk.proofs.WordEnds.{stepsLeftWords}
-use Rattle.walk_record.specs.Beam.{Beam, beamOf, beams}
+use Rattle.walk_record.specs.WalkRay.{WalkRay, walkRay, byBoxes}
 use Rattle.walk_record.specs.Record.{nodeWordsAt}
 use Rattle.walk_record.specs.Walk.{anyHitAt}
 use Rattle.advance.specs.declared.Answer.{Answer}
@@ -28,40 +28,40 @@ abbrev pub metIn : List ℕ → List ℕ → List ℕ
 metIn before noted = splice before 0 (take (length before) noted)
 
 -- a list after so many positions were to come into it
-abbrev pub listWith : (count tests : ℕ) → (noted before : List ℕ) → List ℕ
-listWith count tests noted before = listFor (fitted count tests (length before) .answer) noted before
+abbrev pub listFitted : (count tests : ℕ) → (noted before : List ℕ) → List ℕ
+listFitted count tests noted before = listFor (fitted count tests (length before) .answer) noted before
 
 -- where a walk stands after a search for positions with this answer
-unfoldable pub stateOf : Answer → State
-stateOf (A.Tested v) = Paused
-stateOf (A.Position p) = Paused
-stateOf A.Done = Done
-stateOf (A.Refused k) = Refused k
+unfoldable pub pauseOf : Answer → State
+pauseOf (A.Tested v) = Paused
+pauseOf (A.Position p) = Paused
+pauseOf A.Done = Done
+pauseOf (A.Refused k) = Refused k
 
 module _ (bytes : List ℕ) (n : ℕ) (ray : Ray) where
   -- how the whole query ends
-  abbrev pub outcome : OutcomeWords Beam (List ℕ)
-  outcome = anyHitAt bytes beams n (beamOf ray)
+  abbrev pub anyHitOutcome : OutcomeWords WalkRay (List ℕ)
+  anyHitOutcome = anyHitAt bytes byBoxes n (walkRay ray)
 
   -- so many positions are noted and written, and what is left of the query, run from here, is the whole query's outcome
-  pub record Walking (w : WalkerWords Beam) (count : ℕ) (before found : List ℕ) : Type 0 where
-    pub noted : List ℕ
-    pub leads : Leads (nodeCount bytes) (nodeWordsAt bytes beams) n append outcome w noted
-    pub counted : count ≡ length noted
+  pub record Walking (w : WalkerWords WalkRay) (count : ℕ) (before found : List ℕ) : Type 0 where
+    pub accumulator : List ℕ
+    pub leads : Leads (nodeCount bytes) (nodeWordsAt bytes byBoxes) n append anyHitOutcome w accumulator
+    pub counted : count ≡ length accumulator
     pub few : count + stepsLeftWords (nodeCount bytes) w ≤ 25 * nodeCount bytes
-    pub met : found ≡ metIn before noted
+    pub met : found ≡ metIn before accumulator
 
   -- the query ends without a fault, after so many positions and tests
   pub record Counted (count tests : ℕ) : Type 0 where
-    pub ended : outcome .ended ≡ S.done
-    pub all : count ≡ length (outcome .noted)
-    pub tested : tests ≡ outcome .walker .tests
+    pub ended : anyHitOutcome .ended ≡ S.done
+    pub all : count ≡ length (anyHitOutcome .accumulator)
+    pub tested : tests ≡ anyHitOutcome .walker .tests
 
   -- where gathering ends: with the query, or with over `most` noted and no position in hand
-  abbrev pub Stands : State → (most : ℕ) → WalkerWords Beam → (count : ℕ) → (before found : List ℕ) → Type 0
-  Stands Done most w count before found = Counted count (w .tests) × (found ≡ metIn before (outcome .noted))
+  abbrev pub Stands : State → (most : ℕ) → WalkerWords WalkRay → (count : ℕ) → (before found : List ℕ) → Type 0
+  Stands Done most w count before found = Counted count (w .tests) × (found ≡ metIn before (anyHitOutcome .accumulator))
   Stands Paused most w count before found = (most < count) × (w .positions .bits ≡ 0) × Walking w count before found
-  Stands (Refused k) most w count before found = outcome .ended ≡ S.refused k
+  Stands (Refused k) most w count before found = anyHitOutcome .ended ≡ S.refused k
 
   -- a node has at most 24 positions
   abbrev pub Gathers : (octant most : ℕ) → (before : List ℕ) → Gathered → (stack found : List ℕ) → Type 0

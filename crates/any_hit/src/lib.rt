@@ -5,17 +5,17 @@ ghost use Prim.Native.Nat.{_+_, _≤_};
 ghost use lib.ListN.{length, take, set};
 ghost use Rattle.lists.specs.Splice.{splice};
 ghost use Rattle.ray.specs.Ray.{rayOf, octantOf};
-ghost use Rattle.slot.specs.Parts.{endsOf};
+ghost use Rattle.node_slot.specs.Parts.{endsOf};
 ghost use Rattle.advance.specs.Turn.{walkerOf};
-ghost use Rattle.walk_record.specs.Beam.{beamOf, forgedBeam};
-ghost use Rattle.query.specs.Walk.{Sized};
-ghost use Rattle.any_hit.specs.AnyHit.{fitted, walkOf, listOf, anyHitOf, listAfter, resultOf};
-ghost use Rattle.any_hit.specs.Gather.{Walking, Counted, Gathers, listWith};
+ghost use Rattle.walk_record.specs.WalkRay.{walkRay, forgedRay};
+ghost use Rattle.query.specs.Walk.{RecordSized};
+ghost use Rattle.any_hit.specs.AnyHit.{fitted, walkOf, listWalked, anyHitOf, listAfter, resultOf};
+ghost use Rattle.any_hit.specs.Gather.{Walking, Counted, Gathers, listFitted};
 use advance::Answer;
 use advance::Walk;
+use node_slot::Ends;
 use ray::Ray;
 use ray::Vec3;
-use slot::Ends;
 
 // As many more tests as there may be nodes.
 const ALL: u32 = 0xffff_ffff;
@@ -73,7 +73,7 @@ fn gather(
     stack: &mut [u64],
     found: &mut [u32],
 ) -> Gathered
-    requires { ⌜ Sized (now «record») n × Walking (now «record») n ray (walkerOf ray octant start (now stack)) noted (now found) (now found) ⌝ }
+    requires { ⌜ RecordSized (now «record») n × Walking (now «record») n ray (walkerOf ray octant start (now stack)) noted (now found) (now found) ⌝ }
     requires { ⌜ (e ≡ endsOf (ray .direction)) × (start .positions .bits ≡ 0) × (noted ≤ most + 24) ⌝ }
     ensures { λ r. ⌜ Gathers (now («record» .entry)) n ray octant most (now (found .entry)) r (now (stack .exit)) (now (found .exit)) ⌝ }
 {
@@ -145,7 +145,7 @@ fn copy(found: &[u32], count: usize, list: &mut [u32])
 fn deliver(found: &[u32], count: u32, tests: u32, list: &mut [u32]) -> AnyHitFound
     requires { ⌜ count ≤ length (now found) ⌝ }
     ensures { λ r. ⌜ resultOf r ≡ fitted count tests (length (now (list .entry))) ⌝ }
-    ensures { λ _. ⌜ now (list .exit) ≡ listWith count tests (take count (now (found .entry))) (now (list .entry)) ⌝ }
+    ensures { λ _. ⌜ now (list .exit) ≡ listFitted count tests (take count (now (found .entry))) (now (list .entry)) ⌝ }
 {
     if count as usize > list.len() {
         let answer = AnyHit::Short(count);
@@ -166,10 +166,10 @@ fn walk_again(
     tests: u32,
     list: &mut [u32],
 ) -> AnyHitFound
-    requires { ⌜ Sized (now «record») n × (forgedBeam (beamOf ray) ≡ false) × (octant ≡ octantOf (ray .direction)) ⌝ }
+    requires { ⌜ RecordSized (now «record») n × (forgedRay (walkRay ray) ≡ false) × (octant ≡ octantOf (ray .direction)) ⌝ }
     requires { ⌜ Counted (now «record») n ray count tests ⌝ }
-    ensures { λ r. ⌜ resultOf r ≡ walkOf (now («record» .entry)) n (beamOf ray) (length (now (list .entry))) ⌝ }
-    ensures { λ _. ⌜ now (list .exit) ≡ listOf (now («record» .entry)) n (beamOf ray) (now (list .entry)) ⌝ }
+    ensures { λ r. ⌜ resultOf r ≡ walkOf (now («record» .entry)) n (walkRay ray) (length (now (list .entry))) ⌝ }
+    ensures { λ _. ⌜ now (list .exit) ≡ listWalked (now («record» .entry)) n (walkRay ray) (now (list .entry)) ⌝ }
 {
     if list.len() < count as usize {
         let answer = AnyHit::Short(count);
@@ -177,7 +177,7 @@ fn walk_again(
     }
     let start = advance::begin();
     let mut stack = [0u64; 32];
-    let e = slot::near_ends(ray.direction);
+    let e = node_slot::near_ends(ray.direction);
     let again = gather(record, n, ray, e, octant, start, 0, MANY, &mut stack, list);
     let answer = AnyHit::Listed(again.count);
     let tests = again.walk.tests;
@@ -195,16 +195,16 @@ fn walk_on(
     stack: &mut [u64],
     list: &mut [u32],
 ) -> AnyHitFound
-    requires { ⌜ Sized (now «record») n × (forgedBeam (beamOf ray) ≡ false) × (octant ≡ octantOf (ray .direction)) ⌝ }
+    requires { ⌜ RecordSized (now «record») n × (forgedRay (walkRay ray) ≡ false) × (octant ≡ octantOf (ray .direction)) ⌝ }
     requires { ⌜ Walking (now «record») n ray (walkerOf ray octant (first .walk) (now stack)) (first .count) (now found) (now found) ⌝ }
     requires { ⌜ (first .walk .positions .bits ≡ 0) × (first .count ≤ length (now found)) × (first .count ≤ 1024) ⌝ }
-    ensures { λ r. ⌜ resultOf r ≡ walkOf (now («record» .entry)) n (beamOf ray) (length (now (list .entry))) ⌝ }
-    ensures { λ _. ⌜ now (list .exit) ≡ listOf (now («record» .entry)) n (beamOf ray) (now (list .entry)) ⌝ }
+    ensures { λ r. ⌜ resultOf r ≡ walkOf (now («record» .entry)) n (walkRay ray) (length (now (list .entry))) ⌝ }
+    ensures { λ _. ⌜ now (list .exit) ≡ listWalked (now («record» .entry)) n (walkRay ray) (now (list .entry)) ⌝ }
 {
     let mut more = [0u32; 1024];
     copy(found, first.count as usize, &mut more);
     let start = first.walk;
-    let e = slot::near_ends(ray.direction);
+    let e = node_slot::near_ends(ray.direction);
     let rest = gather(
         record,
         n,
@@ -234,15 +234,15 @@ fn walk_on(
 
 // A whole walk over a record with nodes: most rays pass few positions, for which 64 words are set aside; it goes on with more where they may not do.
 fn walk_whole(record: &[u8], n: usize, ray: Ray, list: &mut [u32]) -> AnyHitFound
-    requires { ⌜ Sized (now «record») n × (forgedBeam (beamOf ray) ≡ false) ⌝ }
-    ensures { λ r. ⌜ resultOf r ≡ walkOf (now («record» .entry)) n (beamOf ray) (length (now (list .entry))) ⌝ }
-    ensures { λ _. ⌜ now (list .exit) ≡ listOf (now («record» .entry)) n (beamOf ray) (now (list .entry)) ⌝ }
+    requires { ⌜ RecordSized (now «record») n × (forgedRay (walkRay ray) ≡ false) ⌝ }
+    ensures { λ r. ⌜ resultOf r ≡ walkOf (now («record» .entry)) n (walkRay ray) (length (now (list .entry))) ⌝ }
+    ensures { λ _. ⌜ now (list .exit) ≡ listWalked (now («record» .entry)) n (walkRay ray) (now (list .entry)) ⌝ }
 {
     let octant = ray::octant(ray.direction);
     let start = advance::begin();
     let mut stack = [0u64; 32];
     let mut found = [0u32; 64];
-    let e = slot::near_ends(ray.direction);
+    let e = node_slot::near_ends(ray.direction);
     let first = gather(
         record,
         n,

@@ -6,7 +6,7 @@ use native.Mathlib.Omega.{arith}
 use Rattle.lists.specs.Counts.{same, count}
 use Rattle.lists.proofs.Counts.{same-self, same-apart, count-append}
 use Rattle.bvh2.specs.Tree.{Tree, leaf, inner, labels, positions}
-use Rattle.bvh2.specs.Decoded.{Within}
+use Rattle.bvh2.specs.Decoded.{LabelsWithin}
 
 unfoldable pub labelCount : ℕ → Tree ℕ → ℕ
 labelCount x (leaf v b p) = same x v
@@ -35,8 +35,8 @@ count-positions y (inner v b l r) =
     omega arith
 
 -- nothing out of range counts
-pub label-past : (m n x : ℕ) (t : Tree ℕ) → Within m n t → m ≤ x → labelCount x t ≡ 0
-unfolding Within labelCount
+pub label-past : (m n x : ℕ) (t : Tree ℕ) → LabelsWithin m n t → m ≤ x → labelCount x t ≡ 0
+unfolding LabelsWithin labelCount
 label-past m n x (leaf v b p) w h = same-apart x v (λ e. omega arith)
 label-past m n x (inner v b l r) w h =
     let s = same-apart x v (λ e. omega arith) in
@@ -44,8 +44,8 @@ label-past m n x (inner v b l r) w h =
     let j = label-past m n x r (w .2) h in
     omega arith
 
-pub position-past : (m n y : ℕ) (t : Tree ℕ) → Within m n t → n ≤ y → positionCount y t ≡ 0
-unfolding Within positionCount
+pub position-past : (m n y : ℕ) (t : Tree ℕ) → LabelsWithin m n t → n ≤ y → positionCount y t ≡ 0
+unfolding LabelsWithin positionCount
 position-past m n y (leaf v b p) w h = same-apart y p (λ e. omega arith)
 position-past m n y (inner v b l r) w h = let i = position-past m n y l (w .1) h in let j = position-past m n y r (w .2) h in omega arith
 
@@ -57,8 +57,8 @@ below k x h = pick (decLt x k)
     pick (yes l) = l
     pick (no l) = let i = h (omega arith) in let j = same-self x in absurd (omega arith)
 
-pub in-range : (m n : ℕ) (t : Tree ℕ) → ((x : ℕ) → m ≤ x → labelCount x t ≡ 0) → ((y : ℕ) → n ≤ y → positionCount y t ≡ 0) → Within m n t
-unfolding Within labelCount positionCount
+pub in-range : (m n : ℕ) (t : Tree ℕ) → ((x : ℕ) → m ≤ x → labelCount x t ≡ 0) → ((y : ℕ) → n ≤ y → positionCount y t ≡ 0) → LabelsWithin m n t
+unfolding LabelsWithin labelCount positionCount
 in-range m n (leaf v b p) h k = (below m v (h v), below n p (k p))
 in-range m n (inner v b l r) h k = (
   below m v (λ i. let j = h v i in omega arith),

@@ -9,9 +9,9 @@ use Rattle.lists.specs.Counts.{count}
 use Rattle.lists.proofs.Perms.{perm-upto}
 use Rattle.lists.proofs.Sums.{once-length, distinct-length}
 use Rattle.bvh2.specs.Tree.{Tree, leaf, inner, leaves, depth, labels, positions}
-use Rattle.bvh2.specs.Words.{nodeCount, Link, children, position, malformed, linkAt, readLink, treeAt, treeOf}
-use Rattle.bvh2.specs.Causes.{Inside, Accepted}
-use Rattle.bvh2.specs.Decoded.{Within, BoxesAccepted, Decoded, Subtree}
+use Rattle.bvh2.specs.Words.{treeNodes, Link, children, position, malformed, linkAt, readLink, treeAt, treeOf}
+use Rattle.bvh2.specs.Causes.{LinkInside, Accepted}
+use Rattle.bvh2.specs.Decoded.{LabelsWithin, BoxesAccepted, Decoded, Subtree}
 use Rattle.bvh2.proofs.Reading.{depth-most}
 use Rattle.bvh2.proofs.Counts.{count-labels, count-positions, label-past, position-past}
 use Rattle.bvh2.proofs.Paths.{AllInside, within-inside}
@@ -20,38 +20,44 @@ use Rattle.bvh2.proofs.First.{AllAccepted, Facts, facts-accepted, accep
 use Rattle.bvh2.proofs.Subtree.{root, node, descend, inside}
 
 -- the boxes of the tree are those of the words
-boxes-read : (ws : List ℕ) (n : ℕ) → AllInside ws n → AllAccepted ws n → (d v : ℕ) (l : Link) → v < nodeCount n → Inside n l → BoxesAccepted (readLink ws d v l)
-unfolding Inside readLink BoxesAccepted
+boxes-read : (ws : List ℕ) (n : ℕ) → AllInside ws n → AllAccepted ws n → (d v : ℕ) (l : Link) → v < treeNodes n → LinkInside n l
+    → BoxesAccepted (readLink ws d v l)
+unfolding LinkInside readLink BoxesAccepted
 boxes-read ws n f a zero v (children i) hv hl = a v hv
 boxes-read ws n f a zero v (position p) hv hl = a v hv
 boxes-read ws n f a zero v malformed hv hl = a v hv
 boxes-read ws n f a (suc d) v (children i) hv hl =
-    let k : i < nodeCount n = omega arith in
+    let k : i < treeNodes n = omega arith in
     (a v hv, boxes-read ws n f a d i (linkAt ws i) k (f i k), boxes-read ws n f a d (i + 1) (linkAt ws (i + 1)) hl (f (i + 1) hl))
 boxes-read ws n f a (suc d) v (position p) hv hl = a v hv
 boxes-read ws n f a (suc d) v malformed hv hl = a v hv
 
 facts-decoded : (ws : List ℕ) (n : ℕ) → 0 < n → Facts ws n → Decoded ws n
 facts-decoded ws n p h =
-    let w : Within (nodeCount n) n (treeOf ws) = within-inside ws n (h .inside) 127 0 (omega arith) in
+    let w : LabelsWithin (treeNodes n) n (treeOf ws) = within-inside ws n (h .inside) 127 0 (omega arith) in
     record {
       fit = h .sized .fit;
       few = h .sized .few;
       whole = h .once .whole;
-      nodes = perm-upto (labels (treeOf ws)) (nodeCount n) .1 (h .once .nodes, λ x l. count-labels x (treeOf ws) ∙ label-past (nodeCount n) n x (treeOf ws) w l);
-      held = perm-upto (positions (treeOf ws)) n .1 (h .once .held, λ y l. count-positions y (treeOf ws) ∙ position-past (nodeCount n) n y (treeOf ws) w l);
+      nodes = perm-upto (labels (treeOf ws)) (treeNodes n) .1
+          (h .once .nodes, λ x l. count-labels x (treeOf ws) ∙ label-past (treeNodes n) n x (treeOf ws) w l);
+      held = perm-upto (positions (treeOf ws)) n .1 (
+        h .once .held,
+        λ y l. count-positions y (treeOf ws) ∙ position-past (treeNodes n) n y
+            (treeOf ws) w l,
+      );
       boxes = boxes-read ws n (h .inside) (h .boxes) 127 0 (linkAt ws 0) (omega arith) (h .inside 0 (omega arith));
     }
 
 -- the two permutations by counts
-pub node-once : (ws : List ℕ) (n : ℕ) → Decoded ws n → (v : ℕ) → v < nodeCount n → count v (labels (treeOf ws)) ≡ 1
-node-once ws n h = perm-upto (labels (treeOf ws)) (nodeCount n) .0 (h .nodes) .0
+pub node-once : (ws : List ℕ) (n : ℕ) → Decoded ws n → (v : ℕ) → v < treeNodes n → count v (labels (treeOf ws)) ≡ 1
+node-once ws n h = perm-upto (labels (treeOf ws)) (treeNodes n) .0 (h .nodes) .0
 
 pub position-once : (ws : List ℕ) (n : ℕ) → Decoded ws n → (p : ℕ) → p < n → count p (positions (treeOf ws)) ≡ 1
 position-once ws n h = perm-upto (positions (treeOf ws)) n .0 (h .held) .0
 
 -- each node of the words is one of the tree
-reached : (ws : List ℕ) (n : ℕ) → Decoded ws n → (v : ℕ) → v < nodeCount n → (e : ℕ) × Subtree ws n e v
+reached : (ws : List ℕ) (n : ℕ) → Decoded ws n → (v : ℕ) → v < treeNodes n → (e : ℕ) × Subtree ws n e v
 reached ws n h v l =
     let c = node-once ws n h v l in
     let q = some-path (treeOf ws) v (omega (arith, count-labels v (treeOf ws))) in
@@ -95,7 +101,8 @@ decoded-leaves ws n h =
 -- a subtree has no more leaves than the tree
 pub subtree-leaves : {ws : List ℕ} {n d v : ℕ} → Subtree ws n d v → leaves (treeAt ws d v) ≤ n
 subtree-leaves {ws} {n} {d} {v} s =
-    let i = distinct-length (nodeCount n) (labels (treeAt ws d v)) (s .distinct) (λ x l. count-labels x (treeAt ws d v) ∙ label-past (nodeCount n) n x (treeAt ws d v) (s .within) l) in
+    let i = distinct-length (treeNodes n) (labels (treeAt ws d v)) (s .distinct)
+    (λ x l. count-labels x (treeAt ws d v) ∙ label-past (treeNodes n) n x (treeAt ws d v) (s .within) l) in
     let j = labels-length (treeAt ws d v) in
     let k = node s .below in
     omega arith

@@ -15,9 +15,9 @@ use Rattle.lists.proofs.Perms.{perm-upto}
 use Rattle.lists.proofs.Splice.{length-splice, splice-in, splice-before, splice-after}
 use Rattle.aabb.specs.declared.Aabb.{Aabb}
 use Rattle.bvh2.specs.Tree.{Tree, leaf, inner, labelOf, boxOf, leaves, depth, labels, positions}
-use Rattle.bvh2.specs.Words.{nodeCount, children, position, wordAt, linkAt, floatAt, boxAt, treeAt, treeOf}
+use Rattle.bvh2.specs.Words.{treeNodes, children, position, wordAt, linkAt, floatAt, boxAt, treeAt, treeOf}
 use Rattle.bvh2.specs.Causes.{Accepted}
-use Rattle.bvh2.specs.Decoded.{Whole, BoxesAccepted}
+use Rattle.bvh2.specs.Decoded.{AllRead, BoxesAccepted}
 use Rattle.bvh2.specs.Encode.{linkWord, nodeWords, store, encode, Fits, Adjacent, Numbered}
 use Rattle.bvh2.proofs.Reading.{word-children, word-position, tree-leaf, tree-inner}
 use Rattle.bvh2.proofs.Counts.{labelCount, count-labels}
@@ -84,7 +84,8 @@ store-length m (inner v b l r) ws h k =
     let g = store-length m r (store x l) (h .2) (omega arith) in
     g ∙ f ∙ e
 
-store-other : (m : ℕ) (t : Tree ℕ) (ws : List ℕ) → Below m t → m * 7 ≤ length ws → (u i : ℕ) → i < 7 → labelCount u t ≡ 0 → wordAt (store ws t) u i ≡ wordAt ws u i
+store-other : (m : ℕ) (t : Tree ℕ) (ws : List ℕ) → Below m t → m * 7 ≤ length ws → (u i : ℕ) → i < 7 → labelCount u t ≡ 0 → wordAt (store ws t) u i
+    ≡ wordAt ws u i
 unfolding Below store labelCount
 store-other m (leaf v b p) ws h k u i l z = node-other ws m v (leaf v b p) h k u i l z
 store-other m (inner v b l r) ws h k u i j z =
@@ -181,8 +182,8 @@ written-reads ws (inner v b l r) (suc d) w a h =
     let z : treeAt ws d (f + 1) ≡ r = subst (λ (u : ℕ). treeAt ws d u ≡ r) (a .1) (written-reads ws r d (w .2) (a .5) (omega arith)) in
     tree-inner ws d v f e ∙ (λ i. inner v (x i) (y i) (z i))
 
-written-whole : (ws : List ℕ) (t : Tree ℕ) → Written ws t → Adjacent t → Whole ws t
-unfolding Written Adjacent Whole labelOf linkWord
+written-whole : (ws : List ℕ) (t : Tree ℕ) → Written ws t → Adjacent t → AllRead ws t
+unfolding Written Adjacent AllRead labelOf linkWord
 written-whole ws (leaf v b p) w a = leaf-back ws v p (link-back ws (leaf v b p) w) (a .0)
 written-whole ws (inner v b l r) w a = (written-whole ws l (w .1) (a .4), written-whole ws r (w .2) (a .5))
 
@@ -226,7 +227,7 @@ module _ (t : Tree ℕ) (n : Numbered t) where
   encode-accepted few h p b =
       let e : treeOf (encode t) ≡ t = encode-decodes h in
       let l = labels-length t in
-      let c : length (labels t) ≡ nodeCount (leaves t) = omega arith in
+      let c : length (labels t) ≡ treeNodes (leaves t) = omega arith in
       accepted-decoded (encode t) (leaves t) (omega arith) .1 (record {
         fit = encode-length ∙ ap (λ (k : ℕ). k * 7) c;
         few = few;

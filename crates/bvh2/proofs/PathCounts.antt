@@ -25,7 +25,8 @@ unfolding At labelCount
 some-path (leaf v b p) x h = ([], same-one x v h)
 some-path (inner v b l r) x h = pick (some? (same x v)) (some? (labelCount x l)) (some-path l x) (some-path r x)
   where
-    pick : Some (same x v) → Some (labelCount x l) → (1 ≤ labelCount x l → (q : List Turn) × At l q x) → (1 ≤ labelCount x r → (q : List Turn) × At r q x) → (q : List Turn) × At (inner v b l r) q x
+    pick : Some (same x v) → Some (labelCount x l) → (1 ≤ labelCount x l → (q : List Turn) × At l q x)
+        → (1 ≤ labelCount x r → (q : List Turn) × At r q x) → (q : List Turn) × At (inner v b l r) q x
     pick (some i) s f g = ([], same-one x v i)
     pick (none i) (some j) f g = let u = f j in (left ∷ (u .0), u .1)
     pick (none i) (none j) f g = let u = g (omega arith) in (right ∷ (u .0), u .1)
@@ -38,10 +39,14 @@ one-path (leaf v b p) x k [] (t ∷ s) h g = absurd g
 one-path (leaf v b p) x k (t ∷ q) [] h g = absurd h
 one-path (leaf v b p) x k (t ∷ q) (u ∷ s) h g = absurd h
 one-path (inner v b l r) x k [] [] h g = refl
-one-path (inner v b l r) x k [] (left ∷ s) h g = let i = same-self x in let e : same x v ≡ 1 = rw h i in let j = at-counts l s x g in absurd (omega arith)
-one-path (inner v b l r) x k [] (right ∷ s) h g = let i = same-self x in let e : same x v ≡ 1 = rw h i in let j = at-counts r s x g in absurd (omega arith)
-one-path (inner v b l r) x k (left ∷ q) [] h g = let i = same-self x in let e : same x v ≡ 1 = rw g i in let j = at-counts l q x h in absurd (omega arith)
-one-path (inner v b l r) x k (right ∷ q) [] h g = let i = same-self x in let e : same x v ≡ 1 = rw g i in let j = at-counts r q x h in absurd (omega arith)
+one-path (inner v b l r) x k [] (left ∷ s) h g = let i = same-self x in let e : same x v
+    ≡ 1 = rw h i in let j = at-counts l s x g in absurd (omega arith)
+one-path (inner v b l r) x k [] (right ∷ s) h g = let i = same-self x in let e : same x v
+    ≡ 1 = rw h i in let j = at-counts r s x g in absurd (omega arith)
+one-path (inner v b l r) x k (left ∷ q) [] h g = let i = same-self x in let e : same x v
+    ≡ 1 = rw g i in let j = at-counts l q x h in absurd (omega arith)
+one-path (inner v b l r) x k (right ∷ q) [] h g = let i = same-self x in let e : same x v
+    ≡ 1 = rw g i in let j = at-counts r q x h in absurd (omega arith)
 one-path (inner v b l r) x k (left ∷ q) (left ∷ s) h g = rw (one-path l x (omega arith) q s h g)
 one-path (inner v b l r) x k (left ∷ q) (right ∷ s) h g = let i = at-counts l q x h in let j = at-counts r s x g in absurd (omega arith)
 one-path (inner v b l r) x k (right ∷ q) (left ∷ s) h g = let i = at-counts r q x h in let j = at-counts l s x g in absurd (omega arith)
@@ -70,7 +75,8 @@ unfolding At labelCount
 two-paths (leaf v b p) x h = let i = same-most x v in absurd (omega arith)
 two-paths (inner v b l r) x h = pick (some? (same x v)) (some? (labelCount x l)) (some? (labelCount x r)) (two-paths l x) (two-paths r x)
   where
-    pick : Some (same x v) → Some (labelCount x l) → Some (labelCount x r) → (2 ≤ labelCount x l → Two (λ q. At l q x)) → (2 ≤ labelCount x r → Two (λ q. At r q x)) → Two (λ q. At (inner v b l r) q x)
+    pick : Some (same x v) → Some (labelCount x l) → Some (labelCount x r) → (2 ≤ labelCount x l → Two (λ q. At l q x))
+        → (2 ≤ labelCount x r → Two (λ q. At r q x)) → Two (λ q. At (inner v b l r) q x)
     pick (some i) (some j) k f g =
         let u = some-path l x j in
         record { first = []; second = left ∷ (u .0); has = same-one x v i; also = u .1; differ = λ e. nil-cons left (u .0) e }
@@ -84,7 +90,21 @@ two-paths (inner v b l r) x h = pick (some? (same x v)) (some? (labelCount x l))
         record { first = left ∷ (u .0); second = right ∷ (w .0); has = u .1; also = w .1; differ = λ e. left-right (u .0) (w .0) e }
     pick (none i) (some j) (none k) f g =
         let u = f (omega arith) in
-        record { first = left ∷ (u .first); second = left ∷ (u .second); has = u .has; also = u .also; differ = λ e. u .differ (tail-of left left (u .first) (u .second) e) }
+        record {
+          first = left ∷ (u .first);
+          second = left ∷ (u .second);
+          has = u .has;
+          also = u .also;
+          differ = λ e. u .differ
+              (tail-of left left (u .first) (u .second) e);
+        }
     pick (none i) (none j) k f g =
         let u = g (omega arith) in
-        record { first = right ∷ (u .first); second = right ∷ (u .second); has = u .has; also = u .also; differ = λ e. u .differ (tail-of right right (u .first) (u .second) e) }
+        record {
+          first = right ∷ (u .first);
+          second = right ∷ (u .second);
+          has = u .has;
+          also = u .also;
+          differ = λ e. u .differ
+              (tail-of right right (u .first) (u .second) e);
+        }

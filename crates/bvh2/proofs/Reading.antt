@@ -47,11 +47,13 @@ unfolding readLink
 tree-leaf ws zero v p e = rw e
 tree-leaf ws (suc d) v p e = rw e
 
-pub tree-inner : (ws : List ℕ) (d v f : ℕ) → linkAt ws v ≡ children f → treeAt ws (suc d) v ≡ inner v (boxAt ws v) (treeAt ws d f) (treeAt ws d (f + 1))
+pub tree-inner : (ws : List ℕ) (d v f : ℕ) → linkAt ws v ≡ children f → treeAt ws (suc d) v
+    ≡ inner v (boxAt ws v) (treeAt ws d f) (treeAt ws d (f + 1))
 unfolding readLink
 tree-inner ws d v f e = rw e
 
-pub tree-down : (ws : List ℕ) (d v f : ℕ) → linkAt ws v ≡ children f → 0 < d → treeAt ws d v ≡ inner v (boxAt ws v) (treeAt ws (d - 1) f) (treeAt ws (d - 1) (f + 1))
+pub tree-down : (ws : List ℕ) (d v f : ℕ) → linkAt ws v ≡ children f → 0 < d → treeAt ws d v
+    ≡ inner v (boxAt ws v) (treeAt ws (d - 1) f) (treeAt ws (d - 1) (f + 1))
 tree-down ws zero v f e h = absurd (omega arith)
 tree-down ws (suc d) v f e h = rw (sub-one (suc d)) (tree-inner ws d v f e)
 

@@ -10,25 +10,25 @@ use Rattle.lists.specs.Counts.{count}
 use Rattle.causes.specs.Causes.{Condition, _unless_, firstCause}
 use Rattle.aabb.specs.Aabb.{acceptedBox}
 use Rattle.bvh2.specs.Tree.{Tree, leaf, inner, labels, positions}
-use Rattle.bvh2.specs.Words.{nodeCount, Link, children, position, malformed, linkAt, boxAt, treeOf}
+use Rattle.bvh2.specs.Words.{treeNodes, Link, children, position, malformed, linkAt, boxAt, treeOf}
 
 -- causes 1 and 2, for a number of words
 unfoldable pub sizeConditions : (words n : ℕ) → List Condition
-sizeConditions words n = 1 unless eqb words (nodeCount n * 7) ∷ 2 unless leb n 65536 ∷ []
+sizeConditions words n = 1 unless eqb words (treeNodes n * 7) ∷ 2 unless leb n 65536 ∷ []
 
 -- cause 5 does not hold of a link
 unfoldable pub isInside : ℕ → Link → Bool
-isInside n (children f) = ltb (f + 1) (nodeCount n)
+isInside n (children f) = ltb (f + 1) (treeNodes n)
 isInside n (position p) = ltb p n
 isInside n malformed = false
 
 -- nor of any node's
 abbrev pub linksInside : List ℕ → ℕ → Bool
-linksInside ws n = allBelow (λ v. isInside n (linkAt ws v)) (nodeCount n)
+linksInside ws n = allBelow (λ v. isInside n (linkAt ws v)) (treeNodes n)
 
 -- cause 6 does not hold of any node's box
 abbrev pub boxesAccepted : List ℕ → ℕ → Bool
-boxesAccepted ws n = allBelow (λ v. acceptedBox (boxAt ws v)) (nodeCount n)
+boxesAccepted ws n = allBelow (λ v. acceptedBox (boxAt ws v)) (treeNodes n)
 
 -- the link is a leaf's with position p
 unfoldable pub isPosition : ℕ → Link → Bool
@@ -47,7 +47,7 @@ eachOnce k l = allBelow (λ x. eqb (count x l) 1) k
 
 -- cause 7 does not hold, where 5 does not: the tree read is whole, with each node and each position once
 unfoldable pub isTree : ℕ → List ℕ → Tree ℕ → Bool
-isTree n ws t = isWhole ws t && eachOnce (nodeCount n) (labels t) && eachOnce n (positions t)
+isTree n ws t = isWhole ws t && eachOnce (treeNodes n) (labels t) && eachOnce n (positions t)
 
 -- causes 5 to 7, each over all nodes before the next; without nodes there is nothing that they could hold of
 unfoldable pub structureConditions : List ℕ → ℕ → List Condition

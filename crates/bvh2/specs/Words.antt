@@ -7,8 +7,8 @@ use Rattle.aabb.specs.declared.Aabb.{Aabb}
 use Rattle.bvh2.specs.Tree.{Tree, leaf, inner}
 
 -- how many nodes n leaves make: 2n − 1, and none for n = 0
-abbrev pub nodeCount : ℕ → ℕ
-nodeCount n = 2 * n - 1
+abbrev pub treeNodes : ℕ → ℕ
+treeNodes n = 2 * n - 1
 
 -- what a link word says, by the kind in its two high bits: where a pair of children begins, or which position a leaf holds
 pub data Link : Type 0 where

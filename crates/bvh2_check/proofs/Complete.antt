@@ -8,11 +8,11 @@ use lib.ListN.{getD, replicate, length-replicate, getD-replicate, List·getD-eq-
 use Rattle.lists.proofs.Counts.{Same, equal, apart, same?, same-apart, same-shift, Some, none, some, some?}
 use Rattle.lists.proofs.Tells.{Tells, passes, fails}
 use Rattle.bvh2.specs.Tree.{Tree, leaf, inner}
-use Rattle.bvh2.specs.Words.{nodeCount, treeOf}
-use Rattle.bvh2.specs.Decoded.{Whole, Within}
+use Rattle.bvh2.specs.Words.{treeNodes, treeOf}
+use Rattle.bvh2.specs.Decoded.{AllRead, LabelsWithin}
 use Rattle.bvh2.proofs.Counts.{labelCount, positionCount, count-labels, count-positions}
 use Rattle.bvh2.proofs.Once.{Once}
-use Rattle.bvh2_check.specs.Marking.{markCount, outcome, walk, allMarked}
+use Rattle.bvh2_check.specs.Marking.{markCount, markingIf, walk, marksSet}
 use Rattle.bvh2_check.proofs.Marks.{seen, Walked, walked}
 
 -- the marks below m are those of nodes, and from m on those of positions
@@ -21,8 +21,8 @@ unfolding seen labelCount
 seen-node m k (leaf v b p) h = let i = same-apart k (m + p) (λ e. omega arith) in omega arith
 seen-node m k (inner v b l r) h = let i = seen-node m k l h in let j = seen-node m k r h in omega arith
 
-seen-position : (m n p : ℕ) (t : Tree ℕ) → Within m n t → seen m (m + p) t ≡ positionCount p t
-unfolding seen positionCount Within
+seen-position : (m n p : ℕ) (t : Tree ℕ) → LabelsWithin m n t → seen m (m + p) t ≡ positionCount p t
+unfolding seen positionCount LabelsWithin
 seen-position m n p (leaf v b q) w = let i = same-apart (m + p) v (λ e. omega arith) in let j = same-shift m p q in omega arith
 seen-position m n p (inner v b l r) w =
     let h = same-apart (m + p) v (λ e. omega arith) in
@@ -31,16 +31,17 @@ seen-position m n p (inner v b l r) w =
     omega arith
 
 -- the first k are marked
-pub all-marked : (k : ℕ) (o : List ℕ) → Tells ((i : ℕ) → i < k → 1 ≤ getD o i 0) (allMarked k o)
-unfolding allMarked
+pub all-marked : (k : ℕ) (o : List ℕ) → Tells ((i : ℕ) → i < k → 1 ≤ getD o i 0) (marksSet k o)
+unfolding marksSet
 all-marked zero o = passes (λ i l. absurd (omega arith))
-all-marked (suc k) o = pick (getD o k 0) refl (allMarked k o) (all-marked k o)
+all-marked (suc k) o = pick (getD o k 0) refl (marksSet k o) (all-marked k o)
   where
     last : (j : ℕ) → getD o k 0 ≡ suc j → ((i : ℕ) → i < k → 1 ≤ getD o i 0) → (i : ℕ) → i < suc k → Same i k → 1 ≤ getD o i 0
     last j e h i l (equal f s) = rw (f, e) (omega arith)
     last j e h i l (apart f s) = h i (omega arith)
 
-    pick : (x : ℕ) → getD o k 0 ≡ x → (y : Bool) → Tells ((i : ℕ) → i < k → 1 ≤ getD o i 0) y → Tells ((i : ℕ) → i < suc k → 1 ≤ getD o i 0) (elim x [ zero ↦ false | suc j ↦ y ])
+    pick : (x : ℕ) → getD o k 0 ≡ x → (y : Bool) → Tells ((i : ℕ) → i < k → 1 ≤ getD o i 0) y
+        → Tells ((i : ℕ) → i < suc k → 1 ≤ getD o i 0) (elim x [ zero ↦ false | suc j ↦ y ])
     pick zero e y t = fails (λ h. let z = h k (omega arith) in omega arith)
     pick (suc j) e true (passes h) = passes (λ i l. last j e h i l (same? i k))
     pick (suc j) e false (fails h) = fails (λ g. h (λ i l. g i (omega arith)))
@@ -52,31 +53,33 @@ zeros l k = pick (some? (l - k))
     pick (some i) = getD-replicate l k 0 0 (omega arith)
     pick (none i) = List·getD-eq-default (replicate l 0) 0 (rw length-replicate (omega arith))
 
-module _ (ws : List ℕ) (n : ℕ) (w : Within (nodeCount n) n (treeOf ws)) where
+module _ (ws : List ℕ) (n : ℕ) (w : LabelsWithin (treeNodes n) n (treeOf ws)) where
   -- every mark is seen once
   EachSeen : Type 0
-  EachSeen = (k : ℕ) → k < markCount n → seen (nodeCount n) k (treeOf ws) ≡ 1
+  EachSeen = (k : ℕ) → k < markCount n → seen (treeNodes n) k (treeOf ws) ≡ 1
 
   once-seen : Once ws n → EachSeen
   unfolding EachSeen
-  once-seen h k l = pick (some? (nodeCount n - k))
+  once-seen h k l = pick (some? (treeNodes n - k))
     where
-      pick : Some (nodeCount n - k) → seen (nodeCount n) k (treeOf ws) ≡ 1
-      pick (some i) = seen-node (nodeCount n) k (treeOf ws) (omega arith) ∙ sym (count-labels k (treeOf ws)) ∙ h .nodes k (omega arith)
+      pick : Some (treeNodes n - k) → seen (treeNodes n) k (treeOf ws) ≡ 1
+      pick (some i) = seen-node (treeNodes n) k (treeOf ws) (omega arith) ∙ sym (count-labels k (treeOf ws)) ∙ h .nodes k (omega arith)
       pick (none i) =
-          let e : k ≡ nodeCount n + (k - nodeCount n) = omega arith in
-          let p = k - nodeCount n in
-          ap (λ j. seen (nodeCount n) j (treeOf ws)) e ∙ seen-position (nodeCount n) n p (treeOf ws) w ∙ sym (count-positions p (treeOf ws)) ∙ h .held p (omega arith)
+          let e : k ≡ treeNodes n + (k - treeNodes n) = omega arith in
+          let p = k - treeNodes n in
+          ap (λ j. seen (treeNodes n) j (treeOf ws)) e ∙ seen-position (treeNodes n) n p (treeOf ws) w ∙ sym (count-positions p (treeOf ws)) ∙
+          h .held p (omega arith)
 
-  seen-once : Whole ws (treeOf ws) → EachSeen → Once ws n
+  seen-once : AllRead ws (treeOf ws) → EachSeen → Once ws n
   unfolding EachSeen
   seen-once h each = record {
     whole = h;
-    nodes = λ v l. count-labels v (treeOf ws) ∙ sym (seen-node (nodeCount n) v (treeOf ws) l) ∙ each v (omega arith);
-    held = λ p l. count-positions p (treeOf ws) ∙ sym (seen-position (nodeCount n) n p (treeOf ws) w) ∙ each (nodeCount n + p) (omega arith);
+    nodes = λ v l. count-labels v (treeOf ws) ∙ sym (seen-node (treeNodes n) v (treeOf ws) l) ∙ each v (omega arith);
+    held = λ p l. count-positions p (treeOf ws) ∙ sym (seen-position (treeNodes n) n p (treeOf ws) w) ∙ each (treeNodes n + p) (omega arith);
   }
 
-  tells-walk : (went full : Bool) (o o₁ : List ℕ) → ((k : ℕ) → getD o k 0 ≡ 0) → Walked ws (nodeCount n) n (treeOf ws) o (outcome went o₁) → Tells ((i : ℕ) → i < markCount n → 1 ≤ getD o₁ i 0) full
+  tells-walk : (went full : Bool) (o o₁ : List ℕ) → ((k : ℕ) → getD o k 0 ≡ 0) → Walked ws (treeNodes n) n (treeOf ws) o (markingIf went o₁)
+      → Tells ((i : ℕ) → i < markCount n → 1 ≤ getD o₁ i 0) full
       → Tells (Once ws n) (went && full)
   unfolding Walked EachSeen
   tells-walk true true o o₁ z h (passes a) =
@@ -96,8 +99,9 @@ module _ (ws : List ℕ) (n : ℕ) (w : Within (nodeCount n) n (treeOf ws)) wher
       omega arith)
 
 -- what the code's walk and its look at the marks tell
-pub walk-tells : (ws : List ℕ) (n : ℕ) (went : Bool) (o₁ : List ℕ) → Within (nodeCount n) n (treeOf ws) → outcome went o₁ ≡ walk ws (nodeCount n) (treeOf ws) (replicate (markCount n) 0)
-    → Tells (Once ws n) (went && allMarked (markCount n) o₁)
+pub walk-tells : (ws : List ℕ) (n : ℕ) (went : Bool) (o₁ : List ℕ) → LabelsWithin (treeNodes n) n (treeOf ws) → markingIf went o₁
+    ≡ walk ws (treeNodes n) (treeOf ws) (replicate (markCount n) 0)
+    → Tells (Once ws n) (went && marksSet (markCount n) o₁)
 walk-tells ws n went o₁ w e =
-    tells-walk ws n w went (allMarked (markCount n) o₁) (replicate (markCount n) 0) o₁ (zeros (markCount n))
-    (rw e (walked ws (nodeCount n) n (treeOf ws) (replicate (markCount n) 0) (rw length-replicate (omega arith)) w)) (all-marked (markCount n) o₁)
+    tells-walk ws n w went (marksSet (markCount n) o₁) (replicate (markCount n) 0) o₁ (zeros (markCount n))
+    (rw e (walked ws (treeNodes n) n (treeOf ws) (replicate (markCount n) 0) (rw length-replicate (omega arith)) w)) (all-marked (markCount n) o₁)

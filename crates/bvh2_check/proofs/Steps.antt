@@ -10,11 +10,11 @@ use Rattle.lists.proofs.Tells.{tells-true, tells-false}
 use Rattle.aabb.specs.declared.Aabb.{Aabb}
 use Rattle.bvh2.specs.Tree.{Tree, leaf, inner, labelOf}
 use Rattle.bvh2.specs.Words.{children, position, malformed, wordAt, linkAt, boxAt, treeAt}
-use Rattle.bvh2.specs.Causes.{Inside}
+use Rattle.bvh2.specs.Causes.{LinkInside}
 use Rattle.bvh2.specs.FirstCause.{isPosition}
 use Rattle.bvh2.proofs.Reading.{word-children, word-position, word-malformed, children-position, tree-leaf, tree-down, tree-cut, label-is}
 use Rattle.bvh2.proofs.Once.{position-tells}
-use Rattle.bvh2_check.specs.Marking.{Outcome, stop, go, outcome, mark, walk, Ready}
+use Rattle.bvh2_check.specs.Marking.{Marking, stop, go, markingIf, mark, walk, MarkReady}
 
 -- a leaf
 pub record Leaf (ws : List ℕ) (n v d p : ℕ) : Type 0 where
@@ -22,21 +22,22 @@ pub record Leaf (ws : List ℕ) (n v d p : ℕ) : Type 0 where
   pub tree : treeAt ws d v ≡ leaf v (boxAt ws v) p
   pub ends : isPosition p (linkAt ws v) ≡ true
 
-pub at-leaf : {ws : List ℕ} {n marks v : ℕ} (d w : ℕ) → Ready ws n marks v → w ≡ wordAt ws v 6 → (w / 0x4000_0000 ≡ 0 → ⊥) → Leaf ws n v d (w % 0x4000_0000)
-unfolding Inside
+pub at-leaf : {ws : List ℕ} {n marks v : ℕ} (d w : ℕ) → MarkReady ws n marks v → w ≡ wordAt ws v 6 → (w / 0x4000_0000 ≡ 0 → ⊥)
+    → Leaf ws n v d (w % 0x4000_0000)
+unfolding LinkInside
 at-leaf {ws} {n} {marks} {v} d w r e h = pick (ℕ-discrete (w / 0x4000_0000) 1)
   where
-    inside : Inside n (linkAt ws v)
+    inside : LinkInside n (linkAt ws v)
     inside = r .inside v (r .node)
 
     pick : Dec (w / 0x4000_0000 ≡ 1) → Leaf ws n v d (w % 0x4000_0000)
     pick (yes k) =
         let l : linkAt ws v ≡ position (w % 0x4000_0000) = rw (← e) (word-position w k) in
-        let i : Inside n (position (w % 0x4000_0000)) = rw l at inside in
+        let i : LinkInside n (position (w % 0x4000_0000)) = rw l at inside in
         record { held = i; tree = tree-leaf ws d v (w % 0x4000_0000) l; ends = tells-true (position-tells (w % 0x4000_0000) (linkAt ws v)) l }
     pick (no k) =
         let l : linkAt ws v ≡ malformed = rw (← e) (word-malformed w h k) in
-        let i : Inside n malformed = rw l at inside in
+        let i : LinkInside n malformed = rw l at inside in
         absurd i
 
 -- an inner node with no edge left below it
@@ -51,15 +52,16 @@ at-cut ws v d w e h z =
 
 -- an inner node
 pub record Fork (ws : List ℕ) (n marks v d f : ℕ) : Type 0 where
-  pub left : Ready ws n marks f
-  pub right : Ready ws n marks (f + 1)
+  pub left : MarkReady ws n marks f
+  pub right : MarkReady ws n marks (f + 1)
   pub tree : treeAt ws d v ≡ inner v (boxAt ws v) (treeAt ws (d - 1) f) (treeAt ws (d - 1) (f + 1))
 
-pub at-fork : {ws : List ℕ} {n marks v : ℕ} (d w : ℕ) → Ready ws n marks v → w ≡ wordAt ws v 6 → w / 0x4000_0000 ≡ 0 → (d ≡ 0 → ⊥) → Fork ws n marks v d (w % 0x4000_0000)
-unfolding Inside
+pub at-fork : {ws : List ℕ} {n marks v : ℕ} (d w : ℕ) → MarkReady ws n marks v → w ≡ wordAt ws v 6 → w / 0x4000_0000 ≡ 0 → (d ≡ 0 → ⊥)
+    → Fork ws n marks v d (w % 0x4000_0000)
+unfolding LinkInside
 at-fork {ws} {n} {marks} {v} d w r e h z =
     let l : linkAt ws v ≡ children (w % 0x4000_0000) = rw (← e) (word-children w h) in
-    let i : Inside n (children (w % 0x4000_0000)) = rw l at (r .inside v (r .node)) in
+    let i : LinkInside n (children (w % 0x4000_0000)) = rw l at (r .inside v (r .node)) in
     record {
       left = record { sized = r .sized; inside = r .inside; room = r .room; node = omega arith };
       right = record { sized = r .sized; inside = r .inside; room = r .room; node = i };
@@ -87,11 +89,13 @@ pub marked-before : (ws : List ℕ) (m v d : ℕ) (o : List ℕ) → (getD o v 0
 marked-before ws m v d o h = sym (stop-at ws m v (treeAt ws d v) o (label-is ws d v) h)
 
 module _ (ws : List ℕ) (m v : ℕ) (b : Aabb) (o : List ℕ) (z : getD o v 0 ≡ 0) where
-  pub held-before : (p : ℕ) (t : Tree ℕ) → t ≡ leaf v b p → isPosition p (linkAt ws v) ≡ true → (getD (set o v 1) (m + p) 0 ≡ 0 → ⊥) → stop (set o v 1) ≡ walk ws m t o
+  pub held-before : (p : ℕ) (t : Tree ℕ) → t ≡ leaf v b p → isPosition p (linkAt ws v) ≡ true → (getD (set o v 1) (m + p) 0 ≡ 0 → ⊥)
+      → stop (set o v 1) ≡ walk ws m t o
   unfolding walk
   held-before p t e k g = rw (e, mark-go o v z, walk, k, mark-stop (set o v 1) (m + p) g)
 
-  pub held-now : (p : ℕ) (t : Tree ℕ) → t ≡ leaf v b p → isPosition p (linkAt ws v) ≡ true → getD (set o v 1) (m + p) 0 ≡ 0 → go (set (set o v 1) (m + p) 1) ≡ walk ws m t o
+  pub held-now : (p : ℕ) (t : Tree ℕ) → t ≡ leaf v b p → isPosition p (linkAt ws v) ≡ true → getD (set o v 1) (m + p) 0 ≡ 0
+      → go (set (set o v 1) (m + p) 1) ≡ walk ws m t o
   unfolding walk
   held-now p t e k g = rw (e, mark-go o v z, walk, k, mark-go (set o v 1) (m + p) g)
 
@@ -99,12 +103,14 @@ module _ (ws : List ℕ) (m v : ℕ) (b : Aabb) (o : List ℕ) (z : getD o v 0 �
   unfolding walk
   cut-off t e k = rw (e, mark-go o v z, walk, k)
 
-  pub left-stops : (t l r : Tree ℕ) (o₂ : List ℕ) (x : Bool) → t ≡ inner v b l r → x ≡ false → outcome x o₂ ≡ walk ws m l (set o v 1) → stop o₂ ≡ walk ws m t o
+  pub left-stops : (t l r : Tree ℕ) (o₂ : List ℕ) (x : Bool) → t ≡ inner v b l r → x ≡ false → markingIf x o₂ ≡ walk ws m l (set o v 1) → stop o₂
+      ≡ walk ws m t o
   unfolding walk
   left-stops t l r o₂ true e f k = let i : _≡_ {A = ℕ} 0 1 = cc in absurd (omega arith)
   left-stops t l r o₂ false e f k = rw (e, mark-go o v z, walk, ← k)
 
-  pub both : (t l r : Tree ℕ) (o₂ : List ℕ) (x : Bool) (s : Outcome) → t ≡ inner v b l r → x ≡ true → outcome x o₂ ≡ walk ws m l (set o v 1) → s ≡ walk ws m r o₂ → s ≡ walk ws m t o
+  pub both : (t l r : Tree ℕ) (o₂ : List ℕ) (x : Bool) (s : Marking) → t ≡ inner v b l r → x ≡ true → markingIf x o₂ ≡ walk ws m l (set o v 1) → s
+      ≡ walk ws m r o₂ → s ≡ walk ws m t o
   unfolding walk
   both t l r o₂ true s e f k j = rw (e, mark-go o v z, walk, ← k) j
   both t l r o₂ false s e f k j = let i : _≡_ {A = ℕ} 0 1 = cc in absurd (omega arith)

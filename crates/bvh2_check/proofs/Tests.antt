@@ -12,24 +12,24 @@ use Rattle.lists.proofs.Tells.{clash, tells-true, tells-false, eqb-tells, leb-t
 use Rattle.causes.proofs.Causes.{first-here, first-later, passed-none}
 use Rattle.aabb.specs.declared.Aabb.{Aabb}
 use Rattle.aabb.specs.Aabb.{acceptedBox}
-use Rattle.bvh2.specs.Words.{nodeCount, linkOf}
+use Rattle.bvh2.specs.Words.{treeNodes, linkOf}
 use Rattle.bvh2.specs.FirstCause.{sizeConditions, sizesCause, isInside}
 use Rattle.bvh2.proofs.Reading.{word-children, word-position, word-malformed}
 
 -- causes 1 and 2
-pub sizes-1 : (words n : ℕ) → (words ≡ nodeCount n * 7 → ⊥) → 1 ≡ sizesCause words n
+pub sizes-1 : (words n : ℕ) → (words ≡ treeNodes n * 7 → ⊥) → 1 ≡ sizesCause words n
 unfolding sizeConditions
-sizes-1 words n h = sym (first-here _ (tells-false (eqb-tells words (nodeCount n * 7)) h))
+sizes-1 words n h = sym (first-here _ (tells-false (eqb-tells words (treeNodes n * 7)) h))
 
-pub sizes-2 : (words n : ℕ) → words ≡ nodeCount n * 7 → 65536 < n → 2 ≡ sizesCause words n
+pub sizes-2 : (words n : ℕ) → words ≡ treeNodes n * 7 → 65536 < n → 2 ≡ sizesCause words n
 unfolding sizeConditions
 sizes-2 words n h k =
-    sym (first-later 1 _ (tells-true (eqb-tells words (nodeCount n * 7)) h) ∙ first-here _ (tells-false (leb-tells n 65536) (λ l. omega arith)))
+    sym (first-later 1 _ (tells-true (eqb-tells words (treeNodes n * 7)) h) ∙ first-here _ (tells-false (leb-tells n 65536) (λ l. omega arith)))
 
-pub sizes-0 : (words n : ℕ) → words ≡ nodeCount n * 7 → n ≤ 65536 → 0 ≡ sizesCause words n
+pub sizes-0 : (words n : ℕ) → words ≡ treeNodes n * 7 → n ≤ 65536 → 0 ≡ sizesCause words n
 unfolding sizeConditions
 sizes-0 words n h k =
-    sym (passed-none (sizeConditions words n) (tells-true (eqb-tells words (nodeCount n * 7)) h, (tells-true (leb-tells n 65536) k, tt)))
+    sym (passed-none (sizeConditions words n) (tells-true (eqb-tells words (treeNodes n * 7)) h, (tells-true (leb-tells n 65536) k, tt)))
 
 -- a link by its kind
 pub inside-children : (n w : ℕ) → w / 0x4000_0000 ≡ 0 → ltb (w % 0x4000_0000 + 1) (2 * n - 1) ≡ isInside n (linkOf w)

@@ -3,10 +3,10 @@ ghost use mathlib.Core.Path.{_≡_};
 ghost use mathlib.Core.List.{_++_};
 ghost use Prim.Native.Nat.{_<_, _≤_};
 ghost use lib.ListN.{length, replicate, drop};
-ghost use Rattle.bvh2.specs.Words.{nodeCount, linkOf, treeAt};
-ghost use Rattle.bvh2.specs.Causes.{Sized};
+ghost use Rattle.bvh2.specs.Words.{treeNodes, linkOf, treeAt};
+ghost use Rattle.bvh2.specs.Causes.{TreeSized};
 ghost use Rattle.bvh2.specs.FirstCause.{sizesCause, isInside, linksInside, boxesAccepted, structureCause};
-ghost use Rattle.bvh2_check.specs.Marking.{markCount, outcome, walk, allMarked, Ready};
+ghost use Rattle.bvh2_check.specs.Marking.{markCount, markingIf, walk, marksSet, MarkReady};
 
 // Causes 1 and 2, or 0: the number of words, and the number of leaves.
 pub fn sizes(words: &[u32], n: usize) -> u32
@@ -50,7 +50,7 @@ fn link_inside(link: u32, n: usize) -> bool
 
 // Whether every link is.
 fn links_inside(words: &[u32], n: usize) -> bool
-    requires { ⌜ Sized (now words) n × (0 < n) ⌝ }
+    requires { ⌜ TreeSized (now words) n × (0 < n) ⌝ }
     ensures { λ r. ⌜ r ≡ linksInside (now (words .entry)) n ⌝ }
 {
     let mut v = 0;
@@ -65,7 +65,7 @@ fn links_inside(words: &[u32], n: usize) -> bool
 
 // Whether every box is accepted.
 fn boxes_accepted(words: &[u32], n: usize) -> bool
-    requires { ⌜ Sized (now words) n × (0 < n) ⌝ }
+    requires { ⌜ TreeSized (now words) n × (0 < n) ⌝ }
     ensures { λ r. ⌜ r ≡ boxesAccepted (now (words .entry)) n ⌝ }
 {
     let mut node = 0;
@@ -82,8 +82,9 @@ fn boxes_accepted(words: &[u32], n: usize) -> bool
 // Mark the node and all below it, and each leaf's position after the marks of the nodes. A second mark, or an edge too many, stops the walk:
 // so no node is gone through twice, whatever the words.
 fn visit(words: &[u32], marks: &mut [u32], n: usize, node: usize, depth: u32) -> bool
-    requires { ⌜ Ready (now words) n (length (now marks)) node ⌝ }
-    ensures { λ r. ⌜ outcome r (now (marks .exit)) ≡ walk (now (words .entry)) (nodeCount n) (treeAt (now (words .entry)) depth node) (now (marks .entry)) ⌝ }
+    requires { ⌜ MarkReady (now words) n (length (now marks)) node ⌝ }
+    ensures { λ r. ⌜ markingIf r (now (marks .exit))
+        ≡ walk (now (words .entry)) (treeNodes n) (treeAt (now (words .entry)) depth node) (now (marks .entry)) ⌝ }
 {
     if marks[node] != 0 {
         return false;
@@ -112,7 +113,7 @@ fn visit(words: &[u32], marks: &mut [u32], n: usize, node: usize, depth: u32) ->
 // Whether each of the first k is marked.
 fn all_marked(marks: &[u32], k: usize) -> bool
     requires { ⌜ k ≤ length (now marks) ⌝ }
-    ensures { λ r. ⌜ r ≡ allMarked k (now (marks .entry)) ⌝ }
+    ensures { λ r. ⌜ r ≡ marksSet k (now (marks .entry)) ⌝ }
 {
     let mut i = 0;
     while i < k {
@@ -126,7 +127,7 @@ fn all_marked(marks: &[u32], k: usize) -> bool
 
 // Causes 5 to 7, or 0, from marks that are zero.
 fn judge(words: &[u32], n: usize, marks: &mut [u32]) -> u32
-    requires { ⌜ Sized (now words) n × (0 < n) × (now marks ≡ replicate (markCount n) 0) ⌝ }
+    requires { ⌜ TreeSized (now words) n × (0 < n) × (now marks ≡ replicate (markCount n) 0) ⌝ }
     ensures { λ r. ⌜ r ≡ structureCause (now (words .entry)) n ⌝ }
 {
     if !links_inside(words, n) {
@@ -146,7 +147,7 @@ fn judge(words: &[u32], n: usize, marks: &mut [u32]) -> u32
 
 // The same from any marks, which are zero afterwards.
 fn judge_cleared(words: &[u32], n: usize, marks: &mut [u32]) -> u32
-    requires { ⌜ Sized (now words) n × (0 < n) × (length (now marks) ≡ markCount n) ⌝ }
+    requires { ⌜ TreeSized (now words) n × (0 < n) × (length (now marks) ≡ markCount n) ⌝ }
     ensures { λ r. ⌜ r ≡ structureCause (now (words .entry)) n ⌝ }
     ensures { λ _. ⌜ now (marks .exit) ≡ replicate (markCount n) 0 ⌝ }
 {
@@ -158,7 +159,7 @@ fn judge_cleared(words: &[u32], n: usize, marks: &mut [u32]) -> u32
 
 // Causes 5 to 7, or 0. The marks are working words, one a node and one a position; these are zero afterwards, and those past them untouched.
 pub fn structure(words: &[u32], n: usize, marks: &mut [u32]) -> u32
-    requires { ⌜ Sized (now words) n × (markCount n ≤ length (now marks)) ⌝ }
+    requires { ⌜ TreeSized (now words) n × (markCount n ≤ length (now marks)) ⌝ }
     ensures { λ r. ⌜ r ≡ structureCause (now (words .entry)) n ⌝ }
     ensures { λ _. ⌜ now (marks .exit) ≡ replicate (markCount n) 0 ++ drop (markCount n) (now (marks .entry)) ⌝ }
 {

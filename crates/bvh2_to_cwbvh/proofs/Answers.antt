@@ -8,23 +8,23 @@ use Rattle.float.specs.Compare.{plusZero}
 use Rattle.causes.specs.Causes.{firstCause}
 use Rattle.lists.specs.Splice.{splice}
 use Rattle.cost.specs.Table.{wordOf, costOf}
-use Rattle.tables.specs.Call.{Call, leafCount, lengthsOf}
-use Rattle.tables.specs.Tables.{workAfter}
-use Rattle.tables.proofs.Prepared.{prepared, prepared-none}
+use Rattle.bvh2_tables.specs.Call.{Call, leafCount, lengthsOf}
+use Rattle.bvh2_tables.specs.Tables.{workAfter}
+use Rattle.bvh2_tables.proofs.Prepared.{prepared, prepared-none}
 use Rattle.bvh2_to_cwbvh.specs.Conversion.{definedRecord, definedNodes, deepestLevel, definedList, Convertible, conversionCause}
-use Rattle.bvh2_to_cwbvh.specs.Conversion.{Answer, converted, refused, answerFor, outputAfter, Outcome, outcomeFor, conversionOf}
+use Rattle.bvh2_to_cwbvh.specs.Conversion.{ConversionAnswer, converted, refused, answerFor, outputAfter, Outcome, outcomeFor, conversionOf}
 use Rattle.bvh2_to_cwbvh.proofs.Endings.{early, cause-none, cause-eight, cause-early}
 
 -- ---- one answer is not the other
-nodesIn : Answer → ℕ
+nodesIn : ConversionAnswer → ℕ
 nodesIn (converted m d) = m
 nodesIn (refused k) = 0
 
-levelIn : Answer → ℕ
+levelIn : ConversionAnswer → ℕ
 levelIn (converted m d) = d
 levelIn (refused k) = 0
 
-numberIn : Answer → ℕ
+numberIn : ConversionAnswer → ℕ
 numberIn (converted m d) = 0
 numberIn (refused k) = k
 
@@ -50,7 +50,7 @@ module _ (c : Call) where
   unfolding answerFor numberIn nodesIn
   some-cause zero r e = absurd (never (definedNodes c) (deepestLevel c) r e)
     where
-      is : Answer → ℕ
+      is : ConversionAnswer → ℕ
       is (converted m d) = 1
       is (refused k) = 0
 

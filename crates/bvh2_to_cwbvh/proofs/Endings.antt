@@ -17,20 +17,20 @@ use Rattle.bvh2.specs.Words.{treeOf}
 use Rattle.bvh2.specs.Decoded.{Decoded}
 use Rattle.bvh2.proofs.Decoded.{accepted-decoded}
 use Rattle.cost.specs.Table.{wordOf, costOf}
-use Rattle.cost.specs.Rows.{Holds}
+use Rattle.cost.specs.Rows.{RowsHold}
 use Rattle.children.specs.Tabled.{Tabled}
-use Rattle.wide.specs.Layout as W
+use Rattle.wide_layout.specs.Layout as W
 use Rattle.wide_tree.specs.Ordered.{wideTree}
 use Rattle.record.specs.Record.{recordBytes}
 use Rattle.emit_tree.specs.declared.Next.{Next}
-use Rattle.emit_tree.specs.Emission.{Whole, Emitted}
-use Rattle.tables.specs.Call.{Call, leafCount, lengthsOf}
-use Rattle.tables.specs.Tables.{tableSize, prepareConditions, cleared, workAfter}
-use Rattle.tables.proofs.Causes.{prepare-passed}
-use Rattle.tables.proofs.Prepared.{prepared, work-length}
-use Rattle.tables.proofs.Refilled.{work-refilled}
-use Rattle.bvh2_to_cwbvh.specs.Conversion.{wideAt, recordOf, nodesOf, levelOf, positionsOf, listOf, deepestLevel, Convertible}
-use Rattle.bvh2_to_cwbvh.specs.Conversion.{conversionConditions, conversionCause, Answer, converted, refused, answerFor, outputAfter}
+use Rattle.emit_tree.specs.Emission.{EmitTree, Emitted}
+use Rattle.bvh2_tables.specs.Call.{Call, leafCount, lengthsOf}
+use Rattle.bvh2_tables.specs.Tables.{tableSize, prepareConditions, cleared, workAfter}
+use Rattle.bvh2_tables.proofs.Causes.{prepare-passed}
+use Rattle.bvh2_tables.proofs.Prepared.{prepared, work-length}
+use Rattle.bvh2_tables.proofs.Refilled.{work-refilled}
+use Rattle.bvh2_to_cwbvh.specs.Conversion.{wideAt, recordOf, nodesOf, levelOf, outputPositions, indexListOf, deepestLevel, Convertible}
+use Rattle.bvh2_to_cwbvh.specs.Conversion.{conversionConditions, conversionCause, ConversionAnswer, converted, refused, answerFor, outputAfter}
 use Rattle.bvh2_to_cwbvh.specs.Conversion.{Outcome, outcomeFor, conversionOf}
 use Rattle.bvh2_to_cwbvh.proofs.Ready.{holds, room, tabled, whole}
 
@@ -63,10 +63,10 @@ record Nothing (ws : List ℕ) (n limit : ℕ) (ordered : Bool) : Type 0 where
   nodes : nodesOf ws n limit ordered ≡ 0
   level : levelOf ws n limit ordered ≡ 0
   bytes : recordOf ws n limit ordered ≡ []
-  list : positionsOf ws n limit ordered ≡ []
+  list : outputPositions ws n limit ordered ≡ []
 
 nothing : (ws : List ℕ) (n limit : ℕ) (ordered : Bool) → n ≡ 0 → Nothing ws n limit ordered
-unfolding nodesOf levelOf recordOf positionsOf
+unfolding nodesOf levelOf recordOf outputPositions
 nothing ws zero limit ordered z = record { nodes = refl; level = refl; bytes = refl; list = refl }
 nothing ws (suc n) limit ordered z = absurd (omega arith)
 
@@ -74,15 +74,15 @@ record There (ws : List ℕ) (n limit : ℕ) (ordered : Bool) : Type 0 where
   nodes : nodesOf ws n limit ordered ≡ W.nodes (wideAt ws limit ordered)
   level : levelOf ws n limit ordered ≡ W.level (wideAt ws limit ordered)
   bytes : recordOf ws n limit ordered ≡ recordBytes (wideAt ws limit ordered)
-  list : positionsOf ws n limit ordered ≡ W.indexList (wideAt ws limit ordered)
+  list : outputPositions ws n limit ordered ≡ W.indexList (wideAt ws limit ordered)
 
 there : (ws : List ℕ) (n limit : ℕ) (ordered : Bool) → 0 < n → There ws n limit ordered
-unfolding nodesOf levelOf recordOf positionsOf
+unfolding nodesOf levelOf recordOf outputPositions
 there ws zero limit ordered h = absurd (omega arith)
 there ws (suc n) limit ordered h = record { nodes = refl; level = refl; bytes = refl; list = refl }
 
 -- ---- the outcome for a cause
-abbrev pub ended : Answer → List ℕ → List Float → List ℕ → List ℕ → Outcome
+abbrev pub ended : ConversionAnswer → List ℕ → List Float → List ℕ → List ℕ → Outcome
 ended a ds cs bytes list = record { answer = a; decisions = ds; costs = cs; bytes = bytes; list = list }
 
 ends : (c : Call) (k : ℕ) (o : Outcome) → conversionCause c ≡ k → o ≡ outcomeFor c k → o ≡ conversionOf c
@@ -124,7 +124,7 @@ module _ {c : Call} {k : ℕ} {ds₁ : List ℕ} {cs₁ : List Float} (p : Prepa
 
     -- no leaf
     pub empty-ends : leafCount c ≡ 0 → ended (converted 0 0) ds₁ cs₁ (c .bytes) (c .list) ≡ conversionOf c
-    unfolding outcomeFor answerFor outputAfter listOf
+    unfolding outcomeFor answerFor outputAfter indexListOf
     empty-ends n =
         let e = nothing (c .words) (leafCount c) (c .limit) (c .ordered) n in
         let a : converted 0 0 ≡ answerFor c 0 = sym (ap₂ converted (e .nodes) (e .level)) in
@@ -144,7 +144,7 @@ module _ {c : Call} {k : ℕ} {ds₁ : List ℕ} {cs₁ : List Float} (p : Prepa
       pub level-ready : Tabled (c .words) ds₁ 127 0
       level-ready = tabled c ds₁ some parts words
 
-      pub emit-ready : Whole (c .words) ds₁ (leafCount c) (c .ordered) (length (c .bytes)) (length (c .list))
+      pub emit-ready : EmitTree (c .words) ds₁ (leafCount c) (c .ordered) (length (c .bytes)) (length (c .list))
       emit-ready = whole c ds₁ some parts words
 
       -- the tables have room to be cleared again
@@ -156,7 +156,7 @@ module _ {c : Call} {k : ℕ} {ds₁ : List ℕ} {cs₁ : List Float} (p : Prepa
           let r = parts .costs in
           omega (arith, work-length plusZero (costOf (c .limit)) (c .words) (leafCount c) (c .costs) cs₁ some tree costs r, r)
 
-      module _ (deepest : ℕ) (finds : (limit : ℕ) (ordered : Bool) → Holds (wordOf limit) 0 ds₁ (treeOf (c .words))
+      module _ (deepest : ℕ) (finds : (limit : ℕ) (ordered : Bool) → RowsHold (wordOf limit) 0 ds₁ (treeOf (c .words))
           → deepest ≡ W.level (wideTree ordered limit (treeOf (c .words)))) where
         found : deepest ≡ deepestLevel c
         found =
@@ -174,13 +174,13 @@ module _ {c : Call} {k : ℕ} {ds₁ : List ℕ} {cs₁ : List Float} (p : Prepa
         -- what the emission ends with
         abbrev pub Emits : List ℕ → List ℕ → Next → Type 0
         Emits bytes₁ list₁ x =
-            (h : Whole (c .words) ds₁ (leafCount c) (c .ordered) (length (c .bytes)) (length (c .list)))
+            (h : EmitTree (c .words) ds₁ (leafCount c) (c .ordered) (length (c .bytes)) (length (c .list)))
             → Emitted (c .indices) (wideTree (c .ordered) (h .at .limit) (treeOf (c .words))) (c .bytes) (c .list) bytes₁ list₁ x
 
         -- converted
         pub written-ends : deepest ≤ 31 → (bytes₁ list₁ : List ℕ) (x : Next) → Emits bytes₁ list₁ x
             → ended (converted (x .nodes) deepest) ds₁ cs₁ bytes₁ list₁ ≡ conversionOf c
-        unfolding whole outcomeFor answerFor outputAfter listOf
+        unfolding whole outcomeFor answerFor outputAfter indexListOf
         written-ends h bytes₁ list₁ x emitted =
             let r = emitted (whole c ds₁ some parts words) in
             let t = there (c .words) (leafCount c) (c .limit) (c .ordered) some in

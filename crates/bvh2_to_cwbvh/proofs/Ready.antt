@@ -4,18 +4,18 @@ use mathlib.Core.List.{List}
 use Prim.Native.Nat.{ℕ, zero, suc, _-_, _*_, _≤_, _<_, max}
 use native.Mathlib.Omega.{arith}
 use lib.ListN.{length}
-use Rattle.bvh2.specs.Words.{nodeCount, treeOf}
+use Rattle.bvh2.specs.Words.{treeNodes, treeOf}
 use Rattle.bvh2.specs.Decoded.{Decoded}
 use Rattle.bvh2.proofs.Decoded.{accepted-decoded}
 use Rattle.bvh2.proofs.Subtree.{root}
 use Rattle.cost.specs.Table.{wordOf}
-use Rattle.cost.specs.Rows.{Holds}
+use Rattle.cost.specs.Rows.{RowsHold}
 use Rattle.children.specs.Tabled.{Tabled}
 use Rattle.wide_tree.proofs.Ordered.{index-count, node-count}
-use Rattle.emit_tree.specs.Emission.{Whole}
-use Rattle.tables.specs.Call.{Call, leafCount}
-use Rattle.tables.specs.Tables.{recordSize, workAfter}
-use Rattle.tables.proofs.Prepared.{work-length, work-holds}
+use Rattle.emit_tree.specs.Emission.{EmitTree}
+use Rattle.bvh2_tables.specs.Call.{Call, leafCount}
+use Rattle.bvh2_tables.specs.Tables.{recordSize, workAfter}
+use Rattle.bvh2_tables.proofs.Prepared.{work-length, work-holds}
 use Rattle.bvh2_to_cwbvh.specs.Conversion.{Convertible}
 
 pub record-size : (n : ℕ) → 0 < n → recordSize n ≡ 80 * max 1 (n - 1)
@@ -28,10 +28,10 @@ module _ (c : Call) (ds₁ : List ℕ) (some : 0 < leafCount c) (parts : Convert
   pub tree : Decoded (c .words) (leafCount c)
   tree = accepted-decoded (c .words) (leafCount c) some .0 (parts .accepted)
 
-  pub holds : Holds (wordOf (c .limit)) 0 ds₁ (treeOf (c .words))
+  pub holds : RowsHold (wordOf (c .limit)) 0 ds₁ (treeOf (c .words))
   holds = work-holds 0 (wordOf (c .limit)) (c .words) (leafCount c) (c .decisions) ds₁ some tree filled (parts .words) 0
 
-  pub room : nodeCount (leafCount c) * 7 ≤ length ds₁
+  pub room : treeNodes (leafCount c) * 7 ≤ length ds₁
   room =
       omega (arith, work-length 0 (wordOf (c .limit)) (c .words) (leafCount c) (c .decisions) ds₁ some tree filled (parts .words), parts .words)
 
@@ -40,7 +40,7 @@ module _ (c : Call) (ds₁ : List ℕ) (some : 0 < leafCount c) (parts : Convert
   tabled = record { n = leafCount c; tree = root (c .words) (leafCount c) tree; room = room; limit = c .limit; holds = holds }
 
   -- the emission
-  unfoldable pub whole : Whole (c .words) ds₁ (leafCount c) (c .ordered) (length (c .bytes)) (length (c .list))
+  unfoldable pub whole : EmitTree (c .words) ds₁ (leafCount c) (c .ordered) (length (c .bytes)) (length (c .list))
   whole =
       let i = index-count (c .ordered) (c .limit) (c .words) (leafCount c) tree in
       let m = node-count (c .ordered) (c .limit) (c .words) (leafCount c) tree (parts .small) in

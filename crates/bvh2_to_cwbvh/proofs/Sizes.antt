@@ -7,10 +7,10 @@ use native.Mathlib.Omega.{arith}
 use lib.ListN.{length, getD, length-map}
 use Rattle.bvh2.specs.Causes.{Accepted}
 use Rattle.bvh2.proofs.Decoded.{accepted-decoded}
-use Rattle.wide.proofs.Sizes.{index-length}
+use Rattle.wide_layout.proofs.Sizes.{index-length}
 use Rattle.wide_tree.proofs.Ordered.{index-count}
 use Rattle.record.proofs.Length.{record-length}
-use Rattle.bvh2_to_cwbvh.specs.Conversion.{wideAt, recordOf, nodesOf, positionsOf, listOf}
+use Rattle.bvh2_to_cwbvh.specs.Conversion.{wideAt, recordOf, nodesOf, outputPositions, indexListOf}
 
 module _ (ws : List ℕ) (limit : ℕ) (ordered : Bool) where
   -- 80 bytes to a node
@@ -20,13 +20,13 @@ module _ (ws : List ℕ) (limit : ℕ) (ordered : Bool) where
   bytes-length (suc n) = record-length (wideAt ws limit ordered)
 
   -- a word for each leaf
-  positions-length : (n : ℕ) → Accepted ws n → length (positionsOf ws n limit ordered) ≡ n
-  unfolding positionsOf
+  positions-length : (n : ℕ) → Accepted ws n → length (outputPositions ws n limit ordered) ≡ n
+  unfolding outputPositions
   positions-length zero h = refl
   positions-length (suc n) h =
       let d = accepted-decoded ws (suc n) (omega arith) .0 h in
       index-length (wideAt ws limit ordered) ∙ index-count ordered limit ws (suc n) d
 
-  pub list-length : (indices : List ℕ) → Accepted ws (length indices) → length (listOf ws indices limit ordered) ≡ length indices
-  unfolding listOf
-  list-length indices h = length-map (positionsOf ws (length indices) limit ordered) (λ p. getD indices p 0) ∙ positions-length (length indices) h
+  pub list-length : (indices : List ℕ) → Accepted ws (length indices) → length (indexListOf ws indices limit ordered) ≡ length indices
+  unfolding indexListOf
+  list-length indices h = length-map (outputPositions ws (length indices) limit ordered) (λ p. getD indices p 0) ∙ positions-length (length indices) h

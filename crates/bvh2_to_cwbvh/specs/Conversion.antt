@@ -11,12 +11,12 @@ use Rattle.causes.specs.Causes.{Condition, _unless_, firstCause}
 use Rattle.float.specs.Compare.{plusZero}
 use Rattle.bvh2.specs.Words.{treeOf}
 use Rattle.cost.specs.Table.{wordOf, costOf}
-use Rattle.wide.specs.Wide.{Wide}
-use Rattle.wide.specs.Layout.{nodes, indexList, level, wordsAt}
+use Rattle.wide_layout.specs.Wide.{Wide}
+use Rattle.wide_layout.specs.Layout.{nodes, indexList, level, wordsAt}
 use Rattle.wide_tree.specs.Ordered.{wideTree}
 use Rattle.record.specs.Record.{recordBytes}
-use Rattle.tables.specs.Call.{Call, leafCount, Lengths, lengthsOf}
-use Rattle.tables.specs.Tables.{prepareConditions, Prepared, workAfter}
+use Rattle.bvh2_tables.specs.Call.{Call, leafCount, Lengths, lengthsOf}
+use Rattle.bvh2_tables.specs.Tables.{prepareConditions, Prepared, workAfter}
 
 -- ---- what an accepted tree becomes
 
@@ -40,14 +40,14 @@ levelOf ws zero limit ordered = 0
 levelOf ws (suc n) limit ordered = level (wideAt ws limit ordered)
 
 -- the positions of the tree's leaves in the order in which the record has them
-unfoldable pub positionsOf : List ℕ → (n limit : ℕ) → Bool → List ℕ
-positionsOf ws zero limit ordered = []
-positionsOf ws (suc n) limit ordered = indexList (wideAt ws limit ordered)
+unfoldable pub outputPositions : List ℕ → (n limit : ℕ) → Bool → List ℕ
+outputPositions ws zero limit ordered = []
+outputPositions ws (suc n) limit ordered = indexList (wideAt ws limit ordered)
 
 -- the index list: the index words at these positions
-unfoldable pub listOf : List ℕ → List ℕ → ℕ → Bool → List ℕ
-unfolding positionsOf
-listOf ws indices limit ordered = wordsAt indices (positionsOf ws (length indices) limit ordered)
+unfoldable pub indexListOf : List ℕ → List ℕ → ℕ → Bool → List ℕ
+unfolding outputPositions
+indexListOf ws indices limit ordered = wordsAt indices (outputPositions ws (length indices) limit ordered)
 
 -- ---- the same of a call's tree, written or not
 abbrev pub definedRecord : Call → List ℕ
@@ -60,7 +60,7 @@ abbrev pub deepestLevel : Call → ℕ
 deepestLevel c = levelOf (c .words) (leafCount c) (c .limit) (c .ordered)
 
 abbrev pub definedList : Call → List ℕ
-definedList c = listOf (c .words) (c .indices) (c .limit) (c .ordered)
+definedList c = indexListOf (c .words) (c .indices) (c .limit) (c .ordered)
 
 -- ---- the causes
 
@@ -82,12 +82,12 @@ conversionCause c = firstCause (conversionConditions (c .words) (leafCount c) (c
 -- ---- the outcome
 
 -- a record of so many nodes with its deepest level, or the number of the first cause that holds
-pub data Answer : Type 0 where
-  converted : (nodes level : ℕ) → Answer
-  refused : ℕ → Answer
+pub data ConversionAnswer : Type 0 where
+  converted : (nodes level : ℕ) → ConversionAnswer
+  refused : ℕ → ConversionAnswer
 
 -- the answer for a cause
-unfoldable pub answerFor : Call → ℕ → Answer
+unfoldable pub answerFor : Call → ℕ → ConversionAnswer
 unfolding nodesOf levelOf
 answerFor c zero = converted (definedNodes c) (deepestLevel c)
 answerFor c (suc k) = refused (suc k)
@@ -99,7 +99,7 @@ outputAfter (suc k) written before = before
 
 -- the answer, and the four lent slices at the end
 pub record Outcome : Type 0 where
-  pub answer : Answer
+  pub answer : ConversionAnswer
   pub decisions : List ℕ
   pub costs : List Float
   pub bytes : List ℕ
@@ -107,7 +107,7 @@ pub record Outcome : Type 0 where
 
 -- the outcome for a cause
 unfoldable pub outcomeFor : Call → ℕ → Outcome
-unfolding answerFor recordOf listOf outputAfter workAfter
+unfolding answerFor recordOf indexListOf outputAfter workAfter
 outcomeFor c cause = record {
   answer = answerFor c cause;
   decisions = workAfter 0 (wordOf (c .limit)) (c .words) (leafCount c) cause (c .decisions);

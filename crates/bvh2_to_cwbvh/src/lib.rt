@@ -9,8 +9,10 @@ pub enum Conversion {
     Refused(u32),
 }
 
-// Converts the tree of `words`, whose leaves hold positions of `indices`, to a record and an index list. `limit` is the most leaves of a leaf child, up to 3;
-// `ordered` says whether children take the slots that suit the directions of rays. The tables of the tree's decisions and costs are left in the working slices.
+// Converts the tree of `words`, whose leaves hold positions of `indices`, to a record and an index list. `limit` is the most leaves of a leaf child,
+// up to 3;
+// `ordered` says whether children take the slots that suit the directions of rays. The tables of the tree's decisions and costs are left in the
+// working slices.
 pub fn bvh2_to_cwbvh(
     words: &[u32],
     indices: &[u32],
@@ -33,18 +35,18 @@ pub fn bvh2_to_cwbvh(
     }) ⌝ }
 {
     let n = indices.len();
-    let cause = tables::prepare(words, n, limit, record.len(), list.len(), decisions, costs);
+    let cause = bvh2_tables::prepare(words, n, limit, record.len(), list.len(), decisions, costs);
     if cause != 0 {
         return Conversion::Refused(cause);
     }
     if n == 0 {
         return Conversion::Converted(0, 0);
     }
-    let deepest = level::deepest_level(words, decisions);
+    let deepest = wide_level::deepest_level(words, decisions);
     if deepest > 31 {
         let k = (2 * n - 1) * 7;
-        tables::clear_words(decisions, k);
-        tables::clear_costs(costs, k);
+        bvh2_tables::clear_words(decisions, k);
+        bvh2_tables::clear_costs(costs, k);
         return Conversion::Refused(8);
     }
     let written = emit_tree::emit(words, indices, decisions, record, list, ordered);

@@ -18,23 +18,23 @@ use Rattle.record_shape.specs.Check.{refused, causeOf, soundnessOf, checkOf}
 use Rattle.record_shape.proofs.Check.{cause-sizes, cause-none}
 use Rattle.validate.specs.declared.Validity.{Validity}
 use Rattle.validate.specs.declared.Validity.the-variants.{Sound, Unsound, Refused}
-use Rattle.validate.specs.Validity.{answerOf}
+use Rattle.validate.specs.Validity.{verdictOf}
 use Rattle.check_text.specs.CheckText.{allWords, answerText, answerAt, checkText}
 
 -- what was written is the text, and r is its length
 abbrev pub Wrote : List ℕ → List ℕ → ℕ → List ℕ → Type 0
 Wrote s text r t = (r ≡ length text) × (t ≡ splice s 0 text)
 
-pub wrote-sound : (v : Validity) (l r : ℕ) (s t : List ℕ) → v ≡ Sound l → Wrote s (soundText l) r t → Wrote s (answerText (answerOf v)) r t
-unfolding answerText answerOf
+pub wrote-sound : (v : Validity) (l r : ℕ) (s t : List ℕ) → v ≡ Sound l → Wrote s (soundText l) r t → Wrote s (answerText (verdictOf v)) r t
+unfolding answerText verdictOf
 wrote-sound v l r s t e h = rw e h
 
-pub wrote-unsound : (v : Validity) (r : ℕ) (s t : List ℕ) → v ≡ Unsound → Wrote s unsoundText r t → Wrote s (answerText (answerOf v)) r t
-unfolding answerText answerOf
+pub wrote-unsound : (v : Validity) (r : ℕ) (s t : List ℕ) → v ≡ Unsound → Wrote s unsoundText r t → Wrote s (answerText (verdictOf v)) r t
+unfolding answerText verdictOf
 wrote-unsound v r s t e h = rw e h
 
-pub wrote-refused : (v : Validity) (c r : ℕ) (s t : List ℕ) → v ≡ Refused c → Wrote s (refusalText c) r t → Wrote s (answerText (answerOf v)) r t
-unfolding answerText answerOf
+pub wrote-refused : (v : Validity) (c r : ℕ) (s t : List ℕ) → v ≡ Refused c → Wrote s (refusalText c) r t → Wrote s (answerText (verdictOf v)) r t
+unfolding answerText verdictOf
 wrote-refused v c r s t e h = rw e h
 
 -- input that ends within the word
@@ -42,7 +42,8 @@ pub wrote-short : (input : List ℕ) (r : ℕ) (s t : List ℕ) → length input
 unfolding checkText answerAt answerText
 wrote-short input r s t l h = go (ltb (length input) 4) (ltb-tells (length input) 4)
   where
-    go : (b : Bool) → Tells (length input < 4) b → Wrote s (answerText (elim b [ true ↦ refused 1 | false ↦ checkOf (drop 4 input) (leAt 4 input 0) allWords ])) r t
+    go : (b : Bool) → Tells (length input < 4) b → Wrote s
+        (answerText (elim b [ true ↦ refused 1 | false ↦ checkOf (drop 4 input) (leAt 4 input 0) allWords ])) r t
     go true (passes p) = h
     go false (fails p) = absurd (p l)
 
@@ -61,17 +62,18 @@ behind : (input : List ℕ) → take (length input - 4) (drop 4 input) ≡ drop 
 behind input = rw (← length-drop 4 input) (take-length (drop 4 input))
 
 pub wrote-checked : (input : List ℕ) (n words r : ℕ) (s t : List ℕ) (v : Validity) → 4 ≤ length input → n ≡ leAt 4 input 0 → allWords ≤ words
-    → answerOf v ≡ checkOf (take (length input - 4) (drop 4 input)) n words → Wrote s (answerText (answerOf v)) r t → Wrote s (checkText input) r t
+    → verdictOf v ≡ checkOf (take (length input - 4) (drop 4 input)) n words → Wrote s (answerText (verdictOf v)) r t → Wrote s (checkText input) r t
 unfolding checkText answerAt checkOf
 wrote-checked input n words r s t v l e w a h = go (ltb (length input) 4) (ltb-tells (length input) 4)
   where
-    same : answerOf v ≡ checkOf (drop 4 input) (leAt 4 input 0) allWords
+    same : verdictOf v ≡ checkOf (drop 4 input) (leAt 4 input 0) allWords
     same =
         a ∙ ap (λ (b : List ℕ). checkOf b n words) (behind input)
         ∙ ap (λ (c : ℕ). elim c [ zero ↦ soundnessOf (drop 4 input) n | suc d ↦ refused (suc d) ]) (enough (length (drop 4 input)) n words w)
         ∙ ap (λ (x : ℕ). checkOf (drop 4 input) x allWords) e
 
-    go : (b : Bool) → Tells (length input < 4) b → Wrote s (answerText (elim b [ true ↦ refused 1 | false ↦ checkOf (drop 4 input) (leAt 4 input 0) allWords ])) r t
+    go : (b : Bool) → Tells (length input < 4) b → Wrote s
+        (answerText (elim b [ true ↦ refused 1 | false ↦ checkOf (drop 4 input) (leAt 4 input 0) allWords ])) r t
     go true (passes p) = absurd (omega arith)
     go false (fails p) = rw (← same) h
 

@@ -16,7 +16,7 @@ use Rattle.words.specs.Le.{leAt}
 use Rattle.record_shape.specs.Check.{refused, causeOf, checkOf}
 use Rattle.record_shape.proofs.Check.{cause-sizes, check-refuses}
 use Rattle.check_text.specs.CheckText.{allWords, answerAt, checkText}
-use Rattle.check_text.specs.Held.{longest, heldLength, heldAfter, Holds, overCause}
+use Rattle.check_text.specs.Held.{longest, heldLength, heldAfter, StandsFor, overCause}
 
 -- ---- lengths
 
@@ -73,7 +73,7 @@ held-after long (more ∷ rest) = rw (held-more, ← add-assoc) (held-after (lon
 
 -- where the first bytes fill the room, the part of it that has the length held after reads of all the rest stands for the whole input
 pub reads-hold : (first rest counts : List ℕ) → length first ≡ longest + 80 → sumOver (λ more. more) counts ≡ length rest
-    → Holds (first ++ rest) (take (heldAfter (longest + 80) counts) first)
+    → StandsFor (first ++ rest) (take (heldAfter (longest + 80) counts) first)
 unfolding heldLength
 reads-hold first rest counts room read =
     let long : length (first ++ rest) ≡ longest + 80 + sumOver (λ more. more) counts = simp length-append (omega arith) in
@@ -125,7 +125,7 @@ over-long input l = go (ltb (length input) 4) (ltb-tells (length input) 4)
     go false (fails p) = rw same (check-refuses (drop 4 input) n allWords (omega (arith, over-some (length input), same)))
 
 -- whatever the input's length, what stands for it has its answer,
-pub held-answer : (input held : List ℕ) → Holds input held → answerAt held ≡ answerAt input
+pub held-answer : (input held : List ℕ) → StandsFor input held → answerAt held ≡ answerAt input
 held-answer input held h = go (length input) refl (heldLength (length input)) (held-as (length input)) (h .long)
   where
     go : (long : ℕ) → length input ≡ long → (k : ℕ) → HeldAs long k → length held ≡ k → answerAt held ≡ answerAt input
@@ -134,7 +134,7 @@ held-answer input held h = go (length input) refl (heldLength (length input)) (h
         over-long held (omega arith) ∙ ap refused (same-over (length held) (length input) (omega arith)) ∙ sym (over-long input (omega arith))
 
 -- and its line
-pub held-line : (input held : List ℕ) → Holds input held → checkText held ≡ checkText input
+pub held-line : (input held : List ℕ) → StandsFor input held → checkText held ≡ checkText input
 unfolding checkText
 held-line input held h = rw (held-answer input held h)
 

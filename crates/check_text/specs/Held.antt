@@ -22,7 +22,7 @@ heldAfter held [] = held
 heldAfter held (more ∷ rest) = heldAfter (heldLength (held + more)) rest
 
 -- `held` stands for the input: it has the length that stands for the input's, and the same bytes as far as the longest
-pub record Holds (input held : List ℕ) : Type 0 where
+pub record StandsFor (input held : List ℕ) : Type 0 where
   pub long : length held ≡ heldLength (length input)
   pub bytes : take longest held ≡ take longest input
 

@@ -7,14 +7,14 @@ ghost use mathlib.Core.Path.{_≡_};
 ghost use Prim.Native.Nat.{_≤_};
 ghost use lib.ListN.{length};
 ghost use Rattle.lists.specs.Splice.{splice};
-ghost use Rattle.validate.specs.Validity.{answerOf};
+ghost use Rattle.validate.specs.Validity.{verdictOf};
 ghost use Rattle.check_text.specs.CheckText.{allWords, answerText, checkText};
 
 // Writes an answer.
 fn put_answer(v: Validity, out: &mut [u8]) -> usize
     requires { ⌜ 19 ≤ length (now out) ⌝ }
-    ensures { λ r. ⌜ r ≡ length (answerText (answerOf v)) ⌝ }
-    ensures { λ _. ⌜ now (out .exit) ≡ splice (now (out .entry)) 0 (answerText (answerOf v)) ⌝ }
+    ensures { λ r. ⌜ r ≡ length (answerText (verdictOf v)) ⌝ }
+    ensures { λ _. ⌜ now (out .exit) ≡ splice (now (out .entry)) 0 (answerText (verdictOf v)) ⌝ }
 {
     match v {
         Validity::Sound(level) => {

@@ -10,10 +10,11 @@ use Rattle.bvh2.specs.Decoded.{BoxesAccepted}
 use Rattle.cost.specs.Table.{Kind, LEAF, INTERNAL, DISTRIBUTE, table}
 use Rattle.cost.proofs.Bound.{first-splits}
 use Rattle.cost.proofs.Splits.{leaf-distribute, leaf-kind, distribute-splits}
-use Rattle.children.specs.Gather.{opened, gather, part, positionsOf, Each}
+use Rattle.children.specs.Gather.{opened, gather, part, gatheredPositions, EachTree}
 
 -- what holds of the child alone and of what it opens into holds of its part
-part-is : {A : Type 0} (P : List (Tree A) → Type 0) (k : Kind) (t : Tree A) (g : List (Tree A)) → P (t ∷ []) → (k ≡ DISTRIBUTE → P g) → P (opened k t g)
+part-is : {A : Type 0} (P : List (Tree A) → Type 0) (k : Kind) (t : Tree A) (g : List (Tree A)) → P (t ∷ []) → (k ≡ DISTRIBUTE → P g)
+    → P (opened k t g)
 part-is P LEAF t g p q = p
 part-is P INTERNAL t g p q = p
 part-is P DISTRIBUTE t g p q = q refl
@@ -35,7 +36,8 @@ module _ {A : Type 0} (limit : ℕ) where
       simp length-append (omega arith)
 
   -- a wide node has at most 8
-  pub first-width : (v : A) (box : Aabb) (a b : Tree A) → BoxesAccepted (inner v box a b) → leaves (inner v box a b) < 2 ^ 23 → length (gather limit (inner v box a b) 0) ≤ 8
+  pub first-width : (v : A) (box : Aabb) (a b : Tree A) → BoxesAccepted (inner v box a b) → leaves (inner v box a b) < 2 ^ 23
+      → length (gather limit (inner v box a b) 0) ≤ 8
   unfolding gather
   first-width v box a b h s =
       let d = table limit (inner v box a b) 0 in
@@ -74,38 +76,40 @@ module _ {A : Type 0} (limit : ℕ) where
       simp length-append (omega arith)
 
   -- ---- what they hold
-  positions-append : (s t : List (Tree A)) → positionsOf (s ++ t) ≡ positionsOf s ++ positionsOf t
-  unfolding positionsOf
+  positions-append : (s t : List (Tree A)) → gatheredPositions (s ++ t) ≡ gatheredPositions s ++ gatheredPositions t
+  unfolding gatheredPositions
   positions-append [] t = refl
-  positions-append (x ∷ s) t = rw (positions-append s t) (sym (append-assoc (positions x) (positionsOf s) (positionsOf t)))
+  positions-append (x ∷ s) t = rw (positions-append s t) (sym (append-assoc (positions x) (gatheredPositions s) (gatheredPositions t)))
 
-  part-positions : (t : Tree A) (i : ℕ) → positionsOf (gather limit t i) ≡ positions t → positionsOf (part limit t i) ≡ positions t
-  unfolding positionsOf
-  part-positions t i h = part-is (λ (x : List (Tree A)). positionsOf x ≡ positions t) (table limit t i .kind) t (gather limit t i) (append-nil (positions t)) (λ q. h)
+  part-positions : (t : Tree A) (i : ℕ) → gatheredPositions (gather limit t i) ≡ positions t → gatheredPositions (part limit t i) ≡ positions t
+  unfolding gatheredPositions
+  part-positions t i h = part-is (λ (x : List (Tree A)). gatheredPositions x ≡ positions t) (table limit t i .kind) t (gather limit t i)
+      (append-nil (positions t)) (λ q. h)
 
   -- the leaves of the children, in gathered order, are the leaves of the tree
-  pub gather-positions : (t : Tree A) (i : ℕ) → positionsOf (gather limit t i) ≡ positions t
-  unfolding gather positions positionsOf
+  pub gather-positions : (t : Tree A) (i : ℕ) → gatheredPositions (gather limit t i) ≡ positions t
+  unfolding gather positions gatheredPositions
   gather-positions (leaf v box p) i = refl
   gather-positions (inner v box a b) i =
       let d = table limit (inner v box a b) i in
       positions-append (part limit a (d .left)) (part limit b (d .right))
-      ∙ ap₂ (λ (x y : List ℕ). x ++ y) (part-positions a (d .left) (gather-positions a (d .left))) (part-positions b (d .right) (gather-positions b (d .right)))
+      ∙ ap₂ (λ (x y : List ℕ). x ++ y) (part-positions a (d .left) (gather-positions a (d .left)))
+      (part-positions b (d .right) (gather-positions b (d .right)))
 
   -- ---- where they stand
-  each-append : (P : Tree A → Type 0) (s t : List (Tree A)) → Each P s → Each P t → Each P (s ++ t)
-  unfolding Each
+  each-append : (P : Tree A → Type 0) (s t : List (Tree A)) → EachTree P s → EachTree P t → EachTree P (s ++ t)
+  unfolding EachTree
   each-append P [] t h k = k
   each-append P (x ∷ s) t h k = (h .0, each-append P s t (h .1) k)
 
   module _ (P : Tree A → Type 0) (below : (v : A) (box : Aabb) (a b : Tree A) → P (inner v box a b) → P a × P b) where
-    part-each : (t : Tree A) (i : ℕ) → P t → Each P (gather limit t i) → Each P (part limit t i)
-    unfolding Each
-    part-each t i p h = part-is (Each P) (table limit t i .kind) t (gather limit t i) (p, tt) (λ q. h)
+    part-each : (t : Tree A) (i : ℕ) → P t → EachTree P (gather limit t i) → EachTree P (part limit t i)
+    unfolding EachTree
+    part-each t i p h = part-is (EachTree P) (table limit t i .kind) t (gather limit t i) (p, tt) (λ q. h)
 
     -- what a node hands on to its children holds of each tree gathered below it
-    pub gather-each : (t : Tree A) (i : ℕ) → P t → Each P (gather limit t i)
-    unfolding gather Each
+    pub gather-each : (t : Tree A) (i : ℕ) → P t → EachTree P (gather limit t i)
+    unfolding gather EachTree
     gather-each (leaf v box p) i h = (h, tt)
     gather-each (inner v box a b) i h =
         let d = table limit (inner v box a b) i in
@@ -114,7 +118,7 @@ module _ {A : Type 0} (limit : ℕ) where
         (part-each a (d .left) (k .0) (gather-each a (d .left) (k .0))) (part-each b (d .right) (k .1) (gather-each b (d .right) (k .1)))
 
     -- for an inner node it is enough that it holds of its two children
-    pub gather-below : (v : A) (box : Aabb) (a b : Tree A) (i : ℕ) → P a → P b → Each P (gather limit (inner v box a b) i)
+    pub gather-below : (v : A) (box : Aabb) (a b : Tree A) (i : ℕ) → P a → P b → EachTree P (gather limit (inner v box a b) i)
     unfolding gather
     gather-below v box a b i p q =
         let d = table limit (inner v box a b) i in

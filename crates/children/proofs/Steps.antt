@@ -13,7 +13,7 @@ use Rattle.bvh2.proofs.Decoded.{subtree-leaves}
 use Rattle.bvh2.proofs.Reading.{label-is}
 use Rattle.bvh2.proofs.Subtree.{node, at-leaf, Inner, at-inner}
 use Rattle.cost.specs.Table.{Kind, LEAF, INTERNAL, DISTRIBUTE, Decision, code, table, wordOf}
-use Rattle.cost.specs.Rows.{Holds}
+use Rattle.cost.specs.Rows.{RowsHold}
 use Rattle.cost.proofs.Splits.{leaf-kind, splits-few, word-fields}
 use Rattle.children.specs.Gather.{opened, gather, part}
 use Rattle.children.specs.Tabled.{Tabled, Opens, Divides, Gathered}
@@ -37,19 +37,26 @@ pub record Says (w : ℕ) (d : Decision) : Type 0 where
   pub right : w % 256 ≡ d .right
   pub few : d .left + d .right ≤ 6
 
-word-held : (limit : ℕ) (ds : List ℕ) (t : Tree ℕ) → Holds (wordOf limit) 0 ds t → (i : ℕ) → i < 7 → getD ds (labelOf t * 7 + i) 0 ≡ wordOf limit t i
-unfolding Holds labelOf
+word-held : (limit : ℕ) (ds : List ℕ) (t : Tree ℕ) → RowsHold (wordOf limit) 0 ds t → (i : ℕ) → i < 7 → getD ds (labelOf t * 7 + i) 0
+    ≡ wordOf limit t i
+unfolding RowsHold labelOf
 word-held limit ds (leaf v box p) h i u = h i u
 word-held limit ds (inner v box a b) h i u = h .0 i u
 
-pub says : {ws ds : List ℕ} {e v : ℕ} → Tabled ws ds e v → (limit : ℕ) → Holds (wordOf limit) 0 ds (treeAt ws e v) → (i : ℕ) → i ≤ 6
+pub says : {ws ds : List ℕ} {e v : ℕ} → Tabled ws ds e v → (limit : ℕ) → RowsHold (wordOf limit) 0 ds (treeAt ws e v) → (i : ℕ) → i ≤ 6
     → Says (getD ds (v * 7 + i) 0) (table limit (treeAt ws e v) i)
 says {ws} {ds} {e} {v} h limit k i u =
     let t = treeAt ws e v in
     let q : getD ds (v * 7 + i) 0 ≡ wordOf limit t i = rw (label-is ws e v) at (word-held limit ds t k i (omega arith)) in
     let f = splits-few limit t (h .tree .boxes) (omega (arith, subtree-leaves (h .tree), h .tree .few)) i u in
     let w = word-fields (table limit t i) (omega arith) in
-    record { kind = ap (λ (x : ℕ). x / 0x4000_0000) q ∙ w .0; left = ap (λ (x : ℕ). x / 256 % 256) q ∙ w .1; right = ap (λ (x : ℕ). x % 256) q ∙ w .2; few = f }
+    record {
+      kind = ap (λ (x : ℕ). x / 0x4000_0000) q ∙ w .0;
+      left = ap (λ (x : ℕ). x / 256 % 256) q ∙ w .1;
+      right = ap (λ (x : ℕ). x % 256) q ∙
+          w .2;
+      few = f;
+    }
 
 -- ---- a node that stays
 alone : (k : Kind) (t : Tree ℕ) (g : List (Tree ℕ)) → (code k ≡ 2 → ⊥) → opened k t g ≡ t ∷ []
@@ -58,10 +65,15 @@ alone INTERNAL t g h = refl
 alone DISTRIBUTE t g h = absurd (h refl)
 
 -- it is one child
-one-written : (t : Tree ℕ) (v count : ℕ) (before : List ℕ) (g : List (Tree ℕ)) → labelOf t ≡ v → g ≡ t ∷ [] → count < length before → Gathered g count before (set before count v) (count + 1)
-one-written t v count before g q e u = rw e (record { number = refl; written = set-splice before count v u ∙ ap (λ (x : ℕ). splice before count (x ∷ [])) (sym q) })
+one-written : (t : Tree ℕ) (v count : ℕ) (before : List ℕ) (g : List (Tree ℕ)) → labelOf t ≡ v → g ≡ t ∷ [] → count < length before
+    → Gathered g count before (set before count v) (count + 1)
+one-written t v count before g q e u = rw e (record {
+  number = refl;
+  written = set-splice before count v u ∙ ap
+      (λ (x : ℕ). splice before count (x ∷ [])) (sym q);
+})
 
-stays : {ws ds : List ℕ} {e v : ℕ} → Tabled ws ds e v → (limit : ℕ) → Holds (wordOf limit) 0 ds (treeAt ws e v) → (i : ℕ) → i ≤ 6
+stays : {ws ds : List ℕ} {e v : ℕ} → Tabled ws ds e v → (limit : ℕ) → RowsHold (wordOf limit) 0 ds (treeAt ws e v) → (i : ℕ) → i ≤ 6
     → (getD ds (v * 7 + i) 0 / 0x4000_0000 ≡ 2 → ⊥) → part limit (treeAt ws e v) i ≡ treeAt ws e v ∷ []
 stays {ws} {e = e} {v = v} h limit k i u z =
     alone (table limit (treeAt ws e v) i .kind) (treeAt ws e v) (gather limit (treeAt ws e v) i) (λ y. z (says h limit k i u .kind ∙ y))
@@ -71,25 +83,29 @@ slot-left {i = i} o z =
     let h = o .tabled in
     omega (arith, o .slots, ap length (stays h (h .limit) (h .holds) i (o .entry) z))
 
-pub stay : {ws ds : List ℕ} {e v i count : ℕ} → Opens ws ds e v i count → (before : List ℕ) → 8 ≤ length before → (getD ds (v * 7 + i) 0 / 0x4000_0000 ≡ 2 → ⊥)
-    → (limit : ℕ) → Holds (wordOf limit) 0 ds (treeAt ws e v) → Gathered (part limit (treeAt ws e v) i) count before (set before count v) (count + 1)
+pub stay : {ws ds : List ℕ} {e v i count : ℕ} → Opens ws ds e v i count → (before : List ℕ) → 8 ≤ length before
+    → (getD ds (v * 7 + i) 0 / 0x4000_0000 ≡ 2 → ⊥)
+    → (limit : ℕ) → RowsHold (wordOf limit) 0 ds (treeAt ws e v)
+    → Gathered (part limit (treeAt ws e v) i) count before (set before count v) (count + 1)
 stay {ws} {e = e} {v = v} {i = i} {count = count} o before l z limit k =
     let u = slot-left o z in
-    one-written (treeAt ws e v) v count before (part limit (treeAt ws e v) i) (label-is ws e v) (stays (o .tabled) limit k i (o .entry) z) (omega arith)
+    one-written (treeAt ws e v) v count before (part limit (treeAt ws e v) i) (label-is ws e v) (stays (o .tabled) limit k i (o .entry) z)
+    (omega arith)
 
 -- ---- a node that is opened: what each call asks, and what they make together
 pub record Down (ws ds : List ℕ) (e v f l r count : ℕ) (g : ℕ → List (Tree ℕ)) : Type 0 where
   pub deep : 0 < e
   pub left : Opens ws ds (e - 1) f l count
   pub right : (before after : List ℕ) (half : ℕ)
-      → ((limit : ℕ) → Holds (wordOf limit) 0 ds (treeAt ws (e - 1) f) → Gathered (part limit (treeAt ws (e - 1) f) l) count before after half)
+      → ((limit : ℕ) → RowsHold (wordOf limit) 0 ds (treeAt ws (e - 1) f) → Gathered (part limit (treeAt ws (e - 1) f) l) count before after half)
       → Opens ws ds (e - 1) (f + 1) r half
   pub joined : (s₀ s₁ s₂ : List ℕ) (half end : ℕ) → 8 ≤ length s₀
-      → ((limit : ℕ) → Holds (wordOf limit) 0 ds (treeAt ws (e - 1) f) → Gathered (part limit (treeAt ws (e - 1) f) l) count s₀ s₁ half)
-      → ((limit : ℕ) → Holds (wordOf limit) 0 ds (treeAt ws (e - 1) (f + 1)) → Gathered (part limit (treeAt ws (e - 1) (f + 1)) r) half s₁ s₂ end)
-      → (limit : ℕ) → Holds (wordOf limit) 0 ds (treeAt ws e v) → Gathered (g limit) count s₀ s₂ end
+      → ((limit : ℕ) → RowsHold (wordOf limit) 0 ds (treeAt ws (e - 1) f) → Gathered (part limit (treeAt ws (e - 1) f) l) count s₀ s₁ half)
+      → ((limit : ℕ) → RowsHold (wordOf limit) 0 ds (treeAt ws (e - 1) (f + 1)) → Gathered (part limit (treeAt ws (e - 1) (f + 1)) r) half s₁ s₂ end)
+      → (limit : ℕ) → RowsHold (wordOf limit) 0 ds (treeAt ws e v) → Gathered (g limit) count s₀ s₂ end
 
-both-written : (A B : List (Tree ℕ)) (count half end : ℕ) (s₀ s₁ s₂ : List ℕ) → Gathered A count s₀ s₁ half → Gathered B half s₁ s₂ end → end ≤ length s₀ → Gathered (A ++ B) count s₀ s₂ end
+both-written : (A B : List (Tree ℕ)) (count half end : ℕ) (s₀ s₁ s₂ : List ℕ) → Gathered A count s₀ s₁ half → Gathered B half s₁ s₂ end
+    → end ≤ length s₀ → Gathered (A ++ B) count s₀ s₂ end
 both-written A B count half end s₀ s₁ s₂ a b u =
     let a' = map labelOf A in
     let b' = map labelOf B in
@@ -111,9 +127,9 @@ module _ {ws ds : List ℕ} {e v : ℕ} (h : Tabled ws ds e v) (f : ℕ) (p : In
   abbrev R : Tree ℕ
   R = treeAt ws (e - 1) (f + 1)
 
-  rows-below : (limit : ℕ) → Holds (wordOf limit) 0 ds (treeAt ws e v) → Holds (wordOf limit) 0 ds L × Holds (wordOf limit) 0 ds R
-  unfolding Holds
-  rows-below limit k = let z : Holds (wordOf limit) 0 ds (inner v (boxAt ws v) L R) = rw (p .tree) at k in (z .1, z .2)
+  rows-below : (limit : ℕ) → RowsHold (wordOf limit) 0 ds (treeAt ws e v) → RowsHold (wordOf limit) 0 ds L × RowsHold (wordOf limit) 0 ds R
+  unfolding RowsHold
+  rows-below limit k = let z : RowsHold (wordOf limit) 0 ds (inner v (boxAt ws v) L R) = rw (p .tree) at k in (z .1, z .2)
 
   pub left-tabled : Tabled ws ds (e - 1) f
   left-tabled = record { n = h .n; tree = p .left; room = h .room; limit = h .limit; holds = rows-below (h .limit) (h .holds) .0 }
@@ -122,13 +138,14 @@ module _ {ws ds : List ℕ} {e v : ℕ} (h : Tabled ws ds e v) (f : ℕ) (p : In
   right-tabled = record { n = h .n; tree = p .right; room = h .room; limit = h .limit; holds = rows-below (h .limit) (h .holds) .1 }
 
   halves : (i count : ℕ) → i ≤ 6 → (g : ℕ → List (Tree ℕ))
-      → ((limit : ℕ) → Holds (wordOf limit) 0 ds (treeAt ws e v) → g limit ≡ part limit L (table limit (treeAt ws e v) i .left) ++ part limit R (table limit (treeAt ws e v) i .right))
+      → ((limit : ℕ) → RowsHold (wordOf limit) 0 ds (treeAt ws e v) → g limit
+      ≡ part limit L (table limit (treeAt ws e v) i .left) ++ part limit R (table limit (treeAt ws e v) i .right))
       → count + length (g (h .limit)) ≤ 8 → Down ws ds e v f (getD ds (v * 7 + i) 0 / 256 % 256) (getD ds (v * 7 + i) 0 % 256) count g
   unfolding left-tabled right-tabled
   halves i count u g is room =
       let l = getD ds (v * 7 + i) 0 / 256 % 256 in
       let r = getD ds (v * 7 + i) 0 % 256 in
-      let same : (limit : ℕ) → Holds (wordOf limit) 0 ds (treeAt ws e v) → g limit ≡ part limit L l ++ part limit R r =
+      let same : (limit : ℕ) → RowsHold (wordOf limit) 0 ds (treeAt ws e v) → g limit ≡ part limit L l ++ part limit R r =
       λ limit k. let s = says h limit k i u in rw (s .left, s .right) (is limit k) in
       let s = says h (h .limit) (h .holds) i u in
       let x = s .left in
@@ -138,17 +155,20 @@ module _ {ws ds : List ℕ} {e v : ℕ} (h : Tabled ws ds e v) (f : ℕ) (p : In
       record {
         deep = p .deep;
         left = record { tabled = left-tabled; entry = omega arith; slots = omega arith };
-        right = λ before after half G. (let a = G (h .limit) (rows-below (h .limit) (h .holds) .0) .number in record { tabled = right-tabled; entry = omega arith; slots = omega arith });
+        right = λ before after half G. (let a = G (h .limit) (rows-below (h .limit) (h .holds) .0) .number in
+            record { tabled = right-tabled; entry = omega arith; slots = omega arith });
         joined = λ s₀ s₁ s₂ half end q G H limit k. (
             let b = rows-below limit k in
             let b₀ = rows-below (h .limit) (h .holds) in
             let a₀ = G (h .limit) (b₀ .0) .number in
             let c₀ = H (h .limit) (b₀ .1) .number in
-            rw (same limit k) (both-written (part limit L l) (part limit R r) count half end s₀ s₁ s₂ (G limit (b .0)) (H limit (b .1)) (omega arith)));
+            rw (same limit k) (both-written (part limit L l) (part limit R r) count half end s₀ s₁ s₂ (G limit (b .0)) (H limit (b .1))
+            (omega arith)));
       }
 
 -- a node that distributes is an inner one
-kind-inner : {ws ds : List ℕ} {e v : ℕ} → Tabled ws ds e v → (i : ℕ) → i ≤ 6 → getD ds (v * 7 + i) 0 / 0x4000_0000 ≡ 2 → wordAt ws v 6 / 0x4000_0000 ≡ 0
+kind-inner : {ws ds : List ℕ} {e v : ℕ} → Tabled ws ds e v → (i : ℕ) → i ≤ 6 → getD ds (v * 7 + i) 0 / 0x4000_0000 ≡ 2 → wordAt ws v 6 / 0x4000_0000
+    ≡ 0
 kind-inner {ws} {ds} {e} {v} h i u z = pick (ℕ-discrete (wordAt ws v 6 / 0x4000_0000) 0)
   where
     no-leaf : (t : Tree ℕ) (box : _) (p : ℕ) → t ≡ leaf v box p → getD ds (v * 7 + i) 0 / 0x4000_0000 ≡ code (table (h .limit) t i .kind) → ⊥
@@ -162,7 +182,8 @@ kind-inner {ws} {ds} {e} {v} h i u z = pick (ℕ-discrete (wordAt ws v 6 / 0x400
     pick (no q) = absurd (no-leaf (treeAt ws e v) (boxAt ws v) _ (at-leaf (h .tree) q .tree) (says h (h .limit) (h .holds) i u .kind))
 
 -- what an inner tree opens into
-gather-inner : (limit : ℕ) (t : Tree ℕ) (v : ℕ) (box : _) (a b : Tree ℕ) (i : ℕ) → t ≡ inner v box a b → gather limit t i ≡ part limit a (table limit t i .left) ++ part limit b (table limit t i .right)
+gather-inner : (limit : ℕ) (t : Tree ℕ) (v : ℕ) (box : _) (a b : Tree ℕ) (i : ℕ) → t ≡ inner v box a b → gather limit t i
+    ≡ part limit a (table limit t i .left) ++ part limit b (table limit t i .right)
 unfolding gather
 gather-inner limit t v box a b i q = rw q
 
@@ -175,17 +196,21 @@ distributed DISTRIBUTE t g h = refl
 pub divides : {ws ds : List ℕ} {e v i count : ℕ} → Opens ws ds e v i count → getD ds (v * 7 + i) 0 / 0x4000_0000 ≡ 2 → Divides ws ds e v i count
 divides {ws} {ds} {e} {v} {i} {count} o z =
     let h = o .tabled in
-    let g = distributed (table (h .limit) (treeAt ws e v) i .kind) (treeAt ws e v) (gather (h .limit) (treeAt ws e v) i) (sym (says h (h .limit) (h .holds) i (o .entry) .kind) ∙ z) in
+    let g = distributed (table (h .limit) (treeAt ws e v) i .kind) (treeAt ws e v) (gather (h .limit) (treeAt ws e v) i)
+    (sym (says h (h .limit) (h .holds) i (o .entry) .kind) ∙ z) in
     record { tabled = h; entry = o .entry; inner = kind-inner h i (o .entry) z; slots = omega (arith, o .slots, ap length g) }
 
-pub contributes : {ws ds : List ℕ} {e v i count : ℕ} → Opens ws ds e v i count → getD ds (v * 7 + i) 0 / 0x4000_0000 ≡ 2 → (before after : List ℕ) (r : ℕ)
-    → ((limit : ℕ) → Holds (wordOf limit) 0 ds (treeAt ws e v) → Gathered (gather limit (treeAt ws e v) i) count before after r)
-    → (limit : ℕ) → Holds (wordOf limit) 0 ds (treeAt ws e v) → Gathered (part limit (treeAt ws e v) i) count before after r
+pub contributes : {ws ds : List ℕ} {e v i count : ℕ} → Opens ws ds e v i count → getD ds (v * 7 + i) 0 / 0x4000_0000 ≡ 2
+    → (before after : List ℕ) (r : ℕ)
+    → ((limit : ℕ) → RowsHold (wordOf limit) 0 ds (treeAt ws e v) → Gathered (gather limit (treeAt ws e v) i) count before after r)
+    → (limit : ℕ) → RowsHold (wordOf limit) 0 ds (treeAt ws e v) → Gathered (part limit (treeAt ws e v) i) count before after r
 contributes {ws} {e = e} {v = v} {i = i} o z before after r G limit k =
-    rw (distributed (table limit (treeAt ws e v) i .kind) (treeAt ws e v) (gather limit (treeAt ws e v) i) (sym (says (o .tabled) limit k i (o .entry) .kind) ∙ z)) (G limit k)
+    rw (distributed (table limit (treeAt ws e v) i .kind) (treeAt ws e v) (gather limit (treeAt ws e v) i)
+    (sym (says (o .tabled) limit k i (o .entry) .kind) ∙ z)) (G limit k)
 
 pub down : {ws ds : List ℕ} {e v i count w : ℕ} → Divides ws ds e v i count → w ≡ wordAt ws v 6
-    → Down ws ds e v (w % 0x4000_0000) (getD ds (v * 7 + i) 0 / 256 % 256) (getD ds (v * 7 + i) 0 % 256) count (λ limit. gather limit (treeAt ws e v) i)
+    → Down ws ds e v (w % 0x4000_0000) (getD ds (v * 7 + i) 0 / 256 % 256) (getD ds (v * 7 + i) 0 % 256) count
+    (λ limit. gather limit (treeAt ws e v) i)
 down {ws} {ds} {e} {v} {i} {count} o q =
     let h = o .tabled in
     let p = at-inner (h .tree) (o .inner) in
@@ -195,10 +220,12 @@ down {ws} {ds} {e} {v} {i} {count} o q =
 -- the node whose children are gathered
 pub root-divides : {ws ds : List ℕ} {e v w : ℕ} → Tabled ws ds e v → w ≡ wordAt ws v 6 → w / 0x4000_0000 ≡ 0 → Divides ws ds e v 0 0
 root-divides {ws} {ds} {e} {v} h q z =
-    let s : length (gather (h .limit) (treeAt ws e v) 0) ≤ 8 = gather-width (h .limit) (treeAt ws e v) (h .tree .boxes) (omega (arith, subtree-leaves (h .tree), h .tree .few)) in
+    let s : length (gather (h .limit) (treeAt ws e v) 0) ≤ 8 = gather-width (h .limit) (treeAt ws e v) (h .tree .boxes)
+    (omega (arith, subtree-leaves (h .tree), h .tree .few)) in
     record { tabled = h; entry = omega arith; inner = rw q at z; slots = omega arith }
 
-pub root-leaf : {ws ds : List ℕ} {e v w : ℕ} → Tabled ws ds e v → w ≡ wordAt ws v 6 → (w / 0x4000_0000 ≡ 0 → ⊥) → (before : List ℕ) → 8 ≤ length before
+pub root-leaf : {ws ds : List ℕ} {e v w : ℕ} → Tabled ws ds e v → w ≡ wordAt ws v 6 → (w / 0x4000_0000 ≡ 0 → ⊥) → (before : List ℕ)
+    → 8 ≤ length before
     → (limit : ℕ) → Gathered (gather limit (treeAt ws e v) 0) 0 before (set before 0 v) 1
 root-leaf {ws} {e = e} {v = v} h q z before u limit =
     one-written (treeAt ws e v) v 0 before (gather limit (treeAt ws e v) 0) (label-is ws e v)

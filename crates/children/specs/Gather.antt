@@ -26,11 +26,11 @@ part limit t i = opened (table limit t i .kind) t (gather limit t i)
 
 -- ---- the trees of a list
 -- the positions that they hold together, in order
-unfoldable pub positionsOf : {A : Type 0} → List (Tree A) → List ℕ
-positionsOf [] = []
-positionsOf (t ∷ ts) = positions t ++ positionsOf ts
+unfoldable pub gatheredPositions : {A : Type 0} → List (Tree A) → List ℕ
+gatheredPositions [] = []
+gatheredPositions (t ∷ ts) = positions t ++ gatheredPositions ts
 
 -- each tree of a list
-unfoldable pub Each : {A : Type 0} → (Tree A → Type 0) → List (Tree A) → Type 0
-Each P [] = Unit {0}
-Each P (t ∷ ts) = P t × Each P ts
+unfoldable pub EachTree : {A : Type 0} → (Tree A → Type 0) → List (Tree A) → Type 0
+EachTree P [] = Unit {0}
+EachTree P (t ∷ ts) = P t × EachTree P ts

@@ -5,19 +5,19 @@ use Prim.Native.Nat.{ℕ, _+_, _*_, _/_, _≤_}
 use lib.ListN.{length}
 use Rattle.lists.specs.Splice.{splice}
 use Rattle.bvh2.specs.Tree.{Tree, labelOf}
-use Rattle.bvh2.specs.Words.{nodeCount, wordAt, treeAt}
+use Rattle.bvh2.specs.Words.{treeNodes, wordAt, treeAt}
 use Rattle.bvh2.specs.Decoded.{Subtree}
 use Rattle.cost.specs.Table.{wordOf}
-use Rattle.cost.specs.Rows.{Holds}
+use Rattle.cost.specs.Rows.{RowsHold}
 use Rattle.children.specs.Gather.{gather, part}
 
 -- below node v, with e edges left, the words are an accepted tree's, and ds holds its decision words for some limit
 pub record Tabled (ws ds : List ℕ) (e v : ℕ) : Type 0 where
   pub n : ℕ
   pub tree : Subtree ws n e v
-  pub room : nodeCount n * 7 ≤ length ds
+  pub room : treeNodes n * 7 ≤ length ds
   pub limit : ℕ
-  pub holds : Holds (wordOf limit) 0 ds (treeAt ws e v)
+  pub holds : RowsHold (wordOf limit) 0 ds (treeAt ws e v)
 
 -- the same where node v is to contribute its part at entry i, behind `count` children
 pub record Opens (ws ds : List ℕ) (e v i count : ℕ) : Type 0 where

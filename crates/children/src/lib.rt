@@ -3,7 +3,7 @@ ghost use Prim.Native.Nat.{ℕ, _≤_};
 ghost use lib.ListN.{length};
 ghost use Rattle.bvh2.specs.Words.{treeAt};
 ghost use Rattle.cost.specs.Table.{wordOf};
-ghost use Rattle.cost.specs.Rows.{Holds};
+ghost use Rattle.cost.specs.Rows.{RowsHold};
 ghost use Rattle.children.specs.Gather.{gather, part};
 ghost use Rattle.children.specs.Tabled.{Tabled, Opens, Divides, Gathered};
 
@@ -20,7 +20,8 @@ fn open_child(
 ) -> usize
     requires { ⌜ 8 ≤ length (now children) ⌝ }
     requires { ⌜ Opens (now words) (now decisions) depth v entry count ⌝ }
-    ensures { λ r. ⌜ ((limit : ℕ) → Holds (wordOf limit) 0 (now (decisions .entry)) (treeAt (now (words .entry)) depth v) → Gathered (part limit (treeAt (now (words .entry)) depth v) entry) count (now (children .entry)) (now (children .exit)) r) ⌝ }
+    ensures { λ r. ⌜ ((limit : ℕ) → RowsHold (wordOf limit) 0 (now (decisions .entry)) (treeAt (now (words .entry)) depth v)
+        → Gathered (part limit (treeAt (now (words .entry)) depth v) entry) count (now (children .entry)) (now (children .exit)) r) ⌝ }
 {
     let word = decisions[v * 7 + entry];
     if word / words::KIND != 2 {
@@ -43,7 +44,8 @@ fn open_node(
 ) -> usize
     requires { ⌜ 8 ≤ length (now children) ⌝ }
     requires { ⌜ Divides (now words) (now decisions) depth v entry count ⌝ }
-    ensures { λ r. ⌜ ((limit : ℕ) → Holds (wordOf limit) 0 (now (decisions .entry)) (treeAt (now (words .entry)) depth v) → Gathered (gather limit (treeAt (now (words .entry)) depth v) entry) count (now (children .entry)) (now (children .exit)) r) ⌝ }
+    ensures { λ r. ⌜ ((limit : ℕ) → RowsHold (wordOf limit) 0 (now (decisions .entry)) (treeAt (now (words .entry)) depth v)
+        → Gathered (gather limit (treeAt (now (words .entry)) depth v) entry) count (now (children .entry)) (now (children .exit)) r) ⌝ }
 {
     let word = decisions[v * 7 + entry];
     let left = (word / 256 % 256) as usize;
@@ -72,7 +74,8 @@ pub fn get_children(
 ) -> usize
     requires { ⌜ 8 ≤ length (now children) ⌝ }
     requires { ⌜ Tabled (now words) (now decisions) depth v ⌝ }
-    ensures { λ r. ⌜ ((limit : ℕ) → Holds (wordOf limit) 0 (now (decisions .entry)) (treeAt (now (words .entry)) depth v) → Gathered (gather limit (treeAt (now (words .entry)) depth v) 0) 0 (now (children .entry)) (now (children .exit)) r) ⌝ }
+    ensures { λ r. ⌜ ((limit : ℕ) → RowsHold (wordOf limit) 0 (now (decisions .entry)) (treeAt (now (words .entry)) depth v)
+        → Gathered (gather limit (treeAt (now (words .entry)) depth v) 0) 0 (now (children .entry)) (now (children .exit)) r) ⌝ }
 {
     let link = bvh2::link_word(words, v);
     if link / words::KIND != 0 {

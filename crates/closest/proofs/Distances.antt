@@ -21,11 +21,11 @@ use Rattle.aabb.specs.declared.Aabb.{Aabb}
 use Rattle.aabb.specs.Aabb.{planeDistance, slabNear, boxNear, boxFar, entryDistance, acceptedBox}
 use Rattle.aabb.proofs.Bounds as B
 use Rattle.packed.specs.Packed.{boxIn}
-use Rattle.hits.proofs.Terms.{max-no-nan, min-no-nan, within-no-nan}
+use Rattle.node_hits.proofs.Terms.{max-no-nan, min-no-nan, within-no-nan}
 use Rattle.walk.specs.Queries.{distance}
 use Rattle.walk.proofs.Nearest.{Order}
 use Rattle.walk.proofs.Noted.{Reaching}
-use Rattle.walk_record.specs.Beam.{Beam, reaching, toldBeam}
+use Rattle.walk_record.specs.WalkRay.{WalkRay, reaching, toldWalkRay}
 use Rattle.closest.specs.Panes.{paneMet, paneOf, nearer}
 
 -- no NaN
@@ -88,16 +88,16 @@ module _ (indices : List ℕ) (panes : List Float) where
   met-there k r h a = rw (lt-ltb k (length panes / 6) h, a)
 
   -- and another reach moves none
-  reach-pane : (p : ℕ) (t : Float) (b : Beam) (c : Bool)
+  reach-pane : (p : ℕ) (t : Float) (b : WalkRay) (c : Bool)
       → paneOf indices panes p (record { ray = cond c (reaching t (b .ray)) (b .ray); octant = b .octant }) ≡ paneOf indices panes p b
   unfolding paneOf paneMet entryDistance boxNear boxFar
   reach-pane p t b true = refl
   reach-pane p t b false = refl
 
-  told-reach : (t : Float) (b : Beam) → lt t (b .ray .tmax) ≡ true → toldBeam t b .ray .tmax ≡ t
+  told-reach : (t : Float) (b : WalkRay) → lt t (b .ray .tmax) ≡ true → toldWalkRay t b .ray .tmax ≡ t
   told-reach t b e = ap (λ (c : Bool). cond c (reaching t (b .ray)) (b .ray) .tmax) (counts-is (b .ray) t ∙ e)
 
-  pub panes-reached : Reaching toldBeam (paneOf indices panes) nearer lt (λ b. b .ray .tmax)
+  pub panes-reached : Reaching toldWalkRay (paneOf indices panes) nearer lt (λ b. b .ray .tmax)
   panes-reached = record {
     nearer-is = λ t b. counts-is (b .ray) t;
     told-reach = told-reach;

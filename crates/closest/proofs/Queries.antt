@@ -18,17 +18,17 @@ use Rattle.walk.specs.Words as W
 use Rattle.walk.specs.Words.{firstPosition, restOf}
 use Rattle.walk.specs.WordStep.{WalkerWords, SteppedWords, NodeWords, afterReportWords, seekWords}
 use Rattle.walk.specs.WordQueries.{OutcomeWords, toldAllWords}
-use Rattle.walk_record.specs.Beam.{Beam, reaching, beams}
+use Rattle.walk_record.specs.WalkRay.{WalkRay, reaching, byBoxes}
 use Rattle.walk_record.specs.Record.{FieldsFit, nodeWordsAt}
 use Rattle.advance.specs.declared.Group.{Group}
 use Rattle.advance.specs.declared.Walk.{Walk}
 use Rattle.advance.specs.declared.Turn.{Turn}
 use Rattle.advance.specs.declared.Answer.{Answer}
 use Rattle.advance.specs.declared.Answer.the-variants.{Tested, Position, Done, Refused as AnswerRefused}
-use Rattle.advance.specs.Turn.{groupOf, walkerOf, seeking, answerOf, turned}
+use Rattle.advance.specs.Turn.{groupOf, walkerOf, seeking, stepAnswer, turned}
 use Rattle.advance.proofs.Seeks.{seeking-from}
 use Rattle.query.specs.Result.{Result, walked}
-use Rattle.query.specs.Walk.{Sized}
+use Rattle.query.specs.Walk.{RecordSized}
 use Rattle.query.proofs.Leads.{Leads, Goes, Sought, leads-past, leads-stops, leads-on, seek-sought}
 use Rattle.query.proofs.Begins.{steady}
 use Rattle.closest.specs.declared.ClosestHit.{ClosestHit}
@@ -42,19 +42,20 @@ use Rattle.closest.specs.Panes.{ClosestAnswer, blocked, refusedClosest, 
 -- ---- what a walk that has ended gives
 
 module _ {A : Type 0} (refuse : ℕ → A) (found : Found Float → ℕ → Result A)
-    {w : WalkerWords Beam} {x : Found Float} {goal : OutcomeWords Beam (Found Float)} where
-  pub ends-done : record { walker = w; noted = x; ended = S.done } ≡ goal → found x (w .tests) ≡ walked refuse found goal (goal .ended)
+    {w : WalkerWords WalkRay} {x : Found Float} {goal : OutcomeWords WalkRay (Found Float)} where
+  pub ends-done : record { walker = w; accumulator = x; ended = S.done } ≡ goal → found x (w .tests) ≡ walked refuse found goal (goal .ended)
   unfolding walked
-  ends-done e = ap (λ (o : OutcomeWords Beam (Found Float)). walked refuse found o (o .ended)) e
+  ends-done e = ap (λ (o : OutcomeWords WalkRay (Found Float)). walked refuse found o (o .ended)) e
 
-  pub ends-refused : {k : ℕ} → record { walker = w; noted = x; ended = S.refused k } ≡ goal
+  pub ends-refused : {k : ℕ} → record { walker = w; accumulator = x; ended = S.refused k } ≡ goal
       → record { answer = refuse k; tests = 0 } ≡ walked refuse found goal (goal .ended)
   unfolding walked
-  ends-refused e = ap (λ (o : OutcomeWords Beam (Found Float)). walked refuse found o (o .ended)) e
+  ends-refused e = ap (λ (o : OutcomeWords WalkRay (Found Float)). walked refuse found o (o .ended)) e
 
-  ends-stopped : {p : ℕ} → record { walker = w; noted = x; ended = S.position p } ≡ goal → found x (w .tests) ≡ walked refuse found goal (goal .ended)
+  ends-stopped : {p : ℕ} → record { walker = w; accumulator = x; ended = S.position p } ≡ goal → found x (w .tests)
+      ≡ walked refuse found goal (goal .ended)
   unfolding walked
-  ends-stopped e = ap (λ (o : OutcomeWords Beam (Found Float)). walked refuse found o (o .ended)) e
+  ends-stopped e = ap (λ (o : OutcomeWords WalkRay (Found Float)). walked refuse found o (o .ended)) e
 
 -- what closest has noted, by the answer that its loop holds, which is no refusal
 abbrev pub foundBy : ClosestHit → Found Float
@@ -76,54 +77,54 @@ closest-held (Refused k) tests h = absurd h
 
 -- ---- how they react to a position, by its pane
 
-module _ (indices : List ℕ) (panes : List Float) (p : ℕ) (b : Beam) (x : Found Float) where
+module _ (indices : List ℕ) (panes : List Float) (p : ℕ) (b : WalkRay) (x : Found Float) where
   closest-at : (t : Float) → paneOf indices panes p b ≡ distance t → (c : Bool) → counts (b .ray) t ≡ c
       → closest (paneOf indices panes) nearer p b x ≡ lower (paneOf indices panes) nearer c p t x
   closest-at t q c h =
       ap (λ (y : Pane Float). lowerAt (paneOf indices panes) nearer y p b x) q ∙ ap (λ (d : Bool). lower (paneOf indices panes) nearer d p t x) h
 
   closest-faulty : (k : ℕ) → paneOf indices panes p b ≡ faulty k
-      → closest (paneOf indices panes) nearer p b x ≡ record { noted = fault k; tells = []; stop = true }
+      → closest (paneOf indices panes) nearer p b x ≡ record { accumulator = fault k; tells = []; stop = true }
   closest-faulty k q = ap (λ (y : Pane Float). lowerAt (paneOf indices panes) nearer y p b x) q
 
   miss-at : (t : Float) → paneOf indices panes p b ≡ distance t → (c : Bool) → counts (b .ray) t ≡ c
-      → miss (paneOf indices panes) nearer p b x ≡ record { noted = cond c (hit p t) x; tells = []; stop = c }
+      → miss (paneOf indices panes) nearer p b x ≡ record { accumulator = cond c (hit p t) x; tells = []; stop = c }
   miss-at t q c h =
       ap (λ (y : Pane Float). blockAt (paneOf indices panes) nearer y p b x) q
-      ∙ ap (λ (d : Bool). record { noted = cond d (hit p t) x; tells = []; stop = d }) h
+      ∙ ap (λ (d : Bool). record { accumulator = cond d (hit p t) x; tells = []; stop = d }) h
 
   miss-faulty : (k : ℕ) → paneOf indices panes p b ≡ faulty k
-      → miss (paneOf indices panes) nearer p b x ≡ record { noted = fault k; tells = []; stop = true }
+      → miss (paneOf indices panes) nearer p b x ≡ record { accumulator = fault k; tells = []; stop = true }
   miss-faulty k q = ap (λ (y : Pane Float). blockAt (paneOf indices panes) nearer y p b x) q
 
 -- ---- at a position in hand
 
 -- position p is the first in hand, it is met so, and `left` are the others
-pub record AtPosition (indices : List ℕ) (panes : List Float) (bytes : List ℕ) (react : ℕ → Beam → Found Float → Reaction Float (Found Float))
-    (goal : OutcomeWords Beam (Found Float)) (ray : Ray) (octant : ℕ) (v : Walk) (stack : List ℕ) (x : Found Float)
+pub record AtPosition (indices : List ℕ) (panes : List Float) (bytes : List ℕ) (react : ℕ → WalkRay → Found Float → Reaction Float (Found Float))
+    (goal : OutcomeWords WalkRay (Found Float)) (ray : Ray) (octant : ℕ) (v : Walk) (stack : List ℕ) (x : Found Float)
     (p : ℕ) (met : Met) (left : Group) : Type 0 where
-  pub sized : Sized bytes (length indices)
+  pub sized : RecordSized bytes (length indices)
   pub fit : FieldsFit bytes
-  pub leads : Leads (nodeCount bytes) (nodeWordsAt bytes beams) (length indices) react goal (walkerOf ray octant v stack) x
+  pub leads : Leads (nodeCount bytes) (nodeWordsAt bytes byBoxes) (length indices) react goal (walkerOf ray octant v stack) x
   pub held : 0 < v .positions .bits
   pub named : p ≡ firstPosition (groupOf (v .positions))
   pub pane : paneOfMet met ≡ positionMet indices panes p ray
   pub rest : groupOf left ≡ restOf (groupOf (v .positions))
 
-module _ {indices : List ℕ} {panes : List Float} {bytes : List ℕ} {react : ℕ → Beam → Found Float → Reaction Float (Found Float)}
-    {goal : OutcomeWords Beam (Found Float)} {ray : Ray} {octant : ℕ} {v : Walk} {stack : List ℕ} {x : Found Float}
+module _ {indices : List ℕ} {panes : List Float} {bytes : List ℕ} {react : ℕ → WalkRay → Found Float → Reaction Float (Found Float)}
+    {goal : OutcomeWords WalkRay (Found Float)} {ray : Ray} {octant : ℕ} {v : Walk} {stack : List ℕ} {x : Found Float}
     {p : ℕ} {met : Met} {left : Group}
     (P : AtPosition indices panes bytes react goal ray octant v stack x p met left) where
-  abbrev N : NodeWords Beam Float
-  N = nodeWordsAt bytes beams
+  abbrev N : NodeWords WalkRay Float
+  N = nodeWordsAt bytes byBoxes
 
   abbrev n : ℕ
   n = length indices
 
-  abbrev w : WalkerWords Beam
+  abbrev w : WalkerWords WalkRay
   w = walkerOf ray octant v stack
 
-  abbrev beam : Beam
+  abbrev beam : WalkRay
   beam = record { ray = ray; octant = octant }
 
   -- the walk after its report
@@ -153,11 +154,11 @@ module _ {indices : List ℕ} {panes : List Float} {bytes : List ℕ} {react : �
           let e : faulty k ≡ faulty 10 = sym (ap paneOfMet q) ∙ P .pane ∙ position-past indices panes p ray past in
           inr (past, cc)
 
-  stops : {y : Found Float} {ds : List Float} → p < n → react p beam x ≡ record { noted = y; tells = ds; stop = true }
-      → record { walker = toldAllWords N ds (afterReportWords w .walker); noted = y; ended = S.position p } ≡ goal
+  stops : {y : Found Float} {ds : List Float} → p < n → react p beam x ≡ record { accumulator = y; tells = ds; stop = true }
+      → record { walker = toldAllWords N ds (afterReportWords w .walker); accumulator = y; ended = S.position p } ≡ goal
   stops there q = leads-stops (steady bytes n (P .sized) (P .fit)) (P .leads) refl refl (P .held) p (P .named) there q
 
-  goes : {y : Found Float} {ds : List Float} → p < n → react p beam x ≡ record { noted = y; tells = ds; stop = false }
+  goes : {y : Found Float} {ds : List Float} → p < n → react p beam x ≡ record { accumulator = y; tells = ds; stop = false }
       → Goes (nodeCount bytes) N n react goal w (toldAllWords N ds (walkerOf ray octant reported stack)) y
   goes {y = y} {ds = ds} there q =
       subst
@@ -169,7 +170,7 @@ module _ {indices : List ℕ} {panes : List Float} {bytes : List ℕ} {react : �
   -- what refuses a position refuses the query
   fails : {A : Type 0} (refuse : ℕ → A) (found : Found Float → ℕ → Result A)
       → ((k tests : ℕ) → record { answer = refuse k; tests = 0 } ≡ found (fault k) tests)
-      → ((k : ℕ) → paneOf indices panes p beam ≡ faulty k → react p beam x ≡ record { noted = fault k; tells = []; stop = true })
+      → ((k : ℕ) → paneOf indices panes p beam ≡ faulty k → react p beam x ≡ record { accumulator = fault k; tells = []; stop = true })
       → (k : ℕ) → met ≡ Faulty k → record { answer = refuse k; tests = 0 } ≡ walked refuse found goal (goal .ended)
   fails refuse found refuses reacts k q = go (refused-where k q)
     where
@@ -180,28 +181,31 @@ module _ {indices : List ℕ} {panes : List Float} {bytes : List ℕ} {react : �
           ap (λ (j : ℕ). record { answer = refuse j; tests = 0 }) (h .1)
           ∙ ends-refused refuse found (leads-past (steady bytes n (P .sized) (P .fit)) (P .leads) refl refl (P .held) p (P .named) (h .0))
 
-module _ {indices : List ℕ} {panes : List Float} {bytes : List ℕ} {goal : OutcomeWords Beam (Found Float)}
+module _ {indices : List ℕ} {panes : List Float} {bytes : List ℕ} {goal : OutcomeWords WalkRay (Found Float)}
     {ray : Ray} {octant : ℕ} {v : Walk} {stack : List ℕ} {x : Found Float} {p : ℕ} {met : Met} {left : Group} where
   module _ (P : AtPosition indices panes bytes (closest (paneOf indices panes) nearer) goal ray octant v stack x p met left) where
     -- what refuses a position refuses closest
-    pub closest-fails : (k : ℕ) → met ≡ Faulty k → record { answer = refusedClosest k; tests = 0 } ≡ walked refusedClosest closestFound goal (goal .ended)
+    pub closest-fails : (k : ℕ) → met ≡ Faulty k → record { answer = refusedClosest k; tests = 0 }
+        ≡ walked refusedClosest closestFound goal (goal .ended)
     unfolding closestFound
     closest-fails = fails P refusedClosest closestFound (λ k t. refl) (closest-faulty indices panes p (beam P) x)
 
     -- a distance that counts is noted and becomes the reach
     pub closest-lowers : (d : Float) → met ≡ At d → counts ray d ≡ true
-        → Goes (nodeCount bytes) (nodeWordsAt bytes beams) (length indices) (closest (paneOf indices panes) nearer) goal (walkerOf ray octant v stack)
+        → Goes (nodeCount bytes) (nodeWordsAt bytes byBoxes) (length indices) (closest (paneOf indices panes) nearer) goal
+        (walkerOf ray octant v stack)
         (walkerOf (reaching d ray) octant (reported P) stack) (hit p d)
     closest-lowers d f h =
         let t = at-there P d f in
         subst
-        (λ (c : Bool). Goes (nodeCount bytes) (nodeWordsAt bytes beams) (length indices) (closest (paneOf indices panes) nearer) goal
+        (λ (c : Bool). Goes (nodeCount bytes) (nodeWordsAt bytes byBoxes) (length indices) (closest (paneOf indices panes) nearer) goal
         (walkerOf ray octant v stack) (walkerOf (cond c (reaching d ray) ray) octant (reported P) stack) (hit p d)) h
         (goes P (t .0) (closest-at indices panes p (beam P) x d (t .1) true h))
 
     -- any other changes nothing
     pub closest-passes : (d : Float) → met ≡ At d → counts ray d ≡ false
-        → Goes (nodeCount bytes) (nodeWordsAt bytes beams) (length indices) (closest (paneOf indices panes) nearer) goal (walkerOf ray octant v stack)
+        → Goes (nodeCount bytes) (nodeWordsAt bytes byBoxes) (length indices) (closest (paneOf indices panes) nearer) goal
+        (walkerOf ray octant v stack)
         (walkerOf ray octant (reported P) stack) x
     closest-passes d f h = let t = at-there P d f in goes P (t .0) (closest-at indices panes p (beam P) x d (t .1) false h)
 
@@ -221,14 +225,14 @@ module _ {indices : List ℕ} {panes : List Float} {bytes : List ℕ} {goal : Ou
 
     -- any other changes nothing
     pub miss-passes : (d : Float) → met ≡ At d → counts ray d ≡ false
-        → Goes (nodeCount bytes) (nodeWordsAt bytes beams) (length indices) (miss (paneOf indices panes) nearer) goal (walkerOf ray octant v stack)
+        → Goes (nodeCount bytes) (nodeWordsAt bytes byBoxes) (length indices) (miss (paneOf indices panes) nearer) goal (walkerOf ray octant v stack)
         (walkerOf ray octant (reported P) stack) x
     miss-passes d f h = let t = at-there P d f in goes P (t .0) (miss-at indices panes p (beam P) x d (t .1) false h)
 
 -- ---- after a search
 
 -- A search by the numbers of walk v, which has no position in hand, is one from v; u is the walk that it gave, read number by number.
-pub searched : (m : ℕ) (N : NodeWords Beam Float) (most n : ℕ) (ray : Ray) (octant : ℕ) (v : Walk) (stack : List ℕ) → v .positions .bits ≤ 0
+pub searched : (m : ℕ) (N : NodeWords WalkRay Float) (most n : ℕ) (ray : Ray) (octant : ℕ) (v : Walk) (stack : List ℕ) → v .positions .bits ≤ 0
     → (u : Walk) (t : Turn) → u ≡ t .walk → (stack₁ : List ℕ)
     → turned ray octant t stack₁ ≡ seekWords m N most n
     (walkerOf ray octant (seeking (v .tests) (v .positions .base) (v .current .base) (v .current .bits) (v .depth)) stack)
@@ -238,40 +242,47 @@ searched m N most n ray octant v stack held u t e stack₁ h =
     ∙ ap (seekWords m N most n) (seeking-from ray octant stack v (omega (arith, held)))
 
 -- a search from walk v, which has no position in hand, gave t and a stack
-pub record AfterSearch (bytes indices : List ℕ) (react : ℕ → Beam → Found Float → Reaction Float (Found Float)) (goal : OutcomeWords Beam (Found Float))
+pub record AfterSearch (bytes indices : List ℕ) (react : ℕ → WalkRay → Found Float → Reaction Float (Found Float))
+    (goal : OutcomeWords WalkRay (Found Float))
     (ray : Ray) (octant : ℕ) (v : Walk) (stack : List ℕ) (x : Found Float) (t : Turn) (stack₁ : List ℕ) : Type 0 where
-  pub sized : Sized bytes (length indices)
+  pub sized : RecordSized bytes (length indices)
   pub fit : FieldsFit bytes
-  pub leads : Leads (nodeCount bytes) (nodeWordsAt bytes beams) (length indices) react goal (walkerOf ray octant v stack) x
+  pub leads : Leads (nodeCount bytes) (nodeWordsAt bytes byBoxes) (length indices) react goal (walkerOf ray octant v stack) x
   pub none : v .positions .bits ≤ 0
   pub most : ℕ
-  pub search : turned ray octant t stack₁ ≡ seekWords (nodeCount bytes) (nodeWordsAt bytes beams) most (length indices) (walkerOf ray octant v stack)
+  pub search : turned ray octant t stack₁ ≡ seekWords (nodeCount bytes) (nodeWordsAt bytes byBoxes) most (length indices)
+      (walkerOf ray octant v stack)
 
-module _ {bytes indices : List ℕ} {react : ℕ → Beam → Found Float → Reaction Float (Found Float)} {goal : OutcomeWords Beam (Found Float)}
-    {ray : Ray} {octant : ℕ} {v : Walk} {stack : List ℕ} {x : Found Float} {t : Turn} {stack₁ : List ℕ} (A : AfterSearch bytes indices react goal ray octant v stack x t stack₁) where
+module _ {bytes indices : List ℕ} {react : ℕ → WalkRay → Found Float → Reaction Float (Found Float)} {goal : OutcomeWords WalkRay (Found Float)}
+    {ray : Ray} {octant : ℕ} {v : Walk} {stack : List ℕ} {x : Found Float} {t : Turn} {stack₁ : List ℕ}
+    (A : AfterSearch bytes indices react goal ray octant v stack x t stack₁) where
   abbrev Left : S.Answer → Type 0
-  Left b = Sought (nodeCount bytes) (nodeWordsAt bytes beams) (length indices) react goal (walkerOf ray octant v stack) x b (walkerOf ray octant (t .walk) stack₁)
+  Left b = Sought (nodeCount bytes) (nodeWordsAt bytes byBoxes) (length indices) react goal (walkerOf ray octant v stack) x b
+      (walkerOf ray octant (t .walk) stack₁)
 
-  sought : (b : Answer) → t .answer ≡ b → Left (answerOf b)
+  sought : (b : Answer) → t .answer ≡ b → Left (stepAnswer b)
   sought b e =
-      subst (λ (a : Answer). Left (answerOf a)) e
-      (subst (λ (r : SteppedWords Beam). Sought (nodeCount bytes) (nodeWordsAt bytes beams) (length indices) react goal (walkerOf ray octant v stack) x (r .answer) (r .walker)) (sym (A .search))
+      subst (λ (a : Answer). Left (stepAnswer a)) e
+      (subst (λ (r : SteppedWords WalkRay). Sought (nodeCount bytes) (nodeWordsAt bytes byBoxes) (length indices) react goal
+      (walkerOf ray octant v stack) x (r .answer) (r .walker)) (sym (A .search))
       (seek-sought (steady bytes (length indices) (A .sized) (A .fit)) (A .most) (walkerOf ray octant v stack) (A .leads) (A .none)))
 
   -- the query goes on after a test, ends with done or a refusal, and no position is reported
   pub search-tested : (u : ℕ) → t .answer ≡ Tested u
-      → Goes (nodeCount bytes) (nodeWordsAt bytes beams) (length indices) react goal (walkerOf ray octant v stack) (walkerOf ray octant (t .walk) stack₁) x
-  unfolding answerOf
+      → Goes (nodeCount bytes) (nodeWordsAt bytes byBoxes) (length indices) react goal (walkerOf ray octant v stack)
+      (walkerOf ray octant (t .walk) stack₁) x
+  unfolding stepAnswer
   search-tested u e = sought (Tested u) e
 
-  pub search-done : t .answer ≡ Done → record { walker = walkerOf ray octant (t .walk) stack₁; noted = x; ended = S.done } ≡ goal
-  unfolding answerOf
+  pub search-done : t .answer ≡ Done → record { walker = walkerOf ray octant (t .walk) stack₁; accumulator = x; ended = S.done } ≡ goal
+  unfolding stepAnswer
   search-done e = sought Done e
 
-  pub search-refused : (k : ℕ) → t .answer ≡ AnswerRefused k → record { walker = walkerOf ray octant (t .walk) stack₁; noted = x; ended = S.refused k } ≡ goal
-  unfolding answerOf
+  pub search-refused : (k : ℕ) → t .answer ≡ AnswerRefused k
+      → record { walker = walkerOf ray octant (t .walk) stack₁; accumulator = x; ended = S.refused k } ≡ goal
+  unfolding stepAnswer
   search-refused k e = sought (AnswerRefused k) e
 
   pub search-no-position : (q : ℕ) → t .answer ≡ Position q → ⊥
-  unfolding answerOf
+  unfolding stepAnswer
   search-no-position q e = sought (Position q) e

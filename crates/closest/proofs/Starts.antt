@@ -11,11 +11,11 @@ use Rattle.ray.specs.declared.Vec3.{Vec3}
 use Rattle.ray.specs.declared.Ray.{Ray}
 use Rattle.ray.specs.Ray.{rayOf, acceptedRay}
 use Rattle.walk.specs.Queries.{Reaction, Found, none}
-use Rattle.walk_record.specs.Beam.{Beam, beamOf, forgedBeam, beams}
+use Rattle.walk_record.specs.WalkRay.{WalkRay, walkRay, forgedRay, byBoxes}
 use Rattle.walk_record.specs.Record.{FieldsFit}
 use Rattle.walk_record.specs.Walk.{queryAt}
-use Rattle.walk_record.proofs.Beam.{begun-accepted}
-use Rattle.query.specs.Walk.{Sized}
+use Rattle.walk_record.proofs.WalkRay.{begun-accepted}
+use Rattle.query.specs.Walk.{RecordSized}
 use Rattle.query.proofs.Entry
 use Rattle.query.proofs.Begins.{query-empty}
 use Rattle.query.specs.Result.{Result, walked, entered}
@@ -36,13 +36,16 @@ unfolding entered
 without-cause refuse k zero w e h = refl
 without-cause refuse k (suc c) w e h = absurd (omega arith)
 
-module _ {bytes indices : List ℕ} {panes : List Float} {o d : Vec3} {near far : Float} {ray : Ray} {cause : ℕ} (s : Starting bytes indices panes o d near far ray cause) where
+module _ {bytes indices : List ℕ} {panes : List Float} {o d : Vec3} {near far : Float} {ray : Ray} {cause : ℕ}
+    (s : Starting bytes indices panes o d near far ray cause) where
   module _ {A : Type 0} (refuse : ℕ → A) (walk : Ray → Result A) where
-    as-asked : entered refuse (paneCause bytes indices panes ray) (walk ray) ≡ entered refuse (paneCause bytes indices panes (rayOf o d near far)) (walk (rayOf o d near far))
+    as-asked : entered refuse (paneCause bytes indices panes ray) (walk ray)
+        ≡ entered refuse (paneCause bytes indices panes (rayOf o d near far)) (walk (rayOf o d near far))
     as-asked = ap (λ (r : Ray). entered refuse (paneCause bytes indices panes r) (walk r)) (s .ray-is)
 
     -- a cause found on entry is the answer
-    pub start-refused : 0 < cause → record { answer = refuse cause; tests = 0 } ≡ entered refuse (paneCause bytes indices panes (rayOf o d near far)) (walk (rayOf o d near far))
+    pub start-refused : 0 < cause → record { answer = refuse cause; tests = 0 }
+        ≡ entered refuse (paneCause bytes indices panes (rayOf o d near far)) (walk (rayOf o d near far))
     start-refused h = by-cause refuse cause (paneCause bytes indices panes ray) (walk ray) (s .cause-is) h ∙ as-asked
 
     -- without one the walk's answer is
@@ -54,19 +57,21 @@ module _ {bytes indices : List ℕ} {panes : List Float} {o d : Vec3} {near far 
     holds = Entry.entered _ _ _ _ _ (sym (s .cause-is) ∙ omega arith)
 
     -- the walk may begin,
-    pub start-accepted : forgedBeam (beamOf ray) ≡ false
+    pub start-accepted : forgedRay (walkRay ray) ≡ false
     start-accepted =
-        subst (λ (r : Ray). forgedBeam (beamOf r) ≡ false) (sym (s .ray-is))
+        subst (λ (r : Ray). forgedRay (walkRay r) ≡ false) (sym (s .ray-is))
         (begun-accepted o d near far (subst (λ (r : Ray). acceptedRay r ≡ true) (s .ray-is) (holds .accepted)))
 
-    pub start-sized : 0 < length bytes → Sized bytes (length indices)
+    pub start-sized : 0 < length bytes → RecordSized bytes (length indices)
     start-sized g = let q = holds .sizes in record { whole = q .whole; some = omega (arith, q .whole); nodes = q .small; positions = q .few }
 
     -- and without nodes it is done
-    pub start-empty : {A : Type 0} → length bytes ≡ 0 → FieldsFit bytes → (react : ℕ → Beam → Found Float → Reaction Float (Found Float)) (refuse : ℕ → A) (found : Found Float → ℕ → Result A)
-        → let w = queryAt bytes beams react none (length indices) (beamOf ray) in found none 0 ≡ walked refuse found w (w .ended)
+    pub start-empty : {A : Type 0} → length bytes ≡ 0 → FieldsFit bytes
+        → (react : ℕ → WalkRay → Found Float → Reaction Float (Found Float)) (refuse : ℕ → A) (found : Found Float → ℕ → Result A)
+        → let w = queryAt bytes byBoxes react none (length indices) (walkRay ray) in found none 0 ≡ walked refuse found w (w .ended)
     unfolding walked
     start-empty z fit react refuse found =
         let q = query-empty bytes (length indices) fit react none ray start-accepted (omega arith) (holds .sizes .few) in
-        let w = queryAt bytes beams react none (length indices) (beamOf ray) in
-        ap (λ (x : Found Float). found x 0) (sym (q .noted)) ∙ ap (found (w .noted)) (sym (q .tests)) ∙ ap (walked refuse found w) (sym (q .ended))
+        let w = queryAt bytes byBoxes react none (length indices) (walkRay ray) in
+        ap (λ (x : Found Float). found x 0) (sym (q .accumulator)) ∙ ap (found (w .accumulator)) (sym (q .tests)) ∙ ap (walked refuse found w)
+        (sym (q .ended))

@@ -1,4 +1,5 @@
--- Closest and miss (01, "Walking"; "Causes of refusal", 6 and 10): a walk over panes that are boxes of six floats, a position's pane being the one that
+-- Closest and miss (01, "Walking"; "Causes of refusal", 6 and 10): a walk over panes that are boxes of six floats, a position's pane being the one
+-- that
 -- its index word names.
 use mathlib.Core.Bool.{Bool, cond}
 use mathlib.Core.List.{List}
@@ -12,7 +13,7 @@ use Rattle.aabb.specs.Aabb.{acceptedBox, entryDistance}
 use Rattle.packed.specs.Packed.{boxIn}
 use Rattle.walk.specs.Queries.{Pane, distance, faulty, Found, none, hit, fault, closest, miss}
 use Rattle.walk.specs.WordQueries.{OutcomeWords}
-use Rattle.walk_record.specs.Beam.{Beam, beamOf, beams}
+use Rattle.walk_record.specs.WalkRay.{WalkRay, walkRay, byBoxes}
 use Rattle.walk_record.specs.Walk.{queryAt}
 use Rattle.causes.specs.Causes.{firstCause}
 use Rattle.query.specs.Entry.{entryConditions, entryCause}
@@ -40,12 +41,12 @@ unfolding paneMet
 positionMet indices panes p r = cond (ltb p (length indices)) (paneMet panes (getD indices p 0) r) (faulty 10)
 
 -- the pane of a position
-unfoldable pub paneOf : List ℕ → List Float → ℕ → Beam → Pane Float
+unfoldable pub paneOf : List ℕ → List Float → ℕ → WalkRay → Pane Float
 unfolding paneMet
 paneOf indices panes p b = paneMet panes (getD indices p 0) (b .ray)
 
 -- a distance that counts for a walk's ray
-abbrev pub nearer : Float → Beam → Bool
+abbrev pub nearer : Float → WalkRay → Bool
 nearer t b = counts (b .ray) t
 
 -- ---- answers
@@ -81,13 +82,13 @@ module _ (bytes indices : List ℕ) (panes : List Float) (r : Ray) where
   paneCause = entryCause (eqb (length panes % 6) 0) (length bytes) (length indices) 0 r
 
   -- the walks that they take: closest notes and tells each distance below the reach, so of equal ones the first counts; miss stops at the first
-  unfoldable pub closestWalk : OutcomeWords Beam (Found Float)
+  unfoldable pub closestWalk : OutcomeWords WalkRay (Found Float)
   unfolding paneOf queryAt
-  closestWalk = queryAt bytes beams (closest (paneOf indices panes) nearer) none (length indices) (beamOf r)
+  closestWalk = queryAt bytes byBoxes (closest (paneOf indices panes) nearer) none (length indices) (walkRay r)
 
-  unfoldable pub missWalk : OutcomeWords Beam (Found Float)
+  unfoldable pub missWalk : OutcomeWords WalkRay (Found Float)
   unfolding paneOf queryAt
-  missWalk = queryAt bytes beams (miss (paneOf indices panes) nearer) none (length indices) (beamOf r)
+  missWalk = queryAt bytes byBoxes (miss (paneOf indices panes) nearer) none (length indices) (walkRay r)
 
   -- what these give
   abbrev pub closestWalked : Result ClosestAnswer

@@ -3,8 +3,8 @@ ghost use mathlib.Core.Path.{_≡_};
 ghost use mathlib.Core.Bool.{false};
 ghost use lib.ListN.{length};
 ghost use Rattle.ray.specs.Ray.{rayOf};
-ghost use Rattle.walk_record.specs.Beam.{beamOf, forgedBeam};
-ghost use Rattle.query.specs.Walk.{Sized};
+ghost use Rattle.walk_record.specs.WalkRay.{walkRay, forgedRay};
+ghost use Rattle.query.specs.Walk.{RecordSized};
 ghost use Rattle.closest.specs.Panes.{paneMet, positionMet, paneOfMet, closestWalked, missWalked, closestOf, missOf, closestResult, missResult};
 use advance::Answer;
 use advance::Walk;
@@ -80,12 +80,12 @@ fn refused_closest(cause: u32) -> ClosestFound
 
 // Closest's walk over a record with nodes, where nothing refuses it on entry.
 fn walk_closest(bytes: &[u8], indices: &[u32], panes: &[f32], start: Ray) -> ClosestFound
-    requires { ⌜ Sized (now bytes) (length (now indices)) × (forgedBeam (beamOf start) ≡ false) ⌝ }
+    requires { ⌜ RecordSized (now bytes) (length (now indices)) × (forgedRay (walkRay start) ≡ false) ⌝ }
     ensures { λ r. ⌜ closestResult r ≡ closestWalked (now (bytes .entry)) (now (indices .entry)) (now (panes .entry)) start ⌝ }
 {
     let n = indices.len();
     let octant = ray::octant(start.direction);
-    let e = slot::near_ends(start.direction);
+    let e = node_slot::near_ends(start.direction);
     let mut ray = start;
     let mut walk = advance::begin();
     let mut stack = [0u64; 32];
@@ -149,7 +149,8 @@ pub fn closest(
     tmin: f32,
     tmax: f32,
 ) -> ClosestFound
-    ensures { λ r. ⌜ closestResult r ≡ closestOf (now («record» .entry)) (now (indices .entry)) (now (panes .entry)) (rayOf origin direction tmin tmax) ⌝ }
+    ensures { λ r. ⌜ closestResult r ≡ closestOf (now («record» .entry)) (now (indices .entry)) (now (panes .entry))
+        (rayOf origin direction tmin tmax) ⌝ }
 {
     let ray = Ray::new(origin, direction, tmin, tmax);
     let fits = panes.len() % packed::BOX == 0;
@@ -173,12 +174,12 @@ fn refused_miss(cause: u32) -> MissFound
 
 // Miss's walk over a record with nodes, where nothing refuses it on entry: the first pane nearer than the reach leaves both loops.
 fn walk_miss(bytes: &[u8], indices: &[u32], panes: &[f32], ray: Ray) -> MissFound
-    requires { ⌜ Sized (now bytes) (length (now indices)) × (forgedBeam (beamOf ray) ≡ false) ⌝ }
+    requires { ⌜ RecordSized (now bytes) (length (now indices)) × (forgedRay (walkRay ray) ≡ false) ⌝ }
     ensures { λ r. ⌜ missResult r ≡ missWalked (now (bytes .entry)) (now (indices .entry)) (now (panes .entry)) ray ⌝ }
 {
     let n = indices.len();
     let octant = ray::octant(ray.direction);
-    let e = slot::near_ends(ray.direction);
+    let e = node_slot::near_ends(ray.direction);
     let mut walk = advance::begin();
     let mut stack = [0u64; 32];
     let mut answer = Occlusion::Missed;

@@ -85,7 +85,8 @@ module _ (l r : ℕ → Float) (m n : ℕ) (h : Costs l r m n) where
   unfolding bestOf
   best-bound w q start zero u p = p
   best-bound w q start (suc k) u p =
-      either (λ (s : Split). Upto (s .cost) (w * 2 ^ 84) 1) (lt (add binary32 (l k) (r (q - k))) (bestOf l r q start k .cost)) _ (bestOf l r q start k)
+      either (λ (s : Split). Upto (s .cost) (w * 2 ^ 84) 1) (lt (add binary32 (l k) (r (q - k))) (bestOf l r q start k .cost)) _
+      (bestOf l r q start k)
       (more (add binary32 (l k) (r (q - k))) (m + n) w u (sum-bound k (q - k))) (best-bound w q start k u p)
 
   -- from infinity on, the first split is taken
@@ -119,7 +120,8 @@ module _ (l r : ℕ → Float) (m n : ℕ) (h : Costs l r m n) where
 module _ {A : Type 0} (limit : ℕ) where
   -- the costs of an inner node's children
   children : (a b : Tree A)
-      → ((i : ℕ) → Upto (table limit a i .cost) ((2 * leaves a - 1) * 2 ^ 84) 1) → ((i : ℕ) → Upto (table limit b i .cost) ((2 * leaves b - 1) * 2 ^ 84) 1)
+      → ((i : ℕ) → Upto (table limit a i .cost) ((2 * leaves a - 1) * 2 ^ 84) 1)
+      → ((i : ℕ) → Upto (table limit b i .cost) ((2 * leaves b - 1) * 2 ^ 84) 1)
       → leaves a + leaves b < 2 ^ 23 → Costs (λ k. table limit a k .cost) (λ k. table limit b k .cost) (2 * leaves a - 1) (2 * leaves b - 1)
   children a b l r h = record { left = l; right = r; few = omega (arith, leaves-pos a, leaves-pos b) }
 
@@ -146,4 +148,5 @@ module _ {A : Type 0} (limit : ℕ) where
       let c = children a b (cost-bound a (h .1) (omega arith)) (cost-bound b (h .2) (omega arith)) s in
       let p = first-best l r (2 * leaves a - 1) (2 * leaves b - 1) c 6 6 (lit≤ tt) .1 in
       either (λ (d : Decision). d .left + d .right ≡ 6)
-      (leb (leaves a + leaves b) limit && lt (leafCost (halfArea box) (leaves a + leaves b)) (internalCost (halfArea box) (bestSplit l r 6 (inf false)))) _ _ p p
+      (leb (leaves a + leaves b) limit && lt (leafCost (halfArea box) (leaves a + leaves b))
+      (internalCost (halfArea box) (bestSplit l r 6 (inf false)))) _ _ p p

@@ -14,7 +14,7 @@ use borrow.Author.Tests.{lt-leb, le-leb}
 use Rattle.cost.specs.declared.Split.{Split}
 use Rattle.cost.specs.declared.Entry.{Entry}
 use Rattle.cost.specs.Table.{bestOf, bestSplit, DISTRIBUTE, Decision, leafCost, internalCost, firstDecision, nextDecision, decision, word}
-use Rattle.cost.specs.Rows.{row, costsAt, stored, nextEntry, Small, Room}
+use Rattle.cost.specs.Rows.{row, costsAt, stored, nextEntry, Small, RowRoom}
 use Rattle.cost.proofs.Bound.{either}
 use Rattle.cost.proofs.Rows.{row-none, row-step, row-before, row-after}
 
@@ -25,13 +25,18 @@ unfolding bestOf
 best-cong l l' r r' n start zero p q h = refl
 best-cong l l' r r' n start (suc k) p q h = rw (best-cong l l' r r' n start k p q (omega arith), p k (omega arith), q (n - k) (omega arith))
 
-pub decision-cong : (area : Float) (count limit : ℕ) (l l' r r' : ℕ → Float) (i : ℕ) → ((j : ℕ) → j ≤ 6 → l j ≡ l' j) → ((j : ℕ) → j ≤ 6 → r j ≡ r' j) → i ≤ 6
+pub decision-cong : (area : Float) (count limit : ℕ) (l l' r r' : ℕ → Float) (i : ℕ) → ((j : ℕ) → j ≤ 6 → l j ≡ l' j)
+    → ((j : ℕ) → j ≤ 6 → r j ≡ r' j) → i ≤ 6
     → decision area count limit l r i ≡ decision area count limit l' r' i
 unfolding decision
 decision-cong area count limit l l' r r' zero p q h = ap (firstDecision area count limit) (best-cong l l' r r' 6 (inf false) 7 p q (omega arith))
 decision-cong area count limit l l' r r' (suc i) p q h =
     let d = decision area count limit l' r' i in
-    rw (decision-cong area count limit l l' r r' i p q (omega arith), best-cong l l' r r' i (d .cost) (suc i) (λ j u. p j (omega arith)) (λ j u. q j (omega arith)) (omega arith))
+    rw (
+      decision-cong area count limit l l' r r' i p q (omega arith),
+      best-cong l l' r r' i (d .cost) (suc i) (λ j u. p j (omega arith))
+          (λ j u. q j (omega arith)) (omega arith),
+    )
 
 -- ---- splits fit a byte
 best-small : (l r : ℕ → Float) (n : ℕ) (start : Float) (k : ℕ) → n ≤ 6 → k ≤ suc n → Small (bestOf l r n start k)
@@ -59,7 +64,8 @@ module _ (area : Float) (count limit : ℕ) (s : Split) where
   pub leaf-over : limit < count → wide ≡ stored (firstDecision area count limit s)
   leaf-over h = rw (lt-leb count limit h)
 
-pub first-stored : (area : Float) (count limit : ℕ) (l r : ℕ → Float) {s : Split} {e : Entry} → s ≡ bestSplit l r 6 (inf false) → e ≡ stored (firstDecision area count limit s)
+pub first-stored : (area : Float) (count limit : ℕ) (l r : ℕ → Float) {s : Split} {e : Entry} → s ≡ bestSplit l r 6 (inf false) → e
+    ≡ stored (firstDecision area count limit s)
     → e ≡ stored (decision area count limit l r 0)
 unfolding decision
 first-stored area count limit l r h g = rw (← h) g
@@ -72,8 +78,10 @@ next-stored d s = go (eqb (s .left) 255)
     go true = refl
     go false = refl
 
-pub entry-next : (area : Float) (count limit : ℕ) (l r l' r' : ℕ → Float) (i : ℕ) {e f : Entry} {s : Split} → ((j : ℕ) → j ≤ i → l' j ≡ l j) → ((j : ℕ) → j ≤ i → r' j ≡ r j)
-    → e ≡ stored (decision area count limit l r i) → s ≡ bestSplit l' r' i (e .cost) → f ≡ nextEntry e s → f ≡ stored (decision area count limit l r (i + 1))
+pub entry-next : (area : Float) (count limit : ℕ) (l r l' r' : ℕ → Float) (i : ℕ) {e f : Entry} {s : Split} → ((j : ℕ) → j ≤ i → l' j ≡ l j)
+    → ((j : ℕ) → j ≤ i → r' j ≡ r j)
+    → e ≡ stored (decision area count limit l r i) → s ≡ bestSplit l' r' i (e .cost) → f ≡ nextEntry e s → f
+    ≡ stored (decision area count limit l r (i + 1))
 unfolding decision
 entry-next area count limit l r l' r' i {s = s} p q h g k =
     let d = decision area count limit l r i in
@@ -88,9 +96,15 @@ pub record Filled (f : ℕ → Decision) (base n : ℕ) (ds₀ : List ℕ) (cs�
   pub costs-length : length cs ≡ length cs₀
 
 pub filled-none : (f : ℕ → Decision) (base : ℕ) (ds : List ℕ) (cs : List Float) → Filled f base 0 ds cs ds cs
-filled-none f base ds cs = record { words = row-none (λ k. word (f k)) base ds; costs = row-none (λ k. f k .cost) base cs; words-length = refl; costs-length = refl }
+filled-none f base ds cs = record {
+  words = row-none (λ k. word (f k)) base ds;
+  costs = row-none (λ k. f k .cost) base cs;
+  words-length = refl;
+  costs-length = refl;
+}
 
-pub filled-step : (f : ℕ → Decision) (base n : ℕ) {ds₀ ds : List ℕ} {cs₀ cs : List Float} {e : Entry} → Filled f base n ds₀ cs₀ ds cs → e ≡ stored (f n)
+pub filled-step : (f : ℕ → Decision) (base n : ℕ) {ds₀ ds : List ℕ} {cs₀ cs : List Float} {e : Entry} → Filled f base n ds₀ cs₀ ds cs → e
+    ≡ stored (f n)
     → Filled f base (n + 1) ds₀ cs₀ (set ds (base + n) (e .word)) (set cs (base + n) (e .cost))
 filled-step f base n {ds₀} {ds} {cs₀} {cs} {e} h g = record {
   words = row-step (λ k. word (f k)) base n ds₀ (h .words) (ap (λ (x : Entry). x .word) g);
@@ -100,7 +114,7 @@ filled-step f base n {ds₀} {ds} {cs₀} {cs} {e} h g = record {
 }
 
 -- the children's costs stay while the node's own are written
-pub child-stays : {d c v first : ℕ} → Room d c v first → (f : ℕ → Float) (n : ℕ) (s : List Float) {t : List Float} → t ≡ row f (v * 7) n s → n ≤ 7
+pub child-stays : {d c v first : ℕ} → RowRoom d c v first → (f : ℕ → Float) (n : ℕ) (s : List Float) {t : List Float} → t ≡ row f (v * 7) n s → n ≤ 7
     → (x : ℕ) → first ≤ x → x ≤ first + 1 → (j : ℕ) → j ≤ 6 → costsAt t x j ≡ costsAt s x j
 child-stays {v = v} {first = first} h f n s e u x lo hi j w =
     rw e (elim (h .apart) [

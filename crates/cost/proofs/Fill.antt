@@ -9,9 +9,9 @@ use lib.ListN.{length, getD}
 use Rattle.lists.specs.Counts.{same, count}
 use Rattle.lists.proofs.Counts.{same-self}
 use Rattle.bvh2.specs.Tree.{Tree, leaf, inner, labels, labelOf}
-use Rattle.bvh2.specs.Decoded.{Within}
+use Rattle.bvh2.specs.Decoded.{LabelsWithin}
 use Rattle.bvh2.proofs.Counts.{labelCount, count-labels}
-use Rattle.cost.specs.Rows.{row, fill, Holds}
+use Rattle.cost.specs.Rows.{row, fill, RowsHold}
 use Rattle.cost.proofs.Rows.{length-row, row-before, row-after, row-at}
 
 -- two numbers that differ
@@ -55,8 +55,9 @@ module _ {A : Type 0} (g : Tree ℕ → ℕ → A) where
       row-at (g (inner v box a b)) (v * 7) 7 (fill g b (fill g a s)) k d u (rw (length-fill b (fill g a s), length-fill a s) h)
 
   -- rows stay held while places outside the tree are written
-  holds-kept : (t : Tree ℕ) (s s' : List A) (d : A) → ((x k : ℕ) → 1 ≤ labelCount x t → k < 7 → getD s' (x * 7 + k) d ≡ getD s (x * 7 + k) d) → Holds g d s t → Holds g d s' t
-  unfolding Holds labelCount
+  holds-kept : (t : Tree ℕ) (s s' : List A) (d : A) → ((x k : ℕ) → 1 ≤ labelCount x t → k < 7 → getD s' (x * 7 + k) d ≡ getD s (x * 7 + k) d)
+      → RowsHold g d s t → RowsHold g d s' t
+  unfolding RowsHold labelCount
   holds-kept (leaf v box p) s s' d e h = λ k u. e v k (omega (arith, same-self v)) u ∙ h k u
   holds-kept (inner v box a b) s s' d e h = (
     (λ k u. e v k (omega (arith, same-self v)) u ∙ h .0 k u),
@@ -64,8 +65,9 @@ module _ {A : Type 0} (g : Tree ℕ → ℕ → A) where
     holds-kept b s s' d (λ x k w u. e x k (omega arith) u) (h .2),
   )
 
-  filled-holds : (t : Tree ℕ) (s : List A) (d : A) (m n : ℕ) → ((x : ℕ) → labelCount x t ≤ 1) → Within m n t → m * 7 ≤ length s → Holds g d (fill g t s) t
-  unfolding fill Holds Within labelCount
+  filled-holds : (t : Tree ℕ) (s : List A) (d : A) (m n : ℕ) → ((x : ℕ) → labelCount x t ≤ 1) → LabelsWithin m n t → m * 7 ≤ length s
+      → RowsHold g d (fill g t s) t
+  unfolding fill RowsHold LabelsWithin labelCount
   filled-holds (leaf v box p) s d m n o w u = λ k l. row-at (g (leaf v box p)) (v * 7) 7 s k d l (omega arith)
   filled-holds (inner v box a b) s d m n o w u =
       let F = fill g b (fill g a s) in
@@ -82,5 +84,6 @@ module _ {A : Type 0} (g : Tree ℕ → ℕ → A) where
       )
 
   -- so does every node, where the labels are distinct and their rows lie in the slice
-  pub inside : (t : Tree ℕ) (s : List A) (d : A) (m n : ℕ) → ((x : ℕ) → count x (labels t) ≤ 1) → Within m n t → m * 7 ≤ length s → Holds g d (fill g t s) t
+  pub inside : (t : Tree ℕ) (s : List A) (d : A) (m n : ℕ) → ((x : ℕ) → count x (labels t) ≤ 1) → LabelsWithin m n t → m * 7 ≤ length s
+      → RowsHold g d (fill g t s) t
   inside t s d m n o w u = filled-holds t s d m n (λ x. omega (arith, o x, count-labels x t)) w u

@@ -12,7 +12,8 @@ use Rattle.aabb.specs.Aabb.{halfArea}
 use Rattle.bvh2.specs.Tree.{Tree, leaf, inner, leaves}
 use Rattle.bvh2.specs.Decoded.{BoxesAccepted}
 use Rattle.cost.specs.declared.Split.{Split}
-use Rattle.cost.specs.Table.{bestOf, bestSplit, LEAF, INTERNAL, DISTRIBUTE, Decision, leafCost, internalCost, nextDecision, decision, table, code, word}
+use Rattle.cost.specs.Table.{bestOf, bestSplit, LEAF, INTERNAL, DISTRIBUTE, Decision, leafCost, internalCost, nextDecision, decision, table}
+use Rattle.cost.specs.Table.{code, word}
 use Rattle.cost.proofs.Bound.{either, leaves-pos, first-splits}
 
 -- a split that was found adds up to n
@@ -21,7 +22,8 @@ split-cases : (l r : ℕ → Float) (n : ℕ) (start : Float) (k : ℕ) → k �
 unfolding bestOf
 split-cases l r n start zero h = inl refl
 split-cases l r n start (suc k) h =
-    either (λ (s : Split). (s .left ≡ 255) ⊎ (s .left + s .right ≡ n)) (lt (add binary32 (l k) (r (n - k))) (bestOf l r n start k .cost)) _ (bestOf l r n start k)
+    either (λ (s : Split). (s .left ≡ 255) ⊎ (s .left + s .right ≡ n)) (lt (add binary32 (l k) (r (n - k))) (bestOf l r n start k .cost)) _
+    (bestOf l r n start k)
     (inr (omega arith)) (split-cases l r n start k (omega arith))
 
 -- d distributes its node, with splits that add up to less than i
@@ -47,7 +49,8 @@ unfolding decision
 decision-cases area count limit l r zero = inl refl
 decision-cases area count limit l r (suc i) =
     let d = decision area count limit l r i in
-    next-cases d (decision area count limit l r 0) (bestSplit l r i (d .cost)) i (split-cases l r i (d .cost) (suc i) (omega arith)) (decision-cases area count limit l r i)
+    next-cases d (decision area count limit l r 0) (bestSplit l r i (d .cost)) i (split-cases l r i (d .cost) (suc i) (omega arith))
+    (decision-cases area count limit l r i)
 
 -- kinds differ
 pub leaf-distribute : LEAF ≡ DISTRIBUTE → ⊥
@@ -63,7 +66,8 @@ module _ {A : Type 0} (limit : ℕ) where
   pub table-cases : (t : Tree A) (i : ℕ) → (table limit t i ≡ table limit t 0) ⊎ Distributes (table limit t i) i
   unfolding table
   table-cases (leaf v box p) i = inl refl
-  table-cases (inner v box a b) i = decision-cases (halfArea box) (leaves a + leaves b) limit (λ k. table limit a k .cost) (λ k. table limit b k .cost) i
+  table-cases (inner v box a b) i = decision-cases (halfArea box) (leaves a + leaves b) limit (λ k. table limit a k .cost)
+      (λ k. table limit b k .cost) i
 
   -- entry 0 never distributes its node
   pub first-not-distribute : (t : Tree A) → table limit t 0 .kind ≡ DISTRIBUTE → ⊥
@@ -71,7 +75,8 @@ module _ {A : Type 0} (limit : ℕ) where
   first-not-distribute (leaf v box p) = leaf-distribute
   first-not-distribute (inner v box a b) =
       let s = bestSplit (λ k. table limit a k .cost) (λ k. table limit b k .cost) 6 (inf false) in
-      either (λ (d : Decision). d .kind ≡ DISTRIBUTE → ⊥) (leb (leaves a + leaves b) limit && lt (leafCost (halfArea box) (leaves a + leaves b)) (internalCost (halfArea box) s)) _ _
+      either (λ (d : Decision). d .kind ≡ DISTRIBUTE → ⊥)
+      (leb (leaves a + leaves b) limit && lt (leafCost (halfArea box) (leaves a + leaves b)) (internalCost (halfArea box) s)) _ _
       leaf-distribute internal-distribute
 
   -- nor does any entry of a leaf
@@ -122,7 +127,8 @@ module _ {A : Type 0} (limit : ℕ) where
   ]
 
 -- ---- limit 0 acts as 1
-same-limit : (area : Float) (count m n : ℕ) (l r : ℕ → Float) (i : ℕ) → leb count m ≡ leb count n → decision area count m l r i ≡ decision area count n l r i
+same-limit : (area : Float) (count m n : ℕ) (l r : ℕ → Float) (i : ℕ) → leb count m ≡ leb count n → decision area count m l r i
+    ≡ decision area count n l r i
 unfolding decision
 same-limit area count m n l r zero h = rw h
 same-limit area count m n l r (suc i) h = rw (same-limit area count m n l r i h)

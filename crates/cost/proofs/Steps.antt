@@ -17,7 +17,7 @@ use Rattle.bvh2.proofs.Decoded.{subtree-leaves}
 use Rattle.bvh2.proofs.Reading.{label-is}
 use Rattle.bvh2.proofs.Subtree.{node, at-leaf, Inner, at-inner}
 use Rattle.cost.specs.Table.{Decision, leafDecision, table, word, wordOf, costOf}
-use Rattle.cost.specs.Rows.{row, fill, costsAt, entryFrom, Room, Ready}
+use Rattle.cost.specs.Rows.{row, fill, costsAt, entryFrom, RowRoom, RowsReady}
 use Rattle.cost.proofs.Rows.{row-cong}
 use Rattle.cost.proofs.Entries.{decision-cong}
 use Rattle.cost.proofs.Fill.{length-fill, outside, at-root}
@@ -28,7 +28,7 @@ pub record Here (n d c v : ℕ) : Type 0 where
   pub decisions : v * 7 + 7 ≤ d
   pub costs : v * 7 + 7 ≤ c
 
-pub here : {ws : List ℕ} {d c e v : ℕ} → Ready ws d c e v → Here (length ws) d c v
+pub here : {ws : List ℕ} {d c e v : ℕ} → RowsReady ws d c e v → Here (length ws) d c v
 here h =
     let k = node (h .tree) in
     record { words = k .room; decisions = omega (arith, k .below, h .decisions); costs = omega (arith, k .below, h .costs) }
@@ -40,12 +40,14 @@ pub record Done (limit : ℕ) (t : Tree ℕ) (r : ℕ) (ds : List ℕ) (cs : Lis
   pub priced : cs' ≡ fill (costOf limit) t cs
 
 -- ---- a leaf
-leaf-fills : (limit v : ℕ) (t : Tree ℕ) (box : _) (p : ℕ) {area : Float} {ds ds' : List ℕ} {cs cs' : List Float} → t ≡ leaf v box p → area ≡ halfArea box
+leaf-fills : (limit v : ℕ) (t : Tree ℕ) (box : _) (p : ℕ) {area : Float} {ds ds' : List ℕ} {cs cs' : List Float} → t ≡ leaf v box p → area
+    ≡ halfArea box
     → ds' ≡ row (λ i. word (leafDecision area)) (v * 7) 7 ds → cs' ≡ row (λ i. leafDecision area .cost) (v * 7) 7 cs → Done limit t 1 ds cs ds' cs'
 unfolding leaves fill table
 leaf-fills limit v t box p e q x y = rw e (record { counted = refl; decided = x; priced = rw q at y })
 
-pub leaf-done : {ws : List ℕ} {d c e v w : ℕ} → Ready ws d c e v → w ≡ wordAt ws v 6 → (w / 0x4000_0000 ≡ 0 → ⊥) → (limit : ℕ) {area : Float} {ds ds' : List ℕ} {cs cs' : List Float}
+pub leaf-done : {ws : List ℕ} {d c e v w : ℕ} → RowsReady ws d c e v → w ≡ wordAt ws v 6 → (w / 0x4000_0000 ≡ 0 → ⊥)
+    → (limit : ℕ) {area : Float} {ds ds' : List ℕ} {cs cs' : List Float}
     → area ≡ halfArea (boxAt ws v) → ds' ≡ row (λ i. word (leafDecision area)) (v * 7) 7 ds → cs' ≡ row (λ i. leafDecision area .cost) (v * 7) 7 cs
     → Done limit (treeAt ws e v) 1 ds cs ds' cs'
 leaf-done {ws} {e = e} {v = v} h q k limit a x y =
@@ -64,10 +66,10 @@ own-label ws e v = rw (count-labels v (treeAt ws e v)) (rw (label-is ws e v) at 
 
 pub record Down (ws : List ℕ) (d c depth v f : ℕ) : Type 0 where
   pub deep : 0 < depth
-  pub left : Ready ws d c (depth - 1) f
-  pub right : Ready ws d c (depth - 1) (f + 1)
+  pub left : RowsReady ws d c (depth - 1) f
+  pub right : RowsReady ws d c (depth - 1) (f + 1)
   pub tree : treeAt ws depth v ≡ inner v (boxAt ws v) (treeAt ws (depth - 1) f) (treeAt ws (depth - 1) (f + 1))
-  pub room : Room d c v f
+  pub room : RowRoom d c v f
   pub other : count f (labels (treeAt ws (depth - 1) (f + 1))) ≡ 0
   pub few : leaves (treeAt ws (depth - 1) f) + leaves (treeAt ws (depth - 1) (f + 1)) ≤ 65536
 
@@ -82,7 +84,7 @@ leaves-inner : (t : Tree ℕ) (v : ℕ) (box : _) (a b : Tree ℕ) → t ≡ inn
 unfolding leaves
 leaves-inner t v box a b e = rw e
 
-from-inner : {ws : List ℕ} {d c e v f : ℕ} (h : Ready ws d c e v) → Inner ws (h .n) e v f → Down ws d c e v f
+from-inner : {ws : List ℕ} {d c e v f : ℕ} (h : RowsReady ws d c e v) → Inner ws (h .n) e v f → Down ws d c e v f
 from-inner {ws} {d} {c} {e} {v} {f} h i =
     let L = treeAt ws (e - 1) f in
     let R = treeAt ws (e - 1) (f + 1) in
@@ -100,7 +102,8 @@ from-inner {ws} {d} {c} {e} {v} {f} h i =
         decisions = r .decisions;
         costs = r .costs;
         children = omega (arith, i .second, h .costs);
-        apart = between v f (λ z. differ f (labels L) z a (i .apart .not-left)) (λ z. differ (f + 1) (labels R) z (own-label ws (e - 1) (f + 1)) (i .apart .not-right));
+        apart = between v f (λ z. differ f (labels L) z a (i .apart .not-left))
+            (λ z. differ (f + 1) (labels R) z (own-label ws (e - 1) (f + 1)) (i .apart .not-right));
       };
       other = i .apart .not-both f a;
       few = omega arith;
@@ -109,7 +112,7 @@ from-inner {ws} {d} {c} {e} {v} {f} h i =
     differ : (x : ℕ) (l : List ℕ) → v ≡ x → 1 ≤ count x l → count v l ≡ 0 → ⊥
     differ x l z p q = let y : count v l ≡ count x l = ap (λ (u : ℕ). count u l) z in omega arith
 
-pub down : {ws : List ℕ} {d c e v w : ℕ} → Ready ws d c e v → w ≡ wordAt ws v 6 → w / 0x4000_0000 ≡ 0 → Down ws d c e v (w % 0x4000_0000)
+pub down : {ws : List ℕ} {d c e v w : ℕ} → RowsReady ws d c e v → w ≡ wordAt ws v 6 → w / 0x4000_0000 ≡ 0 → Down ws d c e v (w % 0x4000_0000)
 down {ws} {e = e} {v = v} h q k = rw q (from-inner h (at-inner (h .tree) (rw q at k)))
 
 -- after both calls the tables have the length that they had, and the children's costs stand in their rows
@@ -120,7 +123,8 @@ pub record Both (limit f : ℕ) (l r : Tree ℕ) (d c a b : ℕ) (ds : List ℕ)
   pub words-length : length ds ≡ d
   pub costs-length : length cs ≡ c
 
-pub both : {ws : List ℕ} {d c e v f : ℕ} → Down ws d c e v f → (limit : ℕ) {a b : ℕ} {ds₀ ds₁ ds₂ : List ℕ} {cs₀ cs₁ cs₂ : List Float} → length ds₀ ≡ d → length cs₀ ≡ c
+pub both : {ws : List ℕ} {d c e v f : ℕ} → Down ws d c e v f → (limit : ℕ) {a b : ℕ} {ds₀ ds₁ ds₂ : List ℕ} {cs₀ cs₁ cs₂ : List Float} → length ds₀
+    ≡ d → length cs₀ ≡ c
     → Done limit (treeAt ws (e - 1) f) a ds₀ cs₀ ds₁ cs₁ → Done limit (treeAt ws (e - 1) (f + 1)) b ds₁ cs₁ ds₂ cs₂
     → Both limit f (treeAt ws (e - 1) f) (treeAt ws (e - 1) (f + 1)) d c a b ds₂ cs₂
 both {ws} {d} {c} {e} {v} {f} h limit {a} {b} {ds₀} {ds₁} {ds₂} {cs₀} {cs₁} {cs₂} p q x y =
@@ -136,16 +140,19 @@ both {ws} {d} {c} {e} {v} {f} h limit {a} {b} {ds₀} {ds₁} {ds₂} {cs₀} {c
           ap (λ (s : List Float). costsAt s f k) E
           ∙ outside (costOf limit) R F f k nan (h .other) (omega arith)
           ∙ root-cost L f cs₀ k (label-is ws (e - 1) f) (omega arith) (omega arith);
-      right = λ k u. ap (λ (s : List Float). costsAt s (f + 1) k) E ∙ root-cost R (f + 1) F k (label-is ws (e - 1) (f + 1)) (omega arith) (omega arith);
+      right = λ k u. ap (λ (s : List Float). costsAt s (f + 1) k) E ∙ root-cost R (f + 1) F k (label-is ws (e - 1) (f + 1)) (omega arith)
+          (omega arith);
       words-length = ap length (y .decided) ∙ length-fill (wordOf limit) R ds₁ ∙ ap length (x .decided) ∙ length-fill (wordOf limit) L ds₀ ∙ p;
       costs-length = ap length E ∙ length-fill (costOf limit) R F ∙ FL ∙ q;
     }
   where
-    root-cost : (t : Tree ℕ) (x : ℕ) (s : List Float) (k : ℕ) → labelOf t ≡ x → x * 7 + 7 ≤ length s → k < 7 → costsAt (fill (costOf limit) t s) x k ≡ costOf limit t k
+    root-cost : (t : Tree ℕ) (x : ℕ) (s : List Float) (k : ℕ) → labelOf t ≡ x → x * 7 + 7 ≤ length s → k < 7 → costsAt (fill (costOf limit) t s) x k
+        ≡ costOf limit t k
     root-cost t x s k z u l = rw z at (at-root (costOf limit) t s k nan (rw z u) l)
 
 -- back up: the node's own row makes its table of the children's
-pub up : {ws : List ℕ} {d c e v f : ℕ} → Down ws d c e v f → (limit : ℕ) {a b : ℕ} {area : Float} {ds₀ ds₁ ds₂ ds₃ : List ℕ} {cs₀ cs₁ cs₂ cs₃ : List Float}
+pub up : {ws : List ℕ} {d c e v f : ℕ} → Down ws d c e v f
+    → (limit : ℕ) {a b : ℕ} {area : Float} {ds₀ ds₁ ds₂ ds₃ : List ℕ} {cs₀ cs₁ cs₂ cs₃ : List Float}
     → Done limit (treeAt ws (e - 1) f) a ds₀ cs₀ ds₁ cs₁ → Done limit (treeAt ws (e - 1) (f + 1)) b ds₁ cs₁ ds₂ cs₂
     → Both limit f (treeAt ws (e - 1) f) (treeAt ws (e - 1) (f + 1)) d c a b ds₂ cs₂ → area ≡ halfArea (boxAt ws v)
     → ds₃ ≡ row (λ i. word (entryFrom cs₂ f area (a + b) limit i)) (v * 7) 7 ds₂
@@ -157,7 +164,8 @@ up {ws} {e = e} {v = v} {f = f} h limit {a} {b} {area} {ds₂ = ds₂} {cs₂ = 
     let R = treeAt ws (e - 1) (f + 1) in
     let t = inner v (boxAt ws v) L R in
     let same : (i : ℕ) → i < 7 → entryFrom cs₂ f area (a + b) limit i ≡ table limit t i =
-    λ i u. rw (q, x .counted, y .counted) (decision-cong (halfArea (boxAt ws v)) (leaves L + leaves R) limit _ (costOf limit L) _ (costOf limit R) i (z .left) (z .right) (omega arith)) in
+    λ i u. rw (q, x .counted, y .counted) (decision-cong (halfArea (boxAt ws v)) (leaves L + leaves R) limit _ (costOf limit L) _ (costOf limit R) i
+    (z .left) (z .right) (omega arith)) in
     rw (h .tree) (record {
       counted = rw (x .counted, y .counted);
       decided =

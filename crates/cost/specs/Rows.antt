@@ -9,7 +9,7 @@ use lib.Dec.{eqb}
 use lib.ListN.{getD, set}
 use lib.Ieee.{Float, nan}
 use Rattle.bvh2.specs.Tree.{Tree, leaf, inner}
-use Rattle.bvh2.specs.Words.{nodeCount}
+use Rattle.bvh2.specs.Words.{treeNodes}
 use Rattle.bvh2.specs.Decoded.{Subtree}
 use Rattle.cost.specs.declared.Split.{Split}
 use Rattle.cost.specs.declared.Entry.{Entry}
@@ -26,9 +26,9 @@ fill g (leaf v box p) s = row (g (leaf v box p)) (v * 7) 7 s
 fill g (inner v box a b) s = row (g (inner v box a b)) (v * 7) 7 (fill g b (fill g a s))
 
 -- every node's row holds its seven values
-unfoldable pub Holds : {A : Type 0} → (Tree ℕ → ℕ → A) → A → List A → Tree ℕ → Type 0
-Holds g d s (leaf v box p) = (k : ℕ) → k < 7 → getD s (v * 7 + k) d ≡ g (leaf v box p) k
-Holds g d s (inner v box a b) = ((k : ℕ) → k < 7 → getD s (v * 7 + k) d ≡ g (inner v box a b) k) × Holds g d s a × Holds g d s b
+unfoldable pub RowsHold : {A : Type 0} → (Tree ℕ → ℕ → A) → A → List A → Tree ℕ → Type 0
+RowsHold g d s (leaf v box p) = (k : ℕ) → k < 7 → getD s (v * 7 + k) d ≡ g (leaf v box p) k
+RowsHold g d s (inner v box a b) = ((k : ℕ) → k < 7 → getD s (v * 7 + k) d ≡ g (inner v box a b) k) × RowsHold g d s a × RowsHold g d s b
 
 -- the costs that stand in node v's row
 abbrev pub costsAt : List Float → ℕ → ℕ → Float
@@ -52,15 +52,15 @@ pub record Small (s : Split) : Type 0 where
   pub right : s .right ≤ 255
 
 -- tables of d words and c costs have room for node v and for its children, first and first + 1, and v is neither
-pub record Room (d c v first : ℕ) : Type 0 where
+pub record RowRoom (d c v first : ℕ) : Type 0 where
   pub decisions : v * 7 + 7 ≤ d
   pub costs : v * 7 + 7 ≤ c
   pub children : first * 7 + 14 ≤ c
   pub apart : (v < first) ⊎ (first + 1 < v)
 
 -- what filling the tables of node v, with `depth` edges left below it, asks: the words are an accepted tree's, and its tables have room
-pub record Ready (ws : List ℕ) (d c depth v : ℕ) : Type 0 where
+pub record RowsReady (ws : List ℕ) (d c depth v : ℕ) : Type 0 where
   pub n : ℕ
   pub tree : Subtree ws n depth v
-  pub decisions : nodeCount n * 7 ≤ d
-  pub costs : nodeCount n * 7 ≤ c
+  pub decisions : treeNodes n * 7 ≤ d
+  pub costs : treeNodes n * 7 ≤ c

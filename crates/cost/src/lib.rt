@@ -6,7 +6,7 @@ ghost use Rattle.aabb.specs.Aabb.{halfArea};
 ghost use Rattle.bvh2.specs.Tree.{leaves};
 ghost use Rattle.bvh2.specs.Words.{boxAt, treeAt};
 ghost use Rattle.cost.specs.Table.{better, bestSplit, firstDecision, leafDecision, word, wordOf, costOf};
-ghost use Rattle.cost.specs.Rows.{row, fill, costsAt, entryFrom, stored, nextEntry, Small, Room, Ready};
+ghost use Rattle.cost.specs.Rows.{row, fill, costsAt, entryFrom, stored, nextEntry, Small, RowRoom, RowsReady};
 
 // The decision word without its splits of a wide node, and of a node whose children stand in its place; a leaf child's is 0.
 const INTERNAL: u32 = words::KIND;
@@ -109,9 +109,10 @@ fn inner_entries(
     count: u32,
     limit: u32,
 )
-    requires { ⌜ Room (length (now decisions)) (length (now costs)) v first ⌝ }
+    requires { ⌜ RowRoom (length (now decisions)) (length (now costs)) v first ⌝ }
     requires { ⌜ count ≤ 2 ^ 24 ⌝ }
-    ensures { λ _. ⌜ now (decisions .exit) ≡ row (λ i. word (entryFrom (now (costs .entry)) first area count limit i)) (v * 7) 7 (now (decisions .entry)) ⌝ }
+    ensures { λ _. ⌜ now (decisions .exit) ≡ row (λ i. word (entryFrom (now (costs .entry)) first area count limit i)) (v * 7) 7
+        (now (decisions .entry)) ⌝ }
     ensures { λ _. ⌜ now (costs .exit) ≡ row (λ i. entryFrom (now (costs .entry)) first area count limit i .cost) (v * 7) 7 (now (costs .entry)) ⌝ }
 {
     let base = v * 7;
@@ -164,7 +165,7 @@ pub fn calculate_cost(
     decisions: &mut [u32],
     costs: &mut [f32],
 ) -> u32
-    requires { ⌜ Ready (now words) (length (now decisions)) (length (now costs)) depth v ⌝ }
+    requires { ⌜ RowsReady (now words) (length (now decisions)) (length (now costs)) depth v ⌝ }
     ensures { λ r. ⌜ r ≡ leaves (treeAt (now (words .entry)) depth v) ⌝ }
     ensures { λ _. ⌜ now (decisions .exit) ≡ fill (wordOf limit) (treeAt (now (words .entry)) depth v) (now (decisions .entry)) ⌝ }
     ensures { λ _. ⌜ now (costs .exit) ≡ fill (costOf limit) (treeAt (now (words .entry)) depth v) (now (costs .entry)) ⌝ }

@@ -11,15 +11,15 @@ use Rattle.bvh2.specs.Tree.{positions}
 use Rattle.bvh2.specs.Words.{treeOf}
 use Rattle.bvh2.specs.Decoded.{Decoded}
 use Rattle.bvh2.proofs.Decoded.{accepted-decoded, decoded-leaves, positions-length}
-use Rattle.wide.specs.Sizes as S
-use Rattle.wide.specs.Layout.{wordsAt}
+use Rattle.wide_layout.specs.Sizes as S
+use Rattle.wide_layout.specs.Layout.{wordsAt}
 use Rattle.wide_tree.specs.WideTree.{wideOf}
 use Rattle.wide_tree.specs.Ordered.{placing}
 use Rattle.wide_tree.proofs.WideTree.{small-leaves}
 use Rattle.wide_tree.proofs.Positions.{wide-positions}
 use Rattle.wide_tree.proofs.Ordered.{places, fine, index-count, node-count}
 use Rattle.record_laws.specs.Writable.{Writable}
-use Rattle.bvh2_to_cwbvh.specs.Conversion.{wideAt, recordOf, levelOf, positionsOf, listOf}
+use Rattle.bvh2_to_cwbvh.specs.Conversion.{wideAt, recordOf, levelOf, outputPositions, indexListOf}
 use Rattle.bvh2_to_cwbvh.proofs.Answers.{answered}
 use Rattle.bvh2_to_cwbvh.proofs.Sizes.{bytes-length, list-length}
 use Rattle.demands.specs.Call.{Call, Answers, leafCount, recordAt, listAt, leafPositions, definedRecord, definedList, deepestLevel, Convertible}
@@ -41,19 +41,19 @@ module _ (ws : List ℕ) (limit : ℕ) (ordered : Bool) (n : ℕ) (h : Decoded w
         positions = omega (arith, index-count ordered limit ws n h);
       }
 
-  held : Perm (S.positions (wideAt ws limit ordered .slots)) (positions (treeOf ws))
+  held : Perm (S.slotsPositions (wideAt ws limit ordered .slots)) (positions (treeOf ws))
   unfolding wideOf
   held = wide-positions (placing ordered) limit (places ordered) (treeOf ws) (fine ws n h)
 
 -- the record and the index list of a convertible call's tree are those of its wide tree, whatever its levels
 pub defined : (c : Call) → Convertible c
     → Writes (leafPositions (c .words) (leafCount c)) (c .indices) (definedRecord c) (definedList c) (deepestLevel c)
-unfolding listOf leafPositions recordOf positionsOf levelOf
+unfolding indexListOf leafPositions recordOf outputPositions levelOf
 defined c h = go (leafCount c) (λ p. accepted-decoded (c .words) (leafCount c) p .0 (h .accepted))
   where
     go : (n : ℕ) → (0 < n → Decoded (c .words) n)
         → Writes (leafPositions (c .words) n) (c .indices) (recordOf (c .words) n (c .limit) (c .ordered))
-        (wordsAt (c .indices) (positionsOf (c .words) n (c .limit) (c .ordered))) (levelOf (c .words) n (c .limit) (c .ordered))
+        (wordsAt (c .indices) (outputPositions (c .words) n (c .limit) (c .ordered))) (levelOf (c .words) n (c .limit) (c .ordered))
     go zero d = nothing refl refl refl refl
     go (suc n) d =
         let t = d (omega arith) in

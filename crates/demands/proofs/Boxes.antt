@@ -11,7 +11,7 @@ use Rattle.aabb.specs.Aabb.{acceptedBox}
 use Rattle.bvh2.specs.Tree.{Tree, leaf, inner, boxOf}
 use Rattle.bvh2.specs.Words.{Link, children, position, malformed, linkAt, wordAt, boxAt, readLink, treeOf}
 use Rattle.bvh2.specs.Decoded.{BoxesAccepted}
-use Rattle.wide.specs.Wide as W
+use Rattle.wide_layout.specs.Wide as W
 use Rattle.wide_tree.specs.WideTree.{rootSlots}
 use Rattle.wide_tree.specs.Ordered.{placing}
 use Rattle.wide_tree.proofs.Boxes.{EachBox, EachSlotBox, wide-boxes}
@@ -52,7 +52,8 @@ nodes (W.empty s) h = nodes s h
 nodes (W.leaf b ps s) h = nodes s (h .1)
 nodes (W.inner b t s) h = (h .0, nodes t (h .1), nodes s (h .2))
 
-pub node-boxes : (ws : List ℕ) (limit : ℕ) (ordered : Bool) → BoxesAccepted (treeOf ws) → NodeBox (boxOf (treeOf ws)) × NodeBoxes (rootSlots (placing ordered) limit (treeOf ws))
+pub node-boxes : (ws : List ℕ) (limit : ℕ) (ordered : Bool) → BoxesAccepted (treeOf ws) → NodeBox (boxOf (treeOf ws))
+    × NodeBoxes (rootSlots (placing ordered) limit (treeOf ws))
 node-boxes ws limit ordered h =
     let r = wide-boxes NodeBox (placing ordered) limit (treeOf ws) (each (treeOf ws) h (read ws 127 0 (linkAt ws 0))) in
     (r .0, nodes (rootSlots (placing ordered) limit (treeOf ws)) (r .1))

@@ -7,8 +7,8 @@ use Rattle.lists.proofs.Sums.{sum-cong, sum-add}
 use Rattle.words.specs.Ones.{onesBelow}
 use Rattle.node.specs.declared.Node.{Node}
 use Rattle.node.specs.Node.{innerBit, codeCount}
-use Rattle.rule.specs.Rule.{LeafTop, one, two, three, SlotRule, empty, child, leaf}
-use Rattle.record_shape.specs.Record.{Nodes, metaAt, leafCount, shapeIn, RuleIn}
+use Rattle.node_rule.specs.Rule.{LeafTop, one, two, three, SlotRule, empty, child, leaf}
+use Rattle.record_shape.specs.Record.{Nodes, metaAt, slotPositions, shapeIn, RuleIn}
 use Rattle.demands.specs.Children.{childCount, leafChildren}
 
 sum-most : (f : ℕ → ℕ) (k : ℕ) → ((j : ℕ) → f j ≤ 1) → sum f k ≤ k
@@ -31,8 +31,8 @@ both-one : (meta count : ℕ) → 0 < meta / 32 → 0 < count → min 1 meta ≡
 both-one meta count h k = omega arith
 
 -- a slot is a child if it holds a node or if it holds positions
-slot-child : (meta bit s base n : ℕ) → SlotRule meta bit s base n → min 1 meta ≡ bit + min 1 (leafCount bit meta)
-unfolding leafCount onesBelow
+slot-child : (meta bit s base n : ℕ) → SlotRule meta bit s base n → min 1 meta ≡ bit + min 1 (slotPositions bit meta)
+unfolding slotPositions onesBelow
 slot-child meta bit s base n (empty e f) = rw (e, f) refl
 slot-child meta bit s base n (child e f) = rw (e, f) (omega arith)
 slot-child meta bit s base n (leaf t f a b) =
@@ -49,7 +49,8 @@ pub children-are : (N : Nodes) (n v : ℕ) → RuleIn N n v → childCount (N .n
 unfolding childCount leafChildren shapeIn
 children-are N n v r =
     let p = N .node v in
-    let f : ℕ → ℕ = λ s. min 1 (leafCount (innerBit (p .imask) s) (metaAt p s)) in
-    sum-cong (λ s. min 1 (metaAt p s)) (λ s. innerBit (p .imask) s + f s) 8 (λ s l. slot-child (metaAt p s) (innerBit (p .imask) s) s (p .«primitive_base_idx») n (r .slots s l))
+    let f : ℕ → ℕ = λ s. min 1 (slotPositions (innerBit (p .imask) s) (metaAt p s)) in
+    sum-cong (λ s. min 1 (metaAt p s)) (λ s. innerBit (p .imask) s + f s) 8
+    (λ s l. slot-child (metaAt p s) (innerBit (p .imask) s) s (p .«primitive_base_idx») n (r .slots s l))
     ∙ sum-add (λ s. innerBit (p .imask) s) f 8
     ∙ ap (λ (x : ℕ). x + sum f 8) (sym (ones-sum 8 (p .imask)))

@@ -9,10 +9,10 @@ use native.Mathlib.Omega.{arith}
 use lib.ListN.{getD}
 use Rattle.lists.specs.Counts.{count}
 use Rattle.lists.proofs.Perms.{counts-perm}
-use Rattle.soundness.specs.Shape.{Shape, Child, Holds}
+use Rattle.soundness.specs.Shape.{Shape, ChildOf, Holds}
 use Rattle.soundness.specs.Sound.{OneParent, OneHolder}
-use Rattle.wide.specs.Layout.{wordsAt}
-use Rattle.wide.proofs.Index.{indices-rearranged}
+use Rattle.wide_layout.specs.Layout.{wordsAt}
+use Rattle.wide_layout.proofs.Index.{indices-rearranged}
 use Rattle.node.specs.Node.{nodeAt}
 use Rattle.record_shape.specs.Record.{nodeCount, nodesAt, shapeIn, shapeAt, SoundRecord, DeepestLevel}
 use Rattle.record_shape.specs.Check.{sound, checkOf}
@@ -23,7 +23,7 @@ use Rattle.demands.specs.Call.{Call, Answers, leafCount, recordAt, listA
 use Rattle.demands.specs.Call.{definedRecord, definedNodes, definedList, deepestLevel, Convertible}
 use Rattle.demands.specs.Refusals.{LevelOver}
 use Rattle.demands.specs.Children.{childCount, leafChildren}
-use Rattle.demands.specs.Walks.{Good}
+use Rattle.demands.specs.Walks.{CheckedRecord}
 use Rattle.demands.proofs.Words.{all-words}
 use Rattle.demands.proofs.Writes.{Writes, nothing, written}
 use Rattle.demands.proofs.Answered.{record-is, list-is, writes, level-low, leaf-count, leaf-each}
@@ -65,9 +65,9 @@ module _ (c : Call) (m d : ℕ) (answers : Answers c m d) where
   pub writes-defined : (recordAt c m ≡ definedRecord c) × (listAt c ≡ definedList c)
   writes-defined = (record-is c m d answers, list-is c m d answers)
 
-  pub good-record : Good (recordAt c m) (leafCount c) d
+  pub good-record : CheckedRecord (recordAt c m) (leafCount c) d
   good-record =
-      subst (λ (n : ℕ). Good (recordAt c m) n d) (leaf-count c was-convertible)
+      subst (λ (n : ℕ). CheckedRecord (recordAt c m) n d) (leaf-count c was-convertible)
       (good _ (c .indices) (recordAt c m) (listAt c) d (level-low c m d answers) (writes c m d answers))
 
   -- ---- positions
@@ -86,7 +86,8 @@ module _ (c : Call) (m d : ℕ) (answers : Answers c m d) where
     where
       go : (leaves bytes list : List ℕ) → Writes leaves (c .indices) bytes list d → Perm list (wordsAt (c .indices) leaves)
       go leaves bytes list (nothing l b x e) =
-          subst (λ (y : List ℕ). Perm y (wordsAt (c .indices) leaves)) (sym x) (subst (λ (y : List ℕ). Perm [] (wordsAt (c .indices) y)) (sym l) (Perm·refl []))
+          subst (λ (y : List ℕ). Perm y (wordsAt (c .indices) leaves)) (sym x)
+          (subst (λ (y : List ℕ). Perm [] (wordsAt (c .indices) y)) (sym l) (Perm·refl []))
       go leaves bytes list (written t h p b x e) =
           subst (λ (y : List ℕ). Perm y (wordsAt (c .indices) leaves)) (sym x)
           (Perm·trans (indices-rearranged t (λ q. getD (c .indices) q 0)) (Perm·map (λ q. getD (c .indices) q 0) p))
@@ -98,7 +99,8 @@ module _ (c : Call) (m d : ℕ) (answers : Answers c m d) where
   -- Each index word's position is held by exactly one leaf, so these are all index words.
   pub index-list-rearranges-words : Perm (listAt c) (c .indices)
   index-list-rearranges-words =
-      subst (λ (y : List ℕ). Perm (listAt c) y) (all-words (c .indices)) (Perm·trans index-list-rearranges (Perm·map (λ q. getD (c .indices) q 0) (leaf-each c was-convertible)))
+      subst (λ (y : List ℕ). Perm (listAt c) y) (all-words (c .indices))
+      (Perm·trans index-list-rearranges (Perm·map (λ q. getD (c .indices) q 0) (leaf-each c was-convertible)))
 
   -- ---- parents and children
   -- Every node but the first has exactly one parent,
@@ -106,7 +108,7 @@ module _ (c : Call) (m d : ℕ) (answers : Answers c m d) where
   one-parent = node-parent (nodesAt (recordAt c m)) (leafCount c) (good-record .sound)
 
   -- and the first has none.
-  pub first-has-no-parent : (p : ℕ) → Child shape p 0 → ⊥
+  pub first-has-no-parent : (p : ℕ) → ChildOf shape p 0 → ⊥
   first-has-no-parent = first-parent (nodesAt (recordAt c m)) (leafCount c) (good-record .sound)
 
   -- No node has over eight children.

@@ -13,7 +13,7 @@ use Rattle.causes.specs.Sizes.{sizesFit}
 use Rattle.walk.specs.Calls.{All}
 use Rattle.walk.specs.WordStep.{WalkerWords, SteppedWords, stayWords, forgedWords}
 use Rattle.walk.proofs.WordKept.{Finished, Leaves, tell-finished}
-use Rattle.walk_record.specs.Beam.{Beam, beams}
+use Rattle.walk_record.specs.WalkRay.{WalkRay, byBoxes}
 use Rattle.walk_record.specs.Record.{nodeWordsAt}
 use Rattle.walk_record.specs.Walk.{stepIn}
 use Rattle.walk_record.proofs.Steps.{step-leaves, step-finished}
@@ -22,14 +22,14 @@ use Rattle.traverse.specs.Calls.{RecordOp, stepOn, tells, runEach}
 use Rattle.demands.specs.Walks.{DoneOrRefused, DoneStays}
 
 -- a walker with nothing left stays one, and its step is done or refused
-record Rests (r : SteppedWords Beam) : Type 0 where
+record Rests (r : SteppedWords WalkRay) : Type 0 where
   pub finished : Finished (r .walker)
   pub quiet : DoneOrRefused (r .answer)
 
-module _ (bytes : List ℕ) (n : ℕ) (w : WalkerWords Beam) where
+module _ (bytes : List ℕ) (n : ℕ) (w : WalkerWords WalkRay) where
   -- a step, by the test of the record's length
-  abbrev by : Bool → SteppedWords Beam
-  by a = elim a [ false ↦ stayWords w (refused 1) | true ↦ stepIn (nodesAt bytes) beams n w ]
+  abbrev by : Bool → SteppedWords WalkRay
+  by a = elim a [ false ↦ stayWords w (refused 1) | true ↦ stepIn (nodesAt bytes) byBoxes n w ]
 
   step-rests : Finished w → Rests (stepBytes bytes n w)
   unfolding stepBytes
@@ -43,8 +43,8 @@ module _ (bytes : List ℕ) (n : ℕ) (w : WalkerWords Beam) where
       go : (a : Bool) → Rests (by a)
       go false = record { finished = f; quiet = tt }
       go true =
-          rw (step-finished (nodesAt bytes) beams n w f)
-          (two (sizesFit (nodeCount bytes) n) (forgedWords (nodeCount bytes) (nodeWordsAt bytes beams) w))
+          rw (step-finished (nodesAt bytes) byBoxes n w f)
+          (two (sizesFit (nodeCount bytes) n) (forgedWords (nodeCount bytes) (nodeWordsAt bytes byBoxes) w))
 
   -- a step that says done leaves nothing to do
   done-finished : stepBytes bytes n w .answer ≡ done → Finished (stepBytes bytes n w .walker)
@@ -54,16 +54,16 @@ module _ (bytes : List ℕ) (n : ℕ) (w : WalkerWords Beam) where
       go : (a : Bool) → by a .answer ≡ done → Finished (by a .walker)
       go false e = absurd (let z : _≡_ {A = ℕ} 0 1 = cc in omega arith)
       go true e =
-          subst (λ (x : Answer). Leaves (nodeCount bytes) (nodeWordsAt bytes beams) n w x (by true .walker)) e
-          (step-leaves (nodesAt bytes) beams n w) .0
+          subst (λ (x : Answer). Leaves (nodeCount bytes) (nodeWordsAt bytes byBoxes) n w x (by true .walker)) e
+          (step-leaves (nodesAt bytes) byBoxes n w) .0
 
-rest-done : (l : List RecordOp) (w : WalkerWords Beam) → Finished w → All DoneOrRefused (runEach l w .answers)
+rest-done : (l : List RecordOp) (w : WalkerWords WalkRay) → Finished w → All DoneOrRefused (runEach l w .answers)
 unfolding runEach
 rest-done [] w f = tt
 rest-done (stepOn bytes n ∷ l) w f = let r = step-rests bytes n w f in (r .quiet, rest-done l (stepBytes bytes n w .walker) (r .finished))
-rest-done (tells t ∷ l) w f = rest-done l (toldWalker t w) (tell-finished (nodeWordsAt [] beams) t w f)
+rest-done (tells t ∷ l) w f = rest-done l (toldWalker t w) (tell-finished (nodeWordsAt [] byBoxes) t w f)
 
-pub done-stays-done : (l : List RecordOp) (w : WalkerWords Beam) → DoneStays (runEach l w .answers)
+pub done-stays-done : (l : List RecordOp) (w : WalkerWords WalkRay) → DoneStays (runEach l w .answers)
 unfolding runEach
 done-stays-done [] w = tt
 done-stays-done (stepOn bytes n ∷ l) w =

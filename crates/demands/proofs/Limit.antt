@@ -11,12 +11,12 @@ use Rattle.bvh2.specs.Tree.{Tree, leaf, inner, boxOf}
 use Rattle.bvh2.specs.Words.{treeOf}
 use Rattle.cost.specs.Table.{Decision, word, wordOf, costOf}
 use Rattle.cost.proofs.Splits.{limit-zero}
-use Rattle.wide.specs.Layout.{wordsAt}
-use Rattle.wide_tree.specs.WideTree.{Placing, Child, slotsOf, childrenOf, wideOf}
+use Rattle.wide_layout.specs.Layout.{wordsAt}
+use Rattle.wide_tree.specs.WideTree.{Placing, Child, filledSlots, wideChildren, wideOf}
 use Rattle.wide_tree.specs.Ordered.{placing}
-use Rattle.tables.specs.Call.{Call, leafCount, lengthsOf}
-use Rattle.tables.specs.Tables.{prepareConditions, workAfter}
-use Rattle.bvh2_to_cwbvh.specs.Conversion.{wideAt, recordOf, nodesOf, levelOf, positionsOf, listOf}
+use Rattle.bvh2_tables.specs.Call.{Call, leafCount, lengthsOf}
+use Rattle.bvh2_tables.specs.Tables.{prepareConditions, workAfter}
+use Rattle.bvh2_to_cwbvh.specs.Conversion.{wideAt, recordOf, nodesOf, levelOf, outputPositions, indexListOf}
 use Rattle.bvh2_to_cwbvh.specs.Conversion.{conversionConditions, conversionCause, converted, answerFor, outputAfter, outcomeFor, conversionOf}
 use Rattle.demands.specs.Call.{withLimit}
 
@@ -27,8 +27,8 @@ words-zero = fun-ext (λ t. fun-ext (λ i. ap word (limit-zero t i)))
 costs-zero : costOf {A = ℕ} 0 ≡ costOf 1
 costs-zero = fun-ext (λ t. fun-ext (λ i. ap (λ (d : Decision). d .cost) (limit-zero t i)))
 
-children-zero : {A : Type 0} (place : Placing) (t : Tree A) (i : ℕ) → childrenOf place 0 t i ≡ childrenOf place 1 t i
-unfolding childrenOf
+children-zero : {A : Type 0} (place : Placing) (t : Tree A) (i : ℕ) → wideChildren place 0 t i ≡ wideChildren place 1 t i
+unfolding wideChildren
 children-zero place (leaf v box p) i = refl
 children-zero place (inner v box a b) i = simp (limit-zero, children-zero place a, children-zero place b)
 
@@ -36,22 +36,22 @@ wide-zero : (ws : List ℕ) (ordered : Bool) → wideAt ws 0 ordered ≡ wideAt 
 unfolding wideOf
 wide-zero ws ordered =
     let box = boxOf (treeOf ws) in
-    ap (λ (cs : List Child). record { box = box; slots = slotsOf (placing ordered) box cs }) (children-zero (placing ordered) (treeOf ws) 0)
+    ap (λ (cs : List Child). record { box = box; slots = filledSlots (placing ordered) box cs }) (children-zero (placing ordered) (treeOf ws) 0)
 
 -- ---- what an accepted tree becomes
 record Same (ws : List ℕ) (n : ℕ) (ordered : Bool) : Type 0 where
   bytes : recordOf ws n 0 ordered ≡ recordOf ws n 1 ordered
   nodes : nodesOf ws n 0 ordered ≡ nodesOf ws n 1 ordered
   level : levelOf ws n 0 ordered ≡ levelOf ws n 1 ordered
-  positions : positionsOf ws n 0 ordered ≡ positionsOf ws n 1 ordered
+  positions : outputPositions ws n 0 ordered ≡ outputPositions ws n 1 ordered
 
 same : (ws : List ℕ) (n : ℕ) (ordered : Bool) → Same ws n ordered
-unfolding recordOf nodesOf levelOf positionsOf
+unfolding recordOf nodesOf levelOf outputPositions
 same ws zero ordered = record { bytes = refl; nodes = refl; level = refl; positions = refl }
 same ws (suc n) ordered = let e = wide-zero ws ordered in record { bytes = rw e; nodes = rw e; level = rw e; positions = rw e }
 
-list-zero : (ws indices : List ℕ) (ordered : Bool) → listOf ws indices 0 ordered ≡ listOf ws indices 1 ordered
-unfolding listOf
+list-zero : (ws indices : List ℕ) (ordered : Bool) → indexListOf ws indices 0 ordered ≡ indexListOf ws indices 1 ordered
+unfolding indexListOf
 list-zero ws indices ordered = ap (wordsAt indices) (same ws (length indices) ordered .positions)
 
 -- ---- the cause and the answer

@@ -8,7 +8,7 @@ use lib.ListN.{length}
 use Rattle.lists.proofs.Perms.{perm-length}
 use Rattle.ray.specs.declared.Ray.{Ray}
 use Rattle.demands.specs.Call.{Call, Answers, recordAt, listAt}
-use Rattle.demands.specs.Walks.{Good, AcceptedRay}
+use Rattle.demands.specs.Walks.{CheckedRecord, AcceptedRay}
 use Rattle.demands.specs.Panes.{Panes, ClosestAnswers, MissAnswers}
 use Rattle.demands.proofs.Words.{words-rearranged}
 use Rattle.demands.proofs.Demands.{good-record, index-list-rearranges-words}
@@ -27,8 +27,8 @@ module _ (c : Call) (m d : ℕ) (answers : Answers c m d) (panes : List Float) (
     named = words-rearranged (λ k. k < length panes / 6) (listAt c) (c .indices) rearranged (fine .named);
   }
 
-  list-good : Good (recordAt c m) (length (listAt c)) d
-  list-good = subst (λ (n : ℕ). Good (recordAt c m) n d) (sym (perm-length (listAt c) (c .indices) rearranged)) (good-record c m d answers)
+  list-good : CheckedRecord (recordAt c m) (length (listAt c)) d
+  list-good = subst (λ (n : ℕ). CheckedRecord (recordAt c m) n d) (sym (perm-length (listAt c) (c .indices) rearranged)) (good-record c m d answers)
 
   -- Closest is not refused. It hits the nearest of the positions reported that is below the reach, the first met of equal ones; without one it has
   -- no hit.

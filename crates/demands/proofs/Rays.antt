@@ -5,8 +5,8 @@ use Rattle.ray.specs.declared.Ray.{Ray}
 use Rattle.ray.specs.Ray.{rayOf, acceptedRay}
 use Rattle.aabb.specs.declared.Aabb.{Aabb}
 use Rattle.aabb.specs.Aabb.{acceptedBox, entryDistance}
-use Rattle.walk_record.specs.Beam.{beamOf, forgedBeam}
-use Rattle.walk_record.proofs.Beam.{begun-accepted}
+use Rattle.walk_record.specs.WalkRay.{walkRay, forgedRay}
+use Rattle.walk_record.proofs.WalkRay.{begun-accepted}
 use Rattle.closest.proofs.Distances.{Number, distance-number}
 use Rattle.demands.specs.Walks.{AcceptedRay}
 
@@ -20,8 +20,8 @@ module _ {ray : Ray} (a : AcceptedRay ray) where
   as-made P f = subst P (sym (a .made)) (f (subst (λ (r : Ray). acceptedRay r ≡ true) (a .made) (a .accepted)))
 
   -- a walker just begun on it is not forged
-  pub not-forged : forgedBeam (beamOf ray) ≡ false
-  not-forged = as-made (λ r. forgedBeam (beamOf r) ≡ false) (begun-accepted (a .origin) (a .direction) (a .tmin) (a .tmax))
+  pub not-forged : forgedRay (walkRay ray) ≡ false
+  not-forged = as-made (λ r. forgedRay (walkRay r) ≡ false) (begun-accepted (a .origin) (a .direction) (a .tmin) (a .tmax))
 
   -- the distance of an accepted box is a number
   pub distance-known : (b : Aabb) → acceptedBox b ≡ true → Number (entryDistance b ray)

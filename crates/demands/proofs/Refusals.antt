@@ -18,16 +18,17 @@ use Rattle.bvh2.specs.FirstCause.{sizeConditions, structureConditions}
 use Rattle.bvh2.proofs.First.{sizes-show, structure-shows, cause-fails}
 use Rattle.float.specs.Compare.{plusZero}
 use Rattle.cost.specs.Table.{wordOf, costOf}
-use Rattle.tables.specs.Call.{Lengths, lengthsOf}
-use Rattle.tables.specs.Tables.{tableSize, recordSize, hasRoom, prepareConditions, cleared}
-use Rattle.tables.proofs.Room.{room-parts, room-enough}
-use Rattle.tables.proofs.Causes.{rest, work-kept, work-cleared}
-use Rattle.tables.proofs.Prepared.{prepared, passed-prepared}
+use Rattle.bvh2_tables.specs.Call.{Lengths, lengthsOf}
+use Rattle.bvh2_tables.specs.Tables.{tableSize, recordSize, slicesFit, prepareConditions, cleared}
+use Rattle.bvh2_tables.proofs.Room.{room-parts, room-enough}
+use Rattle.bvh2_tables.proofs.Causes.{rest, work-kept, work-cleared}
+use Rattle.bvh2_tables.proofs.Prepared.{prepared, passed-prepared}
 use Rattle.bvh2_to_cwbvh.specs.Conversion.{refused, conversionConditions, conversionOf}
 use Rattle.bvh2_to_cwbvh.proofs.Endings.{early, last, cause-none}
 use Rattle.bvh2_to_cwbvh.proofs.Answers as A
 use Rattle.demands.specs.Call.{Call, Answers, leafCount, definedNodes, deepestLevel, Convertible}
-use Rattle.demands.specs.Refusals.{Refusal, tree-refused, limit-over, decisions-short, costs-short, bytes-short, list-short, level-over, FirstRefusal}
+use Rattle.demands.specs.Refusals.{Refusal, tree-refused, limit-over, decisions-short, costs-short, bytes-short, list-short, level-over}
+use Rattle.demands.specs.Refusals.{FirstRefusal}
 use Rattle.demands.proofs.Levels.{over-deepest}
 
 -- ---- the list of conditions, with or without leaves
@@ -46,7 +47,7 @@ abbrev Short : ℕ → Lengths → Type 0
 Short n l = (l .decisions < tableSize n) ⊎ ((l .costs < tableSize n) ⊎ ((l .bytes < recordSize n) ⊎ (l .list < n)))
 
 -- where there is no room one is,
-short : (n : ℕ) (l : Lengths) → hasRoom n l ≡ false → Short n l
+short : (n : ℕ) (l : Lengths) → slicesFit n l ≡ false → Short n l
 short n l e = pick (decLt (l .decisions) (tableSize n)) (decLt (l .costs) (tableSize n)) (decLt (l .bytes) (recordSize n)) (decLt (l .list) n)
   where
     pick : Dec (l .decisions < tableSize n) → Dec (l .costs < tableSize n) → Dec (l .bytes < recordSize n) → Dec (l .list < n) → Short n l
@@ -58,10 +59,10 @@ short n l e = pick (decLt (l .decisions) (tableSize n)) (decLt (l .costs) (table
 
 -- and the test fails where one is
 lacking : (n : ℕ) (l : Lengths)
-    → ((tableSize n ≤ l .decisions) × (tableSize n ≤ l .costs) × (recordSize n ≤ l .bytes) × (n ≤ l .list) → ⊥) → hasRoom n l ≡ false
-lacking n l h = go (hasRoom n l) refl
+    → ((tableSize n ≤ l .decisions) × (tableSize n ≤ l .costs) × (recordSize n ≤ l .bytes) × (n ≤ l .list) → ⊥) → slicesFit n l ≡ false
+lacking n l h = go (slicesFit n l) refl
   where
-    go : (b : Bool) → hasRoom n l ≡ b → hasRoom n l ≡ false
+    go : (b : Bool) → slicesFit n l ≡ b → slicesFit n l ≡ false
     go true e = absurd (h (room-parts n l e))
     go false e = e
 
@@ -80,7 +81,7 @@ module _ (c : Call) where
   others = rest (c .words) n (c .limit) (lengthsOf c)
 
   -- ---- a test that fails shows its cause
-  room-shows : hasRoom n (lengthsOf c) ≡ false → Refusal c 4
+  room-shows : slicesFit n (lengthsOf c) ≡ false → Refusal c 4
   room-shows e = pick (short n (lengthsOf c) e)
     where
       pick : Short n (lengthsOf c) → Refusal c 4
@@ -124,7 +125,7 @@ module _ (c : Call) where
   unfolding prepareConditions placeOf
   limit-fails h = fails-later 3 sizes others (inl (lt-leb (c .limit) 3 h, tt))
 
-  room-fails : hasRoom n (lengthsOf c) ≡ false → Fails 4 (early c)
+  room-fails : slicesFit n (lengthsOf c) ≡ false → Fails 4 (early c)
   unfolding prepareConditions placeOf
   room-fails e = fails-later 4 sizes others (inr (inl (e, tt)))
 

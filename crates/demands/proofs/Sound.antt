@@ -7,11 +7,11 @@ use lib.ListN.{length}
 use Rattle.lists.proofs.Perms.{perm-length}
 use Rattle.soundness.specs.Sound.{OneLevel}
 use Rattle.soundness.proofs.Once.{empty-sound}
-use Rattle.wide.specs.Wide.{Wide}
-use Rattle.wide.specs.Sizes.{positions}
-use Rattle.wide.specs.Layout.{nodes, indexCount, level}
-use Rattle.wide.proofs.Sizes.{positions-length}
-use Rattle.wide.proofs.Shape.{reads-sound, reads-one-level, reads-deepest}
+use Rattle.wide_layout.specs.Wide.{Wide}
+use Rattle.wide_layout.specs.Sizes.{slotsPositions}
+use Rattle.wide_layout.specs.Layout.{nodes, indexCount, level}
+use Rattle.wide_layout.proofs.Sizes.{positions-length}
+use Rattle.wide_layout.proofs.Shape.{reads-sound, reads-one-level, reads-deepest}
 use Rattle.record.specs.Record.{recordBytes}
 use Rattle.record_shape.specs.Record.{nodeCount, shapeIn, shapeAt, RuleAt, SoundRecord, DeepestLevel}
 use Rattle.record_shape.specs.Check.{sound, checkOf}
@@ -22,17 +22,17 @@ use Rattle.record_laws.proofs.ReadBack.{record-count}
 use Rattle.record_laws.proofs.ShapeRead.{record-reads}
 use Rattle.record_laws.proofs.Rule.{record-rule}
 use Rattle.record_laws.proofs.Bytes.{record-bytes}
-use Rattle.demands.specs.Walks.{Good}
+use Rattle.demands.specs.Walks.{CheckedRecord}
 use Rattle.demands.proofs.Writes.{Writes, nothing, written}
 
-good-none : Good [] 0 0
+good-none : CheckedRecord [] 0 0
 unfolding shapeIn
 good-none =
     let s : SoundRecord [] 0 × DeepestLevel [] 0 0 = empty-sound (shapeAt [] 0) (RuleAt [] 0) refl refl in
     record { sound = s .0; deepest = s .1; layout = refl; nodes = omega arith; positions = omega arith; are-bytes = λ i. omega arith }
 
-held-count : (t : Wide) (leaves : List ℕ) → Perm (positions (t .slots)) leaves → indexCount t ≡ length leaves
-held-count t leaves p = sym (positions-length (t .slots)) ∙ perm-length (positions (t .slots)) leaves p
+held-count : (t : Wide) (leaves : List ℕ) → Perm (slotsPositions (t .slots)) leaves → indexCount t ≡ length leaves
+held-count t leaves p = sym (positions-length (t .slots)) ∙ perm-length (slotsPositions (t .slots)) leaves p
 
 -- the levels of a record as conversion writes it, or would: the deepest, and one to each node
 pub record Levels (bytes : List ℕ) (n d : ℕ) : Type 0 where
@@ -52,7 +52,7 @@ pub levels : (leaves indices bytes list : List ℕ) (d : ℕ) → Writes leaves 
 levels leaves indices bytes list d (nothing l b x e) = rw (e, b, l) levels-none
 levels leaves indices bytes list d (written t h p b x e) = rw (e, b, ← held-count t leaves p) (levels-wide t h)
 
-good-wide : (t : Wide) → Writable t → level t ≤ 31 → Good (recordBytes t) (indexCount t) (level t)
+good-wide : (t : Wide) → Writable t → level t ≤ 31 → CheckedRecord (recordBytes t) (indexCount t) (level t)
 unfolding shapeIn
 good-wide t h low =
     let S = shapeAt (recordBytes t) (indexCount t) in
@@ -65,13 +65,13 @@ good-wide t h low =
       are-bytes = record-bytes t h;
     }
 
-pub good : (leaves indices bytes list : List ℕ) (d : ℕ) → d ≤ 31 → Writes leaves indices bytes list d → Good bytes (length leaves) d
+pub good : (leaves indices bytes list : List ℕ) (d : ℕ) → d ≤ 31 → Writes leaves indices bytes list d → CheckedRecord bytes (length leaves) d
 good leaves indices bytes list d low (nothing l b x e) = rw (e, b, l) good-none
 good leaves indices bytes list d low (written t h p b x e) =
     rw (e, b, ← held-count t leaves p) (good-wide t h (omega arith))
 
 -- the record check, given a working word for each node and each position, answers sound with that level
-pub good-check : (bytes : List ℕ) (n d words : ℕ) → Good bytes n d → nodeCount bytes + n ≤ words → checkOf bytes n words ≡ sound d
+pub good-check : (bytes : List ℕ) (n d words : ℕ) → CheckedRecord bytes n d → nodeCount bytes + n ≤ words → checkOf bytes n words ≡ sound d
 good-check bytes n d words g h =
     check-sound bytes n words
     (cause-none (length bytes) n words (record { whole = g .layout; few = g .positions; small = g .nodes }) h) (g .sound) d (g .deepest)

@@ -22,7 +22,7 @@ use Rattle.walk.proofs.Lists.{all-map}
 use Rattle.walk.proofs.Nearest.{up-to-none, nearest-below, blocks-below, one-nearest}
 use Rattle.walk.proofs.Noted.{Seen, Picks, kept, nearest, closest-picks, Stops, miss-stops, stops-below}
 use Rattle.walk.proofs.Noted as N
-use Rattle.walk_record.specs.Beam.{Beam, beamOf, beams}
+use Rattle.walk_record.specs.WalkRay.{WalkRay, walkRay, byBoxes}
 use Rattle.walk_record.specs.Record.{slotsAt}
 use Rattle.walk_record.specs.Walk.{queryAt}
 use Rattle.query.proofs.Entry.{entry-none}
@@ -32,7 +32,7 @@ use Rattle.closest.specs.Panes.{ClosestAnswer, hitAt, noHit, refusedClosest, cl
 use Rattle.closest.specs.Panes.{MissAnswer, missed, blocked, refusedMiss, missFound, missWalk, missOf}
 use Rattle.closest.proofs.Distances.{Number, distances-ordered, met-there, panes-reached}
 use Rattle.demands.specs.Runs.{callsMade, answersMade}
-use Rattle.demands.specs.Walks.{Good, AcceptedRay}
+use Rattle.demands.specs.Walks.{CheckedRecord, AcceptedRay}
 use Rattle.demands.specs.Panes.{Panes, distanceOf, closestSteps, missSteps, closestReports, missReports, ClosestAnswers, MissAnswers}
 use Rattle.demands.proofs.Rays.{distance-known}
 use Rattle.demands.proofs.SoundWalks.{sound-walks, query-not-refused}
@@ -41,8 +41,8 @@ use Rattle.demands.proofs.Runs.{query-tests, reported-exist, query-note
 -- ---- answers
 
 -- a walk that was not refused gives what it has found
-found-at-end : {A : Type 0} (refuse : ℕ → A) (found : Found Float → ℕ → Result A) (cause : ℕ) (o : OutcomeWords Beam (Found Float)) (b : S.Answer)
-    → 0 ≡ cause → Ended b → entered refuse cause (walked refuse found o b) ≡ found (o .noted) (o .walker .tests)
+found-at-end : {A : Type 0} (refuse : ℕ → A) (found : Found Float → ℕ → Result A) (cause : ℕ) (o : OutcomeWords WalkRay (Found Float)) (b : S.Answer)
+    → 0 ≡ cause → Ended b → entered refuse cause (walked refuse found o b) ≡ found (o .accumulator) (o .walker .tests)
 unfolding entered walked
 found-at-end refuse found zero o (S.tested v) e h = absurd h
 found-at-end refuse found zero o (S.position p) e h = refl
@@ -68,7 +68,8 @@ other : {A B : Type 0} → (A → ⊥) → A ⊎ B → B
 other n (inl a) = absurd (n a)
 other n (inr b) = b
 
-module _ {bytes indices : List ℕ} {panes : List Float} {d : ℕ} {ray : Ray} (good : Good bytes (length indices) d) (fine : Panes indices panes)
+module _ {bytes indices : List ℕ} {panes : List Float} {d : ℕ} {ray : Ray} (good : CheckedRecord bytes (length indices) d)
+    (fine : Panes indices panes)
     (accepted : AcceptedRay ray) where
   abbrev n : ℕ
   n = length indices
@@ -76,12 +77,12 @@ module _ {bytes indices : List ℕ} {panes : List Float} {d : ℕ} {ray : Ray} (
   abbrev entersAt : ℕ → Float
   entersAt = distanceOf indices panes ray
 
-  abbrev T : Tests Beam Float
-  T = testsOf (slotsAt bytes beams n)
+  abbrev T : Tests WalkRay Float
+  T = testsOf (slotsAt bytes byBoxes n)
 
   -- the reactions of the two queries
   abbrev React : Type 0
-  React = ℕ → Beam → Found Float → Reaction Float (Found Float)
+  React = ℕ → WalkRay → Found Float → Reaction Float (Found Float)
 
   abbrev near : React
   near = closest (paneOf indices panes) nearer
@@ -97,11 +98,11 @@ module _ {bytes indices : List ℕ} {panes : List Float} {d : ℕ} {ray : Ray} (
       sym (entry-none (eqb (length panes % 6) 0) (length bytes) n 0 ray (eq-eqb (length panes % 6) 0 (fine .whole))
       (record { whole = good .layout; few = good .positions; small = good .nodes }) refl (accepted .accepted))
 
-  not-refused : (react : React) → Ended (queryAt bytes beams react none n (beamOf ray) .ended)
+  not-refused : (react : React) → Ended (queryAt bytes byBoxes react none n (walkRay ray) .ended)
   not-refused react = query-not-refused good accepted react none
 
   -- each position reported has a pane at its distance
-  seen : (p : ℕ) → p < n → Seen (paneOf indices panes) Number entersAt (beamOf ray) p
+  seen : (p : ℕ) → p < n → Seen (paneOf indices panes) Number entersAt (walkRay ray) p
   unfolding paneOf
   seen p h =
       let there = fine .named p h in
@@ -111,7 +112,7 @@ module _ {bytes indices : List ℕ} {panes : List Float} {d : ℕ} {ray : Ray} (
         number = distance-known accepted _ box;
       }
 
-  all-seen : (react : React) → All (Seen (paneOf indices panes) Number entersAt (beamOf ray)) (reported (answersMade bytes n ray react none))
+  all-seen : (react : React) → All (Seen (paneOf indices panes) Number entersAt (walkRay ray)) (reported (answersMade bytes n ray react none))
   all-seen react =
       all-map seen (reported (answersMade bytes n ray react none))
       (reported-exist bytes (good .layout) (good .are-bytes) n accepted react none)
@@ -119,17 +120,17 @@ module _ {bytes indices : List ℕ} {panes : List Float} {d : ℕ} {ray : Ray} (
   -- ---- closest
 
   closest-is : closestOf bytes indices panes ray
-      ≡ closestFound (closestWalk bytes indices panes ray .noted) (closestWalk bytes indices panes ray .walker .tests)
+      ≡ closestFound (closestWalk bytes indices panes ray .accumulator) (closestWalk bytes indices panes ray .walker .tests)
   unfolding closestOf closestWalk
   closest-is =
       found-at-end refusedClosest closestFound (paneCause bytes indices panes ray) (closestWalk bytes indices panes ray)
       (closestWalk bytes indices panes ray .ended) no-cause (not-refused near)
 
-  closest-picked : Picks lt entersAt (ray .tmax) none (closestWalk bytes indices panes ray .noted) (closestReports bytes indices panes ray)
+  closest-picked : Picks lt entersAt (ray .tmax) none (closestWalk bytes indices panes ray .accumulator) (closestReports bytes indices panes ray)
   unfolding closestWalk
   closest-picked =
       closest-picks (nodeCount bytes) T (paneOf indices panes) nearer lt (λ b. b .ray .tmax) (panes-reached indices panes) Number distances-ordered
-      entersAt (closestReports bytes indices panes ray) (beamOf ray) none _ (all-seen near)
+      entersAt (closestReports bytes indices panes ray) (walkRay ray) none _ (all-seen near)
       (query-noted bytes (good .layout) (good .are-bytes) n accepted near none)
 
   closest-tests : closestWalk bytes indices panes ray .walker .tests ≡ length (testedNodes (closestSteps bytes indices panes ray))
@@ -180,17 +181,18 @@ module _ {bytes indices : List ℕ} {panes : List Float} {d : ℕ} {ray : Ray} (
 
   -- ---- miss
 
-  miss-is : missOf bytes indices panes ray ≡ missFound (missWalk bytes indices panes ray .noted) (missWalk bytes indices panes ray .walker .tests)
+  miss-is : missOf bytes indices panes ray ≡ missFound (missWalk bytes indices panes ray .accumulator)
+      (missWalk bytes indices panes ray .walker .tests)
   unfolding missOf missWalk
   miss-is =
       found-at-end refusedMiss missFound (paneCause bytes indices panes ray) (missWalk bytes indices panes ray)
       (missWalk bytes indices panes ray .ended) no-cause (not-refused block)
 
-  miss-stopped : Stops lt entersAt (ray .tmax) none (missWalk bytes indices panes ray .noted) (missReports bytes indices panes ray)
+  miss-stopped : Stops lt entersAt (ray .tmax) none (missWalk bytes indices panes ray .accumulator) (missReports bytes indices panes ray)
   unfolding missWalk
   miss-stopped =
       miss-stops (nodeCount bytes) T (paneOf indices panes) nearer lt (λ b. b .ray .tmax) (panes-reached indices panes) Number distances-ordered
-      entersAt (missReports bytes indices panes ray) (beamOf ray) none _ (all-seen block)
+      entersAt (missReports bytes indices panes ray) (walkRay ray) none _ (all-seen block)
       (query-noted bytes (good .layout) (good .are-bytes) n accepted block none)
 
   miss-tests : missWalk bytes indices panes ray .walker .tests ≡ length (testedNodes (missSteps bytes indices panes ray))
@@ -201,7 +203,7 @@ module _ {bytes indices : List ℕ} {panes : List Float} {d : ℕ} {ray : Ray} (
   as-closest =
       miss-closest bytes (good .layout) (good .are-bytes) n accepted (paneOf indices panes) nearer
       ∙ stops-below (nodeCount bytes) T (paneOf indices panes) nearer lt (λ b. b .ray .tmax) (panes-reached indices panes) Number distances-ordered
-      entersAt (closestReports bytes indices panes ray) (beamOf ray) (all-seen near)
+      entersAt (closestReports bytes indices panes ray) (walkRay ray) (all-seen near)
 
   -- no position that miss reports is below the reach exactly if closest has no hit
   none-reported : NoneBelow lt entersAt (ray .tmax) (missReports bytes indices panes ray) ↔ closestOf bytes indices panes ray .answer ≡ noHit

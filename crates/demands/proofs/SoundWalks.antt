@@ -19,45 +19,45 @@ use Rattle.walk.specs.Queries.{Reaction, Ended}
 use Rattle.walk.specs.WordStep.{RunWords, freshWords}
 use Rattle.walk.specs.WordQueries.{decodedOutcome}
 use Rattle.walk.proofs.AnyHit.{Meets}
-use Rattle.walk_record.specs.Beam.{Beam, beamOf, beams}
+use Rattle.walk_record.specs.WalkRay.{WalkRay, walkRay, byBoxes}
 use Rattle.walk_record.specs.Record.{nodeWordsAt}
 use Rattle.walk_record.specs.Walk.{runAt, queryAt, anyHitAt, listingAt, Reached, Passed}
-use Rattle.walk_record.proofs.Beam.{beam-laws, beams-present}
+use Rattle.walk_record.proofs.WalkRay.{walk-ray-laws, by-boxes-present}
 use Rattle.walk_record.proofs.Laws.{bytes-fit}
 use Rattle.walk_record.proofs.Reach.{told-passes-fewer}
 use Rattle.walk_record.proofs.Demands.{SoundWalk}
 use Rattle.walk_record.proofs.Demands as W
 use Rattle.traverse.proofs.Calls.{run-started}
-use Rattle.demands.specs.Walks.{Good, AcceptedRay, Calls, run, found, Lists, Walks}
+use Rattle.demands.specs.Walks.{CheckedRecord, AcceptedRay, Calls, run, found, AnyHitLists, Walks}
 use Rattle.demands.proofs.Rays.{not-forged}
 use Rattle.demands.proofs.Listed.{answers-listed, list-found}
 
 -- A record, a list of bytes, that the record check finds sound is such a record.
-pub checked-good : (bytes : List ℕ) → ((i : ℕ) → getD bytes i 0 < 256) → (n d words : ℕ) → checkOf bytes n words ≡ sound d → Good bytes n d
+pub checked-good : (bytes : List ℕ) → ((i : ℕ) → getD bytes i 0 < 256) → (n d words : ℕ) → checkOf bytes n words ≡ sound d → CheckedRecord bytes n d
 checked-good bytes are-bytes n d words e =
     let h = sound-iff bytes n words d .0 e in
     let f = fits (length bytes) n words (h .0) .sizes in
     record { sound = h .1; deepest = h .2; layout = f .whole; nodes = f .small; positions = f .few; are-bytes = are-bytes }
 
-module _ {bytes : List ℕ} {n d : ℕ} {ray : Ray} (good : Good bytes n d) (accepted : AcceptedRay ray) where
-  walk : SoundWalk (nodesAt bytes) beams n (beamOf ray)
+module _ {bytes : List ℕ} {n d : ℕ} {ray : Ray} (good : CheckedRecord bytes n d) (accepted : AcceptedRay ray) where
+  walk : SoundWalk (nodesAt bytes) byBoxes n (walkRay ray)
   walk = record {
-    rays = beam-laws;
+    rays = walk-ray-laws;
     fields = bytes-fit bytes (good .are-bytes);
     sound = good .sound;
     nodes = good .nodes;
     positions = good .positions;
-    present = beams-present n;
+    present = by-boxes-present n;
     accepted = not-forged accepted;
   }
 
   -- what holds of the run in words holds of the run of the public calls
-  by-run : (P : RunWords Beam → Type 0) (l : Calls) → P (runAt bytes beams l (freshWords (beamOf ray))) → P (run bytes ray l)
+  by-run : (P : RunWords WalkRay → Type 0) (l : Calls) → P (runAt bytes byBoxes l (freshWords (walkRay ray))) → P (run bytes ray l)
   by-run P l = subst P (sym (run-started bytes (good .layout) ray (accepted .accepted) l))
 
   -- ---- any-hit
-  met : Meets n (listingAt bytes beams n (beamOf ray)) (Reached bytes n ray) (Passed bytes n ray)
-      (decodedOutcome (nodeWordsAt bytes beams) (anyHitAt bytes beams n (beamOf ray)))
+  met : Meets n (listingAt bytes byBoxes n (walkRay ray)) (Reached bytes n ray) (Passed bytes n ray)
+      (decodedOutcome (nodeWordsAt bytes byBoxes) (anyHitAt bytes byBoxes n (walkRay ray)))
   unfolding anyHitAt
   met = W.any-hit-meets walk
 
@@ -73,7 +73,7 @@ module _ {bytes : List ℕ} {n d : ℕ} {ray : Ray} (good : Good bytes n d) (acc
       go (some z) = absurd (q (met .exact p .0 z))
 
   -- with room for what is found
-  with-room : (before : List ℕ) → length (found bytes ray n) ≤ length before → Lists bytes ray n before
+  with-room : (before : List ℕ) → length (found bytes ray n) ≤ length before → AnyHitLists bytes ray n before
   with-room before room =
       let same = list-found good accepted before (met .ends) room in
       record {
@@ -102,6 +102,7 @@ module _ {bytes : List ℕ} {n d : ℕ} {ray : Ray} (good : Good bytes n d) (acc
 
   -- ---- any query
   -- Its walk is not refused: it ends with done, or where the query stops it at a position.
-  pub query-not-refused : {a : Type 0} (react : ℕ → Beam → a → Reaction Float a) (x : a) → Ended (queryAt bytes beams react x n (beamOf ray) .ended)
+  pub query-not-refused : {a : Type 0} (react : ℕ → WalkRay → a → Reaction Float a) (x : a)
+      → Ended (queryAt bytes byBoxes react x n (walkRay ray) .ended)
   unfolding queryAt
   query-not-refused react x = W.query-answered walk react x

@@ -6,7 +6,7 @@ use Prim.Native.Nat.{ℕ, zero, suc, _*_}
 use lib.ListN.{take}
 use Rattle.bvh2.specs.Tree.{positions}
 use Rattle.bvh2.specs.Words.{treeOf}
-pub use Rattle.tables.specs.Call.{Call, leafCount}
+pub use Rattle.bvh2_tables.specs.Call.{Call, leafCount}
 use Rattle.bvh2_to_cwbvh.specs.Conversion.{converted, conversionOf}
 pub use Rattle.bvh2_to_cwbvh.specs.Conversion.{definedRecord, definedNodes, definedList, deepestLevel, Convertible}
 

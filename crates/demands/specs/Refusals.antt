@@ -5,7 +5,7 @@ use Rattle.causes.specs.Causes.{First}
 use Rattle.soundness.specs.Shape.{Level}
 use Rattle.record_shape.specs.Record.{nodeCount, shapeAt}
 use Rattle.bvh2.specs.Causes.{Cause, Accepted}
-use Rattle.tables.specs.Tables.{tableSize, recordSize}
+use Rattle.bvh2_tables.specs.Tables.{tableSize, recordSize}
 use Rattle.demands.specs.Call.{Call, leafCount, definedRecord}
 
 -- Some node of the record that the definition gives has a level over 31 (01, "Words, bytes and bounds"): by the record's bytes, level 0 is the first

@@ -12,10 +12,10 @@ use Rattle.ray.specs.declared.Ray.{Ray}
 use Rattle.ray.specs.Ray.{rayOf, acceptedRay}
 use Rattle.record_shape.specs.Record.{nodeCount, SoundRecord, DeepestLevel}
 use Rattle.walk.specs.Step.{Answer, tested, position, done, refused}
-use Rattle.walk.specs.Calls.{All, Op, reported, Answered, Brings}
+use Rattle.walk.specs.Calls.{All, Op, reported, Answered, StepsWith}
 use Rattle.walk.specs.Listing.{In}
 use Rattle.walk.specs.WordStep.{RunWords}
-use Rattle.walk_record.specs.Beam.{Beam, beamOf, beams}
+use Rattle.walk_record.specs.WalkRay.{WalkRay, walkRay, byBoxes}
 use Rattle.walk_record.specs.Walk.{anyHitAt, listingAt, Reached, Passed}
 use Rattle.traverse.specs.Walker.{started}
 use Rattle.traverse.specs.Calls.{runBytes}
@@ -34,7 +34,7 @@ DoneStays [] = Unit {0}
 DoneStays (a ∷ l) = (a ≡ done → All DoneOrRefused l) × DoneStays l
 
 -- a sound record of n positions with deepest level d, of sizes that the record check takes; each member is a byte, as in any slice of bytes
-pub record Good (bytes : List ℕ) (n d : ℕ) : Type 0 where
+pub record CheckedRecord (bytes : List ℕ) (n d : ℕ) : Type 0 where
   pub sound : SoundRecord bytes n
   pub deepest : DeepestLevel bytes n d
   pub layout : length bytes % 80 ≡ 0
@@ -60,7 +60,7 @@ Calls = List (Op Float)
 module _ (bytes : List ℕ) (ray : Ray) where
   -- the run of a list of calls on the record, from the walker that `Walker::new` promises: each call takes the walker that the last left, and a
   -- refused step leaves the one that it took
-  abbrev pub run : Calls → RunWords Beam
+  abbrev pub run : Calls → RunWords WalkRay
   run l = runBytes bytes l (started ray .walker)
 
   -- the answers of its steps
@@ -80,10 +80,10 @@ module _ (bytes : List ℕ) (ray : Ray) where
 
     -- the positions that any-hit's walk finds, and the node tests that it counts
     abbrev pub found : List ℕ
-    found = anyHitAt bytes beams n (beamOf ray) .noted
+    found = anyHitAt bytes byBoxes n (walkRay ray) .accumulator
 
     abbrev pub counted : ℕ
-    counted = anyHitAt bytes beams n (beamOf ray) .walker .tests
+    counted = anyHitAt bytes byBoxes n (walkRay ray) .walker .tests
 
     -- room for any list of positions that the ray passes, each once: a list is long enough exactly if all of them fit
     abbrev pub LongEnough : ℕ → Type 0
@@ -95,9 +95,9 @@ module _ (bytes : List ℕ) (ray : Ray) where
 
     -- The answer and the list of the public call, for a list as it was before: so many positions after so many tests. They are the first node's
     -- listing; each position passed stands among them once, and no other; and the tests are as many as the nodes reached.
-    pub record Lists (before : List ℕ) : Type 0 where
+    pub record AnyHitLists (before : List ℕ) : Type 0 where
       pub answer : anyHitOf bytes n ray (length before) ≡ record { answer = listed (length found); tests = counted }
-      pub listing : listLeft before ≡ listingAt bytes beams n (beamOf ray)
+      pub listing : listLeft before ≡ listingAt bytes byBoxes n (walkRay ray)
       pub passed-once : (p : ℕ) → Passed bytes n ray p → count p (listLeft before) ≡ 1
       pub no-other : (p : ℕ) → ¬ (Passed bytes n ray p) → count p (listLeft before) ≡ 0
       pub reached : List ℕ
@@ -116,9 +116,9 @@ module _ (bytes : List ℕ) (ray : Ray) where
       -- the waiting groups of the walker then held don't outnumber the deepest level,
       pub groups-within-level : (l : Calls) → waiting l ≤ deepest
       -- and where each step brings the record's own count of positions none is refused.
-      pub no-step-refused : (l : Calls) → All (Brings n) l → All Answered (answers l)
+      pub no-step-refused : (l : Calls) → All (StepsWith n) l → All Answered (answers l)
       -- With a list that has room for all passed positions any-hit is not refused; its list has a position exactly when the ray passes every slot
       -- box down to it, once each; and the node tests that it counted are as many as the nodes so reached.
-      pub any-hit-lists : (before : List ℕ) → LongEnough (length before) → Lists before
+      pub any-hit-lists : (before : List ℕ) → LongEnough (length before) → AnyHitLists before
       -- A list with room for every position is long enough.
-      pub any-hit-lists-all : (before : List ℕ) → n ≤ length before → Lists before
+      pub any-hit-lists-all : (before : List ℕ) → n ≤ length before → AnyHitLists before

@@ -7,9 +7,9 @@ use lib.ListN.{length, getD, set, length-append}
 use Rattle.lists.specs.Splice.{splice}
 use Rattle.lists.proofs.Splice.{splice-next, set-splice}
 use Rattle.bvh2.specs.Tree.{Tree, leaf, inner, leaves, positions}
-use Rattle.bvh2.specs.Words.{nodeCount, wordAt, treeAt}
+use Rattle.bvh2.specs.Words.{treeNodes, wordAt, treeAt}
 use Rattle.bvh2.proofs.Subtree.{at-leaf, at-inner}
-use Rattle.wide.specs.Layout.{wordsAt}
+use Rattle.wide_layout.specs.Layout.{wordsAt}
 use Rattle.emit.specs.Leaves.{LeavesReady, LeavesWritten}
 
 -- as many positions as leaves
@@ -25,7 +25,7 @@ words-length indices (p ∷ ps) = ap suc (words-length indices ps)
 -- ---- an inner node
 pub record Down (ws : List ℕ) (n m at depth v f : ℕ) : Type 0 where
   pub deep : 0 < depth
-  pub second : f + 1 < nodeCount n
+  pub second : f + 1 < treeNodes n
   pub few : n ≤ 65536
   pub left : LeavesReady ws n m at (depth - 1) f
   pub right : LeavesReady ws n m (at + leaves (treeAt ws (depth - 1) f)) (depth - 1) (f + 1)

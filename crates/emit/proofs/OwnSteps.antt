@@ -17,7 +17,7 @@ use borrow.Author.Tests.{eq-eqb, ne-eqb}
 use Rattle.lists.specs.Splice.{splice}
 use Rattle.bvh2.specs.Tree.{Tree, leaves, positions}
 use Rattle.bvh2.specs.Words.{boxAt, treeAt}
-use Rattle.wide.specs.Layout.{wordsAt}
+use Rattle.wide_layout.specs.Layout.{wordsAt}
 use Rattle.record.specs.Record.{leafMeta, gridBox}
 use Rattle.node.specs.declared.Slot.{Slot}
 use Rattle.node.specs.declared.Node.{Node}
@@ -25,7 +25,8 @@ use Rattle.emit.specs.declared.Grid.{Grid}
 use Rattle.emit.specs.declared.Held.{Held}
 use Rattle.emit.specs.Grid.{gridOf}
 use Rattle.emit.specs.Leaves.{LeavesReady}
-use Rattle.emit.specs.Own.{Cell, none, asLeaf, asNode, cellBy, cellOf, CellReady, SlotReady, Own, State, made, heldIn, listWith, withHeld, withChild, firstSlots, nodeBuilt}
+use Rattle.emit.specs.Own.{Cell, none, asLeaf, asNode, cellBy, cellOf, CellReady, SlotReady, Own, OwnState, made, heldIn, leafWordsIn}
+use Rattle.emit.specs.Own.{withHeld, withChild, firstSlots, nodeBuilt}
 
 pub cell-none : (ws decisions : List ℕ) (depth v : ℕ) → v ≡ 0xffff_ffff → cellOf ws decisions depth v ≡ none
 unfolding cellOf
@@ -56,20 +57,22 @@ module _ (ws decisions : List ℕ) (depth v : ℕ) (child : v ≡ 0xffff_ffff �
       (record { tree = r .tree child; room = k .0 }, k)
 
 -- ---- what the slot of a leaf child holds
-pub leaf-held : (b c : Aabb) (start i at next meta : ℕ) (t : Tree ℕ) (x : Slot) (cell : Cell) → cell ≡ asLeaf c t → next ≡ at + leaves t → meta ≡ leafMeta (next - at) (at - start) → x ≡ gridBox b c
+pub leaf-held : (b c : Aabb) (start i at next meta : ℕ) (t : Tree ℕ) (x : Slot) (cell : Cell) → cell ≡ asLeaf c t → next ≡ at + leaves t → meta
+    ≡ leafMeta (next - at) (at - start) → x ≡ gridBox b c
     → record { meta = meta; corners = x; bit = 0; inner = 0; at = next } ≡ heldIn b start i at cell
 unfolding heldIn
 leaf-held b c start i at next meta t x cell e n m g =
     let d : next - at ≡ leaves t = omega arith in
     rw (e, m, d, n, g)
 
-pub leaf-listed : (indices list after : List ℕ) (at : ℕ) (c : Aabb) (t : Tree ℕ) (cell : Cell) → cell ≡ asLeaf c t → after ≡ splice list at (wordsAt indices (positions t)) → after ≡ listWith indices at cell list
-unfolding listWith
+pub leaf-listed : (indices list after : List ℕ) (at : ℕ) (c : Aabb) (t : Tree ℕ) (cell : Cell) → cell ≡ asLeaf c t → after
+    ≡ splice list at (wordsAt indices (positions t)) → after ≡ leafWordsIn indices at cell list
+unfolding leafWordsIn
 leaf-listed indices list after at c t cell e w = rw e w
 
 -- ---- the first k slots
 module _ (indices : List ℕ) (b : Aabb) (start : ℕ) (cell : ℕ → Cell) (list : List ℕ) where
-  one-bounds : (k : ℕ) (c : Cell) (s : State) → s .own .imask < 2 ^ k → s .own .inner ≤ k
+  one-bounds : (k : ℕ) (c : Cell) (s : OwnState) → s .own .imask < 2 ^ k → s .own .inner ≤ k
       → (withChild indices b start k c s .own .imask < 2 ^ suc k) × (withChild indices b start k c s .own .inner ≤ suc k)
   unfolding withChild heldIn
   one-bounds k none s h l = let e = pow-succ' 2 k in (omega arith, omega arith)
@@ -81,7 +84,8 @@ module _ (indices : List ℕ) (b : Aabb) (start : ℕ) (cell : ℕ → Cell) (li
   first-bounds zero = (omega arith, omega arith)
   first-bounds (suc k) = let h = first-bounds k in one-bounds k (cell k) (firstSlots indices b start cell k list) (h .0) (h .1)
 
-  pub first-next : (k : ℕ) (o : Own) (l l₁ : List ℕ) (h : Held) → made o l ≡ firstSlots indices b start cell k list → h ≡ heldIn b start k (o .at) (cell k) → l₁ ≡ listWith indices (o .at) (cell k) l
+  pub first-next : (k : ℕ) (o : Own) (l l₁ : List ℕ) (h : Held) → made o l ≡ firstSlots indices b start cell k list → h
+      ≡ heldIn b start k (o .at) (cell k) → l₁ ≡ leafWordsIn indices (o .at) (cell k) l
       → made (withHeld k h o) l₁ ≡ firstSlots indices b start cell (suc k) list
   unfolding firstSlots withChild
   first-next k o l l₁ h e f g =

@@ -13,14 +13,15 @@ use Rattle.lists.proofs.Splice.{written-next, splice-none}
 use Rattle.aabb.specs.declared.Aabb.{Aabb}
 use Rattle.bvh2.specs.Tree.{leaves, positions}
 use Rattle.node.specs.Node.{noSlot}
-use Rattle.wide.specs.Wide.{Slots}
-use Rattle.wide.specs.Sizes.{innerChildren, innerBefore, ownCount, ownBefore, ownPositions}
-use Rattle.wide.proofs.Sizes.{own-inside}
+use Rattle.wide_layout.specs.Wide.{Slots}
+use Rattle.wide_layout.specs.Sizes.{innerChildren, innerBefore, ownCount, ownBefore, ownPositions}
+use Rattle.wide_layout.proofs.Sizes.{own-inside}
 use Rattle.record.specs.Record.{metas, innerMask, gridBoxes, leafMeta, innerMeta, gridBox}
-use Rattle.record.specs.Children.{Child, childAt, childMeta, childBytes, childBit, childPositions, childInner, bitsBefore, positionsBefore}
-use Rattle.record.proofs.Children.{metas-length, boxes-length, meta-at, bytes-at, mask-all, bits-next, positions-all, positions-next, own-next, inner-next, own-all, inner-all, own-first, before-length}
-use Rattle.wide.specs.Layout.{wordsAt}
-use Rattle.emit.specs.Own.{Cell, none, asLeaf, asNode, State, begin, heldIn, listWith, withChild, firstSlots, Matches}
+use Rattle.record.specs.Children.{Content, contentAt, childMeta, childBytes, childBit, childPositions, childInner, bitsBefore, positionsBefore}
+use Rattle.record.proofs.Children.{metas-length, boxes-length, meta-at, bytes-at, mask-all, bits-next, positions-all, positions-next, own-next}
+use Rattle.record.proofs.Children.{inner-next, own-all, inner-all, own-first, before-length}
+use Rattle.wide_layout.specs.Layout.{wordsAt}
+use Rattle.emit.specs.Own.{Cell, none, asLeaf, asNode, OwnState, begin, heldIn, leafWordsIn, withChild, firstSlots, Matches}
 use Rattle.emit.proofs.LeafSteps.{positions-length, words-length}
 
 -- ---- lists of eight filled from the front
@@ -55,9 +56,9 @@ module _ {A : Type 0} (z : A) (f : ℕ → A) where
   filled-all x y e g h = ext-getD z x y (h .size ∙ sym e) (λ i l. let j : i < 8 = omega (arith, h .size) in h .before i j ∙ sym (g i j))
 
 -- ---- the first k slots
-pub record Upto (indices : List ℕ) (b : Aabb) (start : ℕ) (s : Slots 8) (before : List ℕ) (k : ℕ) (z : State) : Type 0 where
-  pub metas : Filled 0 (λ i. childMeta (childAt s i) i (ownBefore s i)) k (z .own .metas)
-  pub boxes : Filled noSlot (λ i. childBytes b (childAt s i)) k (z .own .boxes)
+pub record Upto (indices : List ℕ) (b : Aabb) (start : ℕ) (s : Slots 8) (before : List ℕ) (k : ℕ) (z : OwnState) : Type 0 where
+  pub metas : Filled 0 (λ i. childMeta (contentAt s i) i (ownBefore s i)) k (z .own .metas)
+  pub boxes : Filled noSlot (λ i. childBytes b (contentAt s i)) k (z .own .boxes)
   pub mask : z .own .imask ≡ bitsBefore s 0 k
   pub inner : z .own .inner ≡ innerBefore s k
   pub at : z .own .at ≡ start + ownBefore s k
@@ -67,35 +68,38 @@ module _ (indices : List ℕ) (b : Aabb) (start : ℕ) (s : Slots 8) (before : L
   begun : Upto indices b start s before 0 (record { own = begin start; list = before })
   unfolding bitsBefore positionsBefore
   begun = record {
-    metas = filled-none 0 (λ i. childMeta (childAt s i) i (ownBefore s i));
-    boxes = filled-none noSlot (λ i. childBytes b (childAt s i));
+    metas = filled-none 0 (λ i. childMeta (contentAt s i) i (ownBefore s i));
+    boxes = filled-none noSlot (λ i. childBytes b (contentAt s i));
     mask = refl;
     inner = sym (own-first s .1);
     at = omega (arith, own-first s .0);
     list = sym (splice-none before start);
   }
 
-  step : (k : ℕ) (c : Cell) (z : State) → k < 8 → Matches c (childAt s k) → Upto indices b start s before k z → Upto indices b start s before (suc k) (withChild indices b start k c z)
-  unfolding withChild heldIn listWith Matches childMeta childBytes childBit childPositions childInner
+  step : (k : ℕ) (c : Cell) (z : OwnState) → k < 8 → Matches c (contentAt s k) → Upto indices b start s before k z
+      → Upto indices b start s before (suc k) (withChild indices b start k c z)
+  unfolding withChild heldIn leafWordsIn Matches childMeta childBytes childBit childPositions childInner
   step k none z l m h = record {
-    metas = filled-set 0 (λ i. childMeta (childAt s i) i (ownBefore s i)) k (z .own .metas) 0 l (ap (λ (d : Child). childMeta d k (ownBefore s k)) (sym m)) (h .metas);
-    boxes = filled-set noSlot (λ i. childBytes b (childAt s i)) k (z .own .boxes) noSlot l (ap (childBytes b) (sym m)) (h .boxes);
-    mask = omega (arith, h .mask, bits-next s 0 k, ap (λ (d : Child). childBit d (0 + k)) m);
+    metas = filled-set 0 (λ i. childMeta (contentAt s i) i (ownBefore s i)) k (z .own .metas) 0 l
+        (ap (λ (d : Content). childMeta d k (ownBefore s k)) (sym m)) (h .metas);
+    boxes = filled-set noSlot (λ i. childBytes b (contentAt s i)) k (z .own .boxes) noSlot l (ap (childBytes b) (sym m)) (h .boxes);
+    mask = omega (arith, h .mask, bits-next s 0 k, ap (λ (d : Content). childBit d (0 + k)) m);
     inner = omega (arith, h .inner, inner-next s k, ap childInner m);
-    at = omega (arith, h .at, own-next s k, ap (λ (d : Child). length (childPositions d)) m);
+    at = omega (arith, h .at, own-next s k, ap (λ (d : Content). length (childPositions d)) m);
     list =
         h .list
-        ∙ ap (λ (ps : List ℕ). splice before start (wordsAt indices ps)) (sym (positions-next s k ∙ ap (λ (d : Child). positionsBefore s k ++ childPositions d) m ∙ append-nil (positionsBefore s k)));
+        ∙ ap (λ (ps : List ℕ). splice before start (wordsAt indices ps))
+        (sym (positions-next s k ∙ ap (λ (d : Content). positionsBefore s k ++ childPositions d) m ∙ append-nil (positionsBefore s k)));
   }
   step k (asLeaf c t) z l m h =
-      let p = own-next s k ∙ ap (λ (d : Child). ownBefore s k + length (childPositions d)) m in
+      let p = own-next s k ∙ ap (λ (d : Content). ownBefore s k + length (childPositions d)) m in
       let q = positions-length t in
       let fits : start + (ownBefore s k + leaves t) ≤ length before = omega (arith, p, q, own-inside s (suc k)) in
       record {
-        metas = filled-set 0 (λ i. childMeta (childAt s i) i (ownBefore s i)) k (z .own .metas) (leafMeta (leaves t) (z .own .at - start)) l
-            (ap₂ leafMeta (sym q) (omega (arith, h .at)) ∙ ap (λ (d : Child). childMeta d k (ownBefore s k)) (sym m)) (h .metas);
-        boxes = filled-set noSlot (λ i. childBytes b (childAt s i)) k (z .own .boxes) (gridBox b c) l (ap (childBytes b) (sym m)) (h .boxes);
-        mask = omega (arith, h .mask, bits-next s 0 k, ap (λ (d : Child). childBit d (0 + k)) m);
+        metas = filled-set 0 (λ i. childMeta (contentAt s i) i (ownBefore s i)) k (z .own .metas) (leafMeta (leaves t) (z .own .at - start)) l
+            (ap₂ leafMeta (sym q) (omega (arith, h .at)) ∙ ap (λ (d : Content). childMeta d k (ownBefore s k)) (sym m)) (h .metas);
+        boxes = filled-set noSlot (λ i. childBytes b (contentAt s i)) k (z .own .boxes) (gridBox b c) l (ap (childBytes b) (sym m)) (h .boxes);
+        mask = omega (arith, h .mask, bits-next s 0 k, ap (λ (d : Content). childBit d (0 + k)) m);
         inner = omega (arith, h .inner, inner-next s k, ap childInner m);
         at = omega (arith, h .at, p, q);
         list =
@@ -104,29 +108,32 @@ module _ (indices : List ℕ) (b : Aabb) (start : ℕ) (s : Slots 8) (before : L
             (words-length indices (positionsBefore s k) ∙ before-length s k) (words-length indices (positions t) ∙ q) fits (h .list)
             (ap (λ (j : ℕ). splice (z .list) j (wordsAt indices (positions t))) (h .at))
             ∙ ap (splice before start) (sym (map-append (λ p. getD indices p 0) (positionsBefore s k) (positions t)))
-            ∙ ap (λ (ps : List ℕ). splice before start (wordsAt indices ps)) (sym (positions-next s k ∙ ap (λ (d : Child). positionsBefore s k ++ childPositions d) m));
+            ∙ ap (λ (ps : List ℕ). splice before start (wordsAt indices ps))
+            (sym (positions-next s k ∙ ap (λ (d : Content). positionsBefore s k ++ childPositions d) m));
       }
   step k (asNode c) z l m h =
       let e = m .1 in
       record {
-        metas = filled-set 0 (λ i. childMeta (childAt s i) i (ownBefore s i)) k (z .own .metas) (innerMeta k) l (ap (λ (d : Child). childMeta d k (ownBefore s k)) (sym e)) (h .metas);
-        boxes = filled-set noSlot (λ i. childBytes b (childAt s i)) k (z .own .boxes) (gridBox b c) l (ap (childBytes b) (sym e)) (h .boxes);
-        mask = omega (arith, h .mask, bits-next s 0 k, ap (λ (d : Child). childBit d (0 + k)) e, ap (λ (j : ℕ). 2 ^ j) (zero-add k));
+        metas = filled-set 0 (λ i. childMeta (contentAt s i) i (ownBefore s i)) k (z .own .metas) (innerMeta k) l
+            (ap (λ (d : Content). childMeta d k (ownBefore s k)) (sym e)) (h .metas);
+        boxes = filled-set noSlot (λ i. childBytes b (contentAt s i)) k (z .own .boxes) (gridBox b c) l (ap (childBytes b) (sym e)) (h .boxes);
+        mask = omega (arith, h .mask, bits-next s 0 k, ap (λ (d : Content). childBit d (0 + k)) e, ap (λ (j : ℕ). 2 ^ j) (zero-add k));
         inner = omega (arith, h .inner, inner-next s k, ap childInner e);
-        at = omega (arith, h .at, own-next s k, ap (λ (d : Child). length (childPositions d)) e);
+        at = omega (arith, h .at, own-next s k, ap (λ (d : Content). length (childPositions d)) e);
         list =
             h .list
-            ∙ ap (λ (ps : List ℕ). splice before start (wordsAt indices ps)) (sym (positions-next s k ∙ ap (λ (d : Child). positionsBefore s k ++ childPositions d) e ∙ append-nil (positionsBefore s k)));
+            ∙ ap (λ (ps : List ℕ). splice before start (wordsAt indices ps))
+            (sym (positions-next s k ∙ ap (λ (d : Content). positionsBefore s k ++ childPositions d) e ∙ append-nil (positionsBefore s k)));
       }
 
-  module _ (cell : ℕ → Cell) (matches : (k : ℕ) → k < 8 → Matches (cell k) (childAt s k)) where
+  module _ (cell : ℕ → Cell) (matches : (k : ℕ) → k < 8 → Matches (cell k) (contentAt s k)) where
     pub first-upto : (k : ℕ) → k ≤ 8 → Upto indices b start s before k (firstSlots indices b start cell k before)
     unfolding firstSlots
     first-upto zero h = begun
     first-upto (suc k) h = step k (cell k) (firstSlots indices b start cell k before) h (matches k h) (first-upto k (omega arith))
 
 -- ---- all eight
-pub record Entered (indices : List ℕ) (b : Aabb) (start : ℕ) (s : Slots 8) (before : List ℕ) (z : State) : Type 0 where
+pub record Entered (indices : List ℕ) (b : Aabb) (start : ℕ) (s : Slots 8) (before : List ℕ) (z : OwnState) : Type 0 where
   pub metas : z .own .metas ≡ metas s 0 0
   pub boxes : z .own .boxes ≡ gridBoxes b s
   pub mask : z .own .imask ≡ innerMask s 0
@@ -135,14 +142,15 @@ pub record Entered (indices : List ℕ) (b : Aabb) (start : ℕ) (s : Slots 8) (
   pub list : z .list ≡ splice before start (wordsAt indices (ownPositions s))
 
 pub all-slots : (indices : List ℕ) (b : Aabb) (start : ℕ) (s : Slots 8) (before : List ℕ) → start + ownCount s ≤ length before → (cell : ℕ → Cell)
-    → ((k : ℕ) → k < 8 → Matches (cell k) (childAt s k)) → Entered indices b start s before (firstSlots indices b start cell 8 before)
+    → ((k : ℕ) → k < 8 → Matches (cell k) (contentAt s k)) → Entered indices b start s before (firstSlots indices b start cell 8 before)
 all-slots indices b start s before room cell matches =
     let h = first-upto indices b start s before room cell matches 8 (omega arith) in
     let z = firstSlots indices b start cell 8 before in
     record {
-      metas = filled-all 0 (λ i. childMeta (childAt s i) i (ownBefore s i)) (z .own .metas) (metas s 0 0) (metas-length s 0 0)
-          (λ i l. meta-at s 0 0 i l ∙ ap₂ (λ (j o : ℕ). childMeta (childAt s i) j o) (zero-add i) (zero-add (ownBefore s i))) (h .metas);
-      boxes = filled-all noSlot (λ i. childBytes b (childAt s i)) (z .own .boxes) (gridBoxes b s) (boxes-length b s) (λ i l. bytes-at b s i) (h .boxes);
+      metas = filled-all 0 (λ i. childMeta (contentAt s i) i (ownBefore s i)) (z .own .metas) (metas s 0 0) (metas-length s 0 0)
+          (λ i l. meta-at s 0 0 i l ∙ ap₂ (λ (j o : ℕ). childMeta (contentAt s i) j o) (zero-add i) (zero-add (ownBefore s i))) (h .metas);
+      boxes = filled-all noSlot (λ i. childBytes b (contentAt s i)) (z .own .boxes) (gridBoxes b s) (boxes-length b s) (λ i l. bytes-at b s i)
+          (h .boxes);
       mask = h .mask ∙ sym (mask-all s 0);
       inner = h .inner ∙ inner-all s;
       at = h .at ∙ ap (λ (n : ℕ). start + n) (own-all s);

@@ -17,12 +17,12 @@ use Rattle.node.specs.Node.{noSlot}
 use Rattle.record.specs.Record.{leafMeta, innerMeta, gridBox}
 use Rattle.node.specs.declared.Slot.{Slot}
 use Rattle.node.specs.declared.Node.{Node}
-use Rattle.wide.specs.Wide.{Slots}
-use Rattle.record.specs.Children.{Child, leafChild, innerChild}
+use Rattle.wide_layout.specs.Wide.{Slots}
+use Rattle.record.specs.Children.{Content, leafChild, innerChild}
 use Rattle.record.specs.Children as R
 use Rattle.emit.specs.declared.Held.{Held}
 use Rattle.emit.specs.declared.Built.{Built}
-use Rattle.wide.specs.Layout.{wordsAt}
+use Rattle.wide_layout.specs.Layout.{wordsAt}
 
 -- what a slot's word says: no child, a child that becomes a leaf, or one that becomes a node
 pub data Cell : Type 0 where
@@ -47,10 +47,10 @@ heldIn b start i at (asLeaf c t) = record { meta = leafMeta (leaves t) (at - sta
 heldIn b start i at (asNode c) = record { meta = innerMeta i; corners = gridBox b c; bit = 2 ^ i; inner = 1; at = at }
 
 -- the index list with a leaf child's words from `at` on
-unfoldable pub listWith : List ℕ → ℕ → Cell → List ℕ → List ℕ
-listWith indices at none list = list
-listWith indices at (asLeaf c t) list = splice list at (wordsAt indices (positions t))
-listWith indices at (asNode c) list = list
+unfoldable pub leafWordsIn : List ℕ → ℕ → Cell → List ℕ → List ℕ
+leafWordsIn indices at none list = list
+leafWordsIn indices at (asLeaf c t) list = splice list at (wordsAt indices (positions t))
+leafWordsIn indices at (asNode c) list = list
 
 -- a node's own slots so far: meta bytes, boxes on the grid, the mask of inner children and how many they are, and the next free position
 pub record Own : Type 0 where
@@ -75,19 +75,19 @@ withHeld i h o = record {
 }
 
 -- the slots so far, and the index list
-pub record State : Type 0 where
+pub record OwnState : Type 0 where
   pub own : Own
   pub list : List ℕ
 
-abbrev pub made : Own → List ℕ → State
+abbrev pub made : Own → List ℕ → OwnState
 made o l = record { own = o; list = l }
 
-unfoldable pub withChild : List ℕ → Aabb → (start i : ℕ) → Cell → State → State
-unfolding heldIn listWith
-withChild indices b start i c s = made (withHeld i (heldIn b start i (s .own .at) c) (s .own)) (listWith indices (s .own .at) c (s .list))
+unfoldable pub withChild : List ℕ → Aabb → (start i : ℕ) → Cell → OwnState → OwnState
+unfolding heldIn leafWordsIn
+withChild indices b start i c s = made (withHeld i (heldIn b start i (s .own .at) c) (s .own)) (leafWordsIn indices (s .own .at) c (s .list))
 
 -- the first k slots
-unfoldable pub firstSlots : List ℕ → Aabb → ℕ → (ℕ → Cell) → ℕ → List ℕ → State
+unfoldable pub firstSlots : List ℕ → Aabb → ℕ → (ℕ → Cell) → ℕ → List ℕ → OwnState
 unfolding withChild
 firstSlots indices b start cell zero list = made (begin start) list
 firstSlots indices b start cell (suc k) list = withChild indices b start k (cell k) (firstSlots indices b start cell k list)
@@ -108,7 +108,7 @@ pub record OwnReady (ws decisions indices slots : List ℕ) (b : Aabb) (m depth 
       (firstSlots indices b start (λ j. cellOf ws decisions depth (getD slots j 0)) k list .own .at)
 
 -- all eight slots of binary node v
-abbrev pub allSlots : (ws decisions indices slots : List ℕ) → (v start depth : ℕ) → List ℕ → State
+abbrev pub allSlots : (ws decisions indices slots : List ℕ) → (v start depth : ℕ) → List ℕ → OwnState
 allSlots ws decisions indices slots v start depth list =
     firstSlots indices (boxAt ws v) start (λ j. cellOf ws decisions depth (getD slots j 0)) 8 list
 
@@ -128,14 +128,14 @@ nodeBuilt ws v count start o = record {
   slots = o .boxes;
 }
 
-pub record BuiltAs (ws : List ℕ) (v count start : ℕ) (s : State) (r : Built) (l : List ℕ) : Type 0 where
+pub record BuiltAs (ws : List ℕ) (v count start : ℕ) (s : OwnState) (r : Built) (l : List ℕ) : Type 0 where
   pub node : r .node ≡ nodeBuilt ws v count start (s .own)
   pub inner : r .inner ≡ s .own .inner
   pub at : r .at ≡ s .own .at
   pub list : l ≡ s .list
 
 -- what a slot's word says is what stands in a wide node's slot
-unfoldable pub Matches : Cell → Child → Type 0
+unfoldable pub Matches : Cell → Content → Type 0
 Matches none d = d ≡ R.none
 Matches (asLeaf b t) d = d ≡ leafChild b (positions t)
 Matches (asNode b) d = (s : Slots 8) × (d ≡ innerChild b s)

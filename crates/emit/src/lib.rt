@@ -8,7 +8,7 @@ ghost use Rattle.bvh2.specs.Words.{boxAt, treeAt};
 ghost use Rattle.record.specs.Record.{leafMeta};
 ghost use Rattle.emit.specs.Leaves.{LeavesReady, LeavesWritten};
 ghost use Rattle.emit.specs.Grid.{gridOf, boxOn};
-ghost use Rattle.emit.specs.Own.{SlotReady, OwnReady, heldIn, listWith, allSlots, BuiltAs, cellOf};
+ghost use Rattle.emit.specs.Own.{SlotReady, OwnReady, heldIn, leafWordsIn, allSlots, BuiltAs, cellOf};
 use aabb::Aabb;
 use node::Node;
 use node::Slot;
@@ -106,7 +106,8 @@ fn leaf_meta(count: usize, before: usize) -> u8
     224 + before as u8
 }
 
-// What a slot of a node holds: its meta byte and its box on the grid, its bit in the mask of inner children, 1 if its child is one, and the next free position.
+// What a slot of a node holds: its meta byte and its box on the grid, its bit in the mask of inner children, 1 if its child is one, and the next free
+// position.
 pub struct Held {
     pub meta: u8,
     pub corners: Slot,
@@ -130,7 +131,8 @@ fn own_slot(
 ) -> Held
     requires { ⌜ (i < 8) × SlotReady (now words) (now decisions) (length (now indices)) (length (now out)) depth v start at ⌝ }
     ensures { λ r. ⌜ ((b : Aabb) → grid ≡ gridOf b → r ≡ heldIn b start i at (cellOf (now (words .entry)) (now (decisions .entry)) depth v)) ⌝ }
-    ensures { λ _. ⌜ now (out .exit) ≡ listWith (now (indices .entry)) at (cellOf (now (words .entry)) (now (decisions .entry)) depth v) (now (out .entry)) ⌝ }
+    ensures { λ _. ⌜ now (out .exit) ≡ leafWordsIn (now (indices .entry)) at (cellOf (now (words .entry)) (now (decisions .entry)) depth v)
+        (now (out .entry)) ⌝ }
 {
     if v == 0xffff_ffff {
         return Held {
@@ -183,8 +185,11 @@ pub fn build_node(
     start: usize,
     depth: u32,
 ) -> Built
-    requires { ⌜ (v * 7 + 6 < length (now words)) × (acceptedBox (boxAt (now words) v) ≡ true) × (count < 2 ^ 32) × (start < 2 ^ 32) × OwnReady (now words) (now decisions) (now indices) (now slots) (boxAt (now words) v) (length (now out)) depth start (now out) ⌝ }
-    ensures { λ r. ⌜ BuiltAs (now (words .entry)) v count start (allSlots (now (words .entry)) (now (decisions .entry)) (now (indices .entry)) (now (slots .entry)) v start depth (now (out .entry))) r (now (out .exit)) ⌝ }
+    requires { ⌜ (v * 7 + 6 < length (now words)) × (acceptedBox (boxAt (now words) v) ≡ true) × (count < 2 ^ 32) × (start < 2 ^ 32)
+        × OwnReady (now words) (now decisions) (now indices) (now slots) (boxAt (now words) v) (length (now out)) depth start (now out) ⌝ }
+    ensures { λ r. ⌜ BuiltAs (now (words .entry)) v count start
+        (allSlots (now (words .entry)) (now (decisions .entry)) (now (indices .entry)) (now (slots .entry)) v start depth (now (out .entry))) r
+        (now (out .exit)) ⌝ }
 {
     let b = bvh2::node_box(words, v);
     let grid = grid_of(b);

@@ -8,52 +8,52 @@ use native.Mathlib.Omega.{arith}
 use lib.ListN.{length, getD}
 use Rattle.aabb.specs.declared.Aabb.{Aabb}
 use Rattle.bvh2.specs.Tree.{Tree, labelOf, boxOf, positions}
-use Rattle.bvh2.specs.Words.{nodeCount, boxAt, treeAt}
+use Rattle.bvh2.specs.Words.{treeNodes, boxAt, treeAt}
 use Rattle.bvh2.proofs.Reading.{box-is}
 use Rattle.bvh2.proofs.Subtree.{node}
 use Rattle.cost.specs.Table.{Kind, LEAF, INTERNAL, DISTRIBUTE, code, table, wordOf}
-use Rattle.cost.specs.Rows.{Holds}
-use Rattle.children.specs.Gather.{gather, Each}
+use Rattle.cost.specs.Rows.{RowsHold}
+use Rattle.children.specs.Gather.{gather, EachTree}
 use Rattle.children.proofs.Steps.{says}
 use Rattle.children.proofs.Reread.{Reread, gather-here}
 use Rattle.order.specs.Order.{slotsOf, placed}
 use Rattle.order.specs.Assign as A
 use Rattle.order.proofs.Arrays.{eight-at}
-use Rattle.wide.specs.Wide.{Slots}
-use Rattle.wide_tree.specs.WideTree.{Child, leafChild, innerChild, slotOf, slotsFrom, Placing, childAs, childrenOf, rootSlots}
+use Rattle.wide_layout.specs.Wide.{Slots}
+use Rattle.wide_tree.specs.WideTree.{Child, leafChild, innerChild, filledSlot, slotsFrom, Placing, childAs, wideChildren, rootSlots}
 use Rattle.wide_tree.proofs.Gathered.{childOf, children-gathered, children-boxes}
-use Rattle.record.specs.Children.{childAt}
+use Rattle.record.specs.Children.{contentAt}
 use Rattle.record.specs.Children as R
 use Rattle.emit.specs.Own.{Cell, cellOf, Matches}
 use Rattle.emit.proofs.OwnSteps.{cell-none, cell-leaf, cell-node}
 use Rattle.wide_tree.specs.Ordered.{placing}
-use Rattle.emit_tree.specs.Emission.{slotWords, Reached, slotsAt}
+use Rattle.emit_tree.specs.Emission.{slotWords, EmitNode, wideSlotsAt}
 
 -- ---- what stands in a slot
-abbrev pub heldAs : Child → R.Child
+abbrev pub heldAs : Child → R.Content
 heldAs (leafChild b ps) = R.leafChild b ps
 heldAs (innerChild b s) = R.innerChild b s
 
-abbrev pub heldAt : List Child → ℕ → R.Child
+abbrev pub heldAt : List Child → ℕ → R.Content
 heldAt [] i = R.none
 heldAt (c ∷ cs) zero = heldAs c
 heldAt (c ∷ cs) (suc i) = heldAt cs i
 
-slot-first : {w : ℕ} (cs : List Child) (i : ℕ) (s : Slots w) → childAt (slotOf cs i s) 0 ≡ heldAt cs i
-unfolding childAt
+slot-first : {w : ℕ} (cs : List Child) (i : ℕ) (s : Slots w) → contentAt (filledSlot cs i s) 0 ≡ heldAt cs i
+unfolding contentAt
 slot-first [] i s = refl
 slot-first (leafChild b ps ∷ cs) zero s = refl
 slot-first (innerChild b t ∷ cs) zero s = refl
 slot-first (c ∷ cs) (suc i) s = slot-first cs i s
 
-slot-later : {w : ℕ} (cs : List Child) (i : ℕ) (s : Slots w) (j : ℕ) → childAt (slotOf cs i s) (suc j) ≡ childAt s j
-unfolding childAt
+slot-later : {w : ℕ} (cs : List Child) (i : ℕ) (s : Slots w) (j : ℕ) → contentAt (filledSlot cs i s) (suc j) ≡ contentAt s j
+unfolding contentAt
 slot-later [] i s j = refl
 slot-later (leafChild b ps ∷ cs) zero s j = refl
 slot-later (innerChild b t ∷ cs) zero s j = refl
 slot-later (c ∷ cs) (suc i) s j = slot-later cs i s j
 
-pub from-at : (child : ℕ → ℕ) (cs : List Child) (k w j : ℕ) → j < w → childAt (slotsFrom child cs k w) j ≡ heldAt cs (child (k + j))
+pub from-at : (child : ℕ → ℕ) (cs : List Child) (k w j : ℕ) → j < w → contentAt (slotsFrom child cs k w) j ≡ heldAt cs (child (k + j))
 unfolding slotsFrom
 from-at child cs k zero j h = absurd (not-suc-le-zero h)
 from-at child cs k (suc w) zero h = slot-first cs (child k) (slotsFrom child cs (suc k) w) ∙ ap (λ (i : ℕ). heldAt cs (child i)) (sym (add-zero k))
@@ -66,12 +66,13 @@ from-at child cs k (suc w) (suc j) h =
     next k j = omega arith
 
 -- ---- a gathered node's word says what it becomes
-module _ (ws ds : List ℕ) (n limit d : ℕ) (place : Placing) (room : nodeCount n * 7 ≤ length ds) where
+module _ (ws ds : List ℕ) (n limit d : ℕ) (place : Placing) (room : treeNodes n * 7 ≤ length ds) where
   pub kind-says : (t : Tree ℕ) → Reread ws ds n limit d t → getD ds (labelOf t * 7) 0 / 0x4000_0000 ≡ code (table limit t 0 .kind)
   kind-says t r =
-      let held : Holds (wordOf limit) 0 ds (treeAt ws d (labelOf t)) = rw (r .tree) (r .holds) in
+      let held : RowsHold (wordOf limit) 0 ds (treeAt ws d (labelOf t)) = rw (r .tree) (r .holds) in
       ap (λ (x : ℕ). getD ds x 0 / 0x4000_0000) (sym (add-zero (labelOf t * 7)))
-      ∙ says {ws = ws} {ds = ds} {e = d} {v = labelOf t} (record { n = n; tree = r .subtree; room = room; limit = limit; holds = held }) limit held 0 (omega arith) .kind
+      ∙ says {ws = ws} {ds = ds} {e = d} {v = labelOf t} (record { n = n; tree = r .subtree; room = room; limit = limit; holds = held }) limit held
+      0 (omega arith) .kind
       ∙ ap (λ (x : Tree ℕ). code (table limit x 0 .kind)) (r .tree)
 
   pub box-says : (t : Tree ℕ) → Reread ws ds n limit d t → boxAt ws (labelOf t) ≡ boxOf t
@@ -84,35 +85,42 @@ module _ (ws ds : List ℕ) (n limit d : ℕ) (place : Placing) (room : nodeCoun
   unfolding Matches
   cell-matches t r = go (table limit t 0 .kind) (kind-says t r)
     where
-      go : (k : Kind) → getD ds (labelOf t * 7) 0 / 0x4000_0000 ≡ code k → Matches (cellOf ws ds d (labelOf t)) (heldAs (childAs place k t (childrenOf place limit t 0)))
+      go : (k : Kind) → getD ds (labelOf t * 7) 0 / 0x4000_0000 ≡ code k
+          → Matches (cellOf ws ds d (labelOf t)) (heldAs (childAs place k t (wideChildren place limit t 0)))
       go LEAF e =
           subst (λ (c : Cell). Matches c (R.leafChild (boxOf t) (positions t))) (sym (cell-leaf ws ds d (labelOf t) (a-node t r) e))
           (ap₂ (λ (b : Aabb) (x : Tree ℕ). R.leafChild b (positions x)) (sym (box-says t r)) (sym (r .tree)))
       go INTERNAL e =
-          subst (λ (c : Cell). Matches c (heldAs (childAs place INTERNAL t (childrenOf place limit t 0)))) (sym (cell-node ws ds d (labelOf t) (a-node t r) (λ z. omega (arith, e, z))))
+          subst (λ (c : Cell). Matches c (heldAs (childAs place INTERNAL t (wideChildren place limit t 0))))
+          (sym (cell-node ws ds d (labelOf t) (a-node t r) (λ z. omega (arith, e, z))))
           (rootSlots place limit t, ap (λ (b : Aabb). R.innerChild b (rootSlots place limit t)) (sym (box-says t r)))
       go DISTRIBUTE e =
-          subst (λ (c : Cell). Matches c (heldAs (childAs place DISTRIBUTE t (childrenOf place limit t 0)))) (sym (cell-node ws ds d (labelOf t) (a-node t r) (λ z. omega (arith, e, z))))
+          subst (λ (c : Cell). Matches c (heldAs (childAs place DISTRIBUTE t (wideChildren place limit t 0))))
+          (sym (cell-node ws ds d (labelOf t) (a-node t r) (λ z. omega (arith, e, z))))
           (rootSlots place limit t, ap (λ (b : Aabb). R.innerChild b (rootSlots place limit t)) (sym (box-says t r)))
 
-  list-matches : (g : List (Tree ℕ)) → Each (Reread ws ds n limit d) g → (i : ℕ) → Matches (cellOf ws ds d (getD (map labelOf g) i 0xffff_ffff)) (heldAt (map (childOf place limit) g) i)
-  unfolding Each Matches
+  list-matches : (g : List (Tree ℕ)) → EachTree (Reread ws ds n limit d) g → (i : ℕ)
+      → Matches (cellOf ws ds d (getD (map labelOf g) i 0xffff_ffff)) (heldAt (map (childOf place limit) g) i)
+  unfolding EachTree Matches
   list-matches [] h i = subst (λ (c : Cell). Matches c R.none) (sym (cell-none ws ds d 0xffff_ffff refl)) refl
   list-matches (t ∷ g) h zero = cell-matches t (h .0)
   list-matches (t ∷ g) h (suc i) = list-matches g (h .1) i
 
 -- ---- all slots
-pub root-slots : (place : Placing) (limit : ℕ) (t : Tree ℕ) → rootSlots place limit t ≡ slotsFrom (place (boxOf t) (map boxOf (gather limit t 0))) (map (childOf place limit) (gather limit t 0)) 0 8
-root-slots place limit t = ap₂ (λ (bs : List Aabb) (cs : List Child). slotsFrom (place (boxOf t) bs) cs 0 8) (children-boxes place limit t 0) (children-gathered place limit t 0)
+pub root-slots : (place : Placing) (limit : ℕ) (t : Tree ℕ) → rootSlots place limit t
+    ≡ slotsFrom (place (boxOf t) (map boxOf (gather limit t 0))) (map (childOf place limit) (gather limit t 0)) 0 8
+root-slots place limit t = ap₂ (λ (bs : List Aabb) (cs : List Child). slotsFrom (place (boxOf t) bs) cs 0 8) (children-boxes place limit t 0)
+    (children-gathered place limit t 0)
 
-pub slots-match : (ws ds : List ℕ) (n d v : ℕ) (ordered : Bool) (h : Reached ws ds n d v) (k : ℕ) → k < 8
-    → Matches (cellOf ws ds d (getD (slotWords ordered (h .limit) (treeAt ws d v)) k 0)) (childAt (slotsAt ws ordered (h .limit) d v) k)
+pub slots-match : (ws ds : List ℕ) (n d v : ℕ) (ordered : Bool) (h : EmitNode ws ds n d v) (k : ℕ) → k < 8
+    → Matches (cellOf ws ds d (getD (slotWords ordered (h .limit) (treeAt ws d v)) k 0)) (contentAt (wideSlotsAt ws ordered (h .limit) d v) k)
 unfolding slotWords placed
 slots-match ws ds n d v ordered h k l =
     let t = treeAt ws d v in
     let g = gather (h .limit) t 0 in
     let child = A.childOf (slotsOf ordered (boxOf t) (map boxOf g)) in
     let e = eight-at (λ s. getD (map labelOf g) (child s) 0xffff_ffff) 0 k l in
-    let f = ap (λ (s : Slots 8). childAt s k) (root-slots (placing ordered) (h .limit) t) ∙ from-at child (map (childOf (placing ordered) (h .limit)) g) 0 8 k l
+    let f = ap (λ (s : Slots 8). contentAt s k) (root-slots (placing ordered) (h .limit) t) ∙ from-at child
+    (map (childOf (placing ordered) (h .limit)) g) 0 8 k l
     ∙ ap (λ (i : ℕ). heldAt (map (childOf (placing ordered) (h .limit)) g) (child i)) (zero-add k) in
     rw (e, f) (list-matches ws ds n (h .limit) d (placing ordered) (h .room) g (gather-here ws ds n (h .limit) d v (h .tree) (h .holds) 0) (child k))

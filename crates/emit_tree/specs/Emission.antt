@@ -8,16 +8,16 @@ use lib.Dec.{eqb}
 use lib.ListN.{length, getD}
 use Rattle.lists.specs.Splice.{splice}
 use Rattle.bvh2.specs.Tree.{Tree, labelOf, boxOf}
-use Rattle.bvh2.specs.Words.{nodeCount, treeAt, treeOf}
+use Rattle.bvh2.specs.Words.{treeNodes, treeAt, treeOf}
 use Rattle.bvh2.specs.Decoded.{Subtree}
 use Rattle.cost.specs.Table.{wordOf}
-use Rattle.cost.specs.Rows.{Holds}
+use Rattle.cost.specs.Rows.{RowsHold}
 use Rattle.children.specs.Gather.{gather}
 use Rattle.order.specs.Order.{slotsOf, placed}
-use Rattle.wide.specs.Wide.{Slots, Wide}
-use Rattle.wide.specs.Sizes.{innerChildren, nodesBelow, ownCount, countBelow}
-use Rattle.wide.specs.Layout.{Entry, nodes, indexCount, indexList, wordsAt}
-use Rattle.wide.specs.Conversion.{State, writePositions}
+use Rattle.wide_layout.specs.Wide.{Slots, Wide}
+use Rattle.wide_layout.specs.Sizes.{innerChildren, nodesBelow, ownCount, countBelow}
+use Rattle.wide_layout.specs.Layout.{Entry, nodes, indexCount, indexList, wordsAt}
+use Rattle.wide_layout.specs.Conversion.{State, writePositions}
 use Rattle.wide_tree.specs.WideTree.{rootSlots}
 use Rattle.wide_tree.specs.Ordered.{placing, wideTree}
 use Rattle.node.specs.Node.{nodeBytes}
@@ -31,20 +31,20 @@ slotWords ordered limit t =
     placed 0xffff_ffff (slotsOf ordered (boxOf t) (map boxOf g)) (map labelOf g)
 
 -- node v of an accepted tree of n leaves, with d edges left below it; ds holds its decision words for a limit of at most 3
-pub record Reached (ws ds : List ℕ) (n d v : ℕ) : Type 0 where
+pub record EmitNode (ws ds : List ℕ) (n d v : ℕ) : Type 0 where
   pub tree : Subtree ws n d v
-  pub room : nodeCount n * 7 ≤ length ds
+  pub room : treeNodes n * 7 ≤ length ds
   pub limit : ℕ
   pub small : limit ≤ 3
-  pub holds : Holds (wordOf limit) 0 ds (treeAt ws d v)
+  pub holds : RowsHold (wordOf limit) 0 ds (treeAt ws d v)
 
 -- a slot's word stands for a child that becomes a node
 unfoldable pub isInner : List ℕ → ℕ → Bool
 isInner ds v = not (eqb v 0xffff_ffff) && not (eqb (getD ds (v * 7) 0 / 0x4000_0000) 0)
 
 -- the slots of the wide node
-abbrev pub slotsAt : List ℕ → Bool → (limit d v : ℕ) → Slots 8
-slotsAt ws ordered limit d v = rootSlots (placing ordered) limit (treeAt ws d v)
+abbrev pub wideSlotsAt : List ℕ → Bool → (limit d v : ℕ) → Slots 8
+wideSlotsAt ws ordered limit d v = rootSlots (placing ordered) limit (treeAt ws d v)
 
 -- ---- what is written
 pub record Written : Type 0 where
@@ -58,11 +58,11 @@ writeEntry indices e z = record {
   list = writePositions (λ p. getD indices p 0) e (z .list);
 }
 
-abbrev pub stateOf : List ℕ → List ℕ → Next → State Written
-stateOf bytes list x = record { written = record { bytes = bytes; list = list }; nodes = x .nodes; positions = x .positions }
+abbrev pub progressOf : List ℕ → List ℕ → Next → State Written
+progressOf bytes list x = record { written = record { bytes = bytes; list = list }; nodes = x .nodes; positions = x .positions }
 
 -- m bytes and l index words have room for all below some slots, whose first inner child has number i
-pub record Room {w : ℕ} (s : Slots w) (m l i : ℕ) (x : Next) : Type 0 where
+pub record EmitRoom {w : ℕ} (s : Slots w) (m l i : ℕ) (x : Next) : Type 0 where
   pub mine : i + innerChildren s ≤ x .nodes
   pub nodes : 80 * (x .nodes + nodesBelow s) ≤ m
   pub few : x .nodes + nodesBelow s < 2 ^ 32
@@ -79,20 +79,20 @@ pub record NodeRoom (s : Slots 8) (m l i : ℕ) (x : Next) : Type 0 where
 
 -- what emission of node v as node i asks: m bytes and l index words have room
 pub record Emits (ws ds : List ℕ) (n d v : ℕ) (ordered : Bool) (m l i : ℕ) (x : Next) : Type 0 where
-  pub at : Reached ws ds n d v
-  pub room : NodeRoom (slotsAt ws ordered (at .limit) d v) m l i x
+  pub at : EmitNode ws ds n d v
+  pub room : NodeRoom (wideSlotsAt ws ordered (at .limit) d v) m l i x
 
 -- the wide tree of the words
-abbrev pub wideAt : List ℕ → Bool → ℕ → Wide
-wideAt ws ordered limit = wideTree ordered limit (treeOf ws)
+abbrev pub wideEmitted : List ℕ → Bool → ℕ → Wide
+wideEmitted ws ordered limit = wideTree ordered limit (treeOf ws)
 
 -- what emission of a whole tree of n leaves asks
-pub record Whole (ws ds : List ℕ) (n : ℕ) (ordered : Bool) (m l : ℕ) : Type 0 where
-  pub at : Reached ws ds n 127 0
-  pub record-room : 80 * nodes (wideAt ws ordered (at .limit)) ≤ m
-  pub list-room : indexCount (wideAt ws ordered (at .limit)) ≤ l
-  pub few : nodes (wideAt ws ordered (at .limit)) < 2 ^ 32
-  pub short : indexCount (wideAt ws ordered (at .limit)) < 2 ^ 32
+pub record EmitTree (ws ds : List ℕ) (n : ℕ) (ordered : Bool) (m l : ℕ) : Type 0 where
+  pub at : EmitNode ws ds n 127 0
+  pub record-room : 80 * nodes (wideEmitted ws ordered (at .limit)) ≤ m
+  pub list-room : indexCount (wideEmitted ws ordered (at .limit)) ≤ l
+  pub few : nodes (wideEmitted ws ordered (at .limit)) < 2 ^ 32
+  pub short : indexCount (wideEmitted ws ordered (at .limit)) < 2 ^ 32
 
 -- the record and the index list of a wide tree stand before what was there, and x is how many nodes and positions they have
 pub record Emitted (indices : List ℕ) (t : Wide) (bytes list bytes₁ list₁ : List ℕ) (x : Next) : Type 0 where

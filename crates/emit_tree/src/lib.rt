@@ -6,11 +6,11 @@ ghost use Rattle.bvh2.specs.Words.{boxAt, treeAt};
 ghost use mathlib.Core.List.{map};
 ghost use lib.ListN.{getD, take};
 ghost use Rattle.cost.specs.Table.{wordOf};
-ghost use Rattle.cost.specs.Rows.{Holds};
+ghost use Rattle.cost.specs.Rows.{RowsHold};
 ghost use Rattle.children.specs.Tabled.{Tabled};
 ghost use Rattle.order.specs.Lists.{padded};
-ghost use Rattle.wide.specs.Conversion.{convertNode};
-ghost use Rattle.emit_tree.specs.Emission.{slotWords, isInner, slotsAt, wideAt, Emits, Whole, Emitted, writeEntry, stateOf};
+ghost use Rattle.wide_layout.specs.Conversion.{convertNode};
+ghost use Rattle.emit_tree.specs.Emission.{slotWords, isInner, wideSlotsAt, wideEmitted, Emits, EmitTree, Emitted, writeEntry, progressOf};
 use aabb::Aabb;
 
 // The next free node and position.
@@ -49,7 +49,8 @@ fn child_boxes(words: &[u32], parent: Aabb, found: [u32; 8], count: usize) -> [A
 // The children of the wide node that node v becomes, by slots: all ones in a slot without a child. Without ordering they stay as they were gathered.
 pub fn slots_of(words: &[u32], decisions: &[u32], v: usize, depth: u32, ordered: bool) -> [u32; 8]
     requires { ⌜ Tabled (now words) (now decisions) depth v ⌝ }
-    ensures { λ r. ⌜ ((limit : ℕ) → Holds (wordOf limit) 0 (now (decisions .entry)) (treeAt (now (words .entry)) depth v) → r ≡ slotWords ordered limit (treeAt (now (words .entry)) depth v)) ⌝ }
+    ensures { λ r. ⌜ ((limit : ℕ) → RowsHold (wordOf limit) 0 (now (decisions .entry)) (treeAt (now (words .entry)) depth v) → r
+        ≡ slotWords ordered limit (treeAt (now (words .entry)) depth v)) ⌝ }
 {
     let mut found = [0xffff_ffffu32; 8];
     let count = children::get_children(words, decisions, v, depth, &mut found);
@@ -75,7 +76,10 @@ fn emit_node(
     ordered: bool,
 ) -> Next
     requires { ⌜ Emits (now words) (now decisions) (length (now indices)) depth v ordered (length (now bytes)) (length (now out)) number next ⌝ }
-    ensures { λ r. ⌜ ((h : Emits (now (words .entry)) (now (decisions .entry)) (length (now (indices .entry))) depth v ordered (length (now (bytes .entry))) (length (now (out .entry))) number next) (l p k : ℕ) → stateOf (now (bytes .exit)) (now (out .exit)) r ≡ convertNode (writeEntry (now (indices .entry))) (boxAt (now (words .entry)) v) (slotsAt (now (words .entry)) ordered (h .at .limit) depth v) l p k number (stateOf (now (bytes .entry)) (now (out .entry)) next)) ⌝ }
+    ensures { λ r. ⌜ ((h : Emits (now (words .entry)) (now (decisions .entry)) (length (now (indices .entry))) depth v ordered
+        (length (now (bytes .entry))) (length (now (out .entry))) number next) (l p k : ℕ) → progressOf (now (bytes .exit)) (now (out .exit)) r
+        ≡ convertNode (writeEntry (now (indices .entry))) (boxAt (now (words .entry)) v)
+        (wideSlotsAt (now (words .entry)) ordered (h .at .limit) depth v) l p k number (progressOf (now (bytes .entry)) (now (out .entry)) next)) ⌝ }
 {
     let slots = slots_of(words, decisions, v, depth, ordered);
     let built = emit::build_node(
@@ -128,8 +132,11 @@ pub fn emit(
     out: &mut [u32],
     ordered: bool,
 ) -> Next
-    requires { ⌜ Whole (now words) (now decisions) (length (now indices)) ordered (length (now bytes)) (length (now out)) ⌝ }
-    ensures { λ r. ⌜ ((h : Whole (now (words .entry)) (now (decisions .entry)) (length (now (indices .entry))) ordered (length (now (bytes .entry))) (length (now (out .entry)))) → Emitted (now (indices .entry)) (wideAt (now (words .entry)) ordered (h .at .limit)) (now (bytes .entry)) (now (out .entry)) (now (bytes .exit)) (now (out .exit)) r) ⌝ }
+    requires { ⌜ EmitTree (now words) (now decisions) (length (now indices)) ordered (length (now bytes)) (length (now out)) ⌝ }
+    ensures { λ r. ⌜ ((h : EmitTree (now (words .entry)) (now (decisions .entry)) (length (now (indices .entry))) ordered
+        (length (now (bytes .entry))) (length (now (out .entry))))
+        → Emitted (now (indices .entry)) (wideEmitted (now (words .entry)) ordered (h .at .limit)) (now (bytes .entry)) (now (out .entry))
+        (now (bytes .exit)) (now (out .exit)) r) ⌝ }
 {
     let next = Next {
         nodes: 1,

@@ -52,7 +52,8 @@ module _ {s d : Type 0} (m : ℕ) (N : NodeWords s d) (n : ℕ) where
   module _ (w : WalkerWords s) (h : w .tests ≤ m) where
     advance-few : Few (advanceWords m N n w)
     unfolding advanceWords
-    advance-few = let t = turn-few (pastSkips N w) h in (go (turnWords m N n (pastSkips N w) .answer) (turnWords m N n (pastSkips N w) .walker) (t .0), t .1)
+    advance-few = let t = turn-few (pastSkips N w) h in
+        (go (turnWords m N n (pastSkips N w) .answer) (turnWords m N n (pastSkips N w) .walker) (t .0), t .1)
       where
         go : (a : Answer) (u : WalkerWords s) → u .tests ≤ m → leaving w a u .tests ≤ m
         go (tested v) u k = k
@@ -72,9 +73,9 @@ module _ {s d : Type 0} (m : ℕ) (N : NodeWords s d) (n : ℕ) where
 
   module _ {a : Type 0} (react : ℕ → s → a → Reaction d a) (Q : ℕ → a → Type 0)
       (drops : (f : ℕ) (x : a) → Q (suc f) x → Q f x)
-      (notes : (f p : ℕ) (r : s) (x : a) → p < n → Q (suc f) x → Q f (react p r x .noted)) where
+      (notes : (f p : ℕ) (r : s) (x : a) → p < n → Q (suc f) x → Q f (react p r x .accumulator)) where
     abbrev Ends : OutcomeWords s a → Type 0
-    Ends o = (o .walker .tests ≤ m) × Below n (o .ended) × Q 0 (o .noted)
+    Ends o = (o .walker .tests ≤ m) × Below n (o .ended) × Q 0 (o .accumulator)
 
     at-last : (f : ℕ) (x : a) → Q f x → Q 0 x
     at-last zero x q = q
@@ -97,7 +98,7 @@ module _ {s d : Type 0} (m : ℕ) (N : NodeWords s d) (n : ℕ) where
             let r : Reaction d a = react p (u .ray) x in
             let t = told-tests (r .tells) u in
             let y = notes f p (u .ray) x l q in
-            cond-elim Ends (r .stop) _ _ (λ _. (omega (arith, t), l, at-last f (r .noted) y))
-            (λ _. on (toldAllWords N (r .tells) u) (r .noted) (omega (arith, t)) y)
+            cond-elim Ends (r .stop) _ _ (λ _. (omega (arith, t), l, at-last f (r .accumulator) y))
+            (λ _. on (toldAllWords N (r .tells) u) (r .accumulator) (omega (arith, t)) y)
         go done u k l on = (k, tt, at-last (suc f) x q)
         go (refused e) u k l on = (k, l, at-last (suc f) x q)

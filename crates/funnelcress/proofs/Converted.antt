@@ -8,11 +8,11 @@ use lib.Dec.{eqb}
 use lib.ListN.{length}
 use lib.Ieee.{Float}
 use Rattle.bvh2.specs.FirstCause.{sizesCause}
-use Rattle.tables.specs.Call.{Call, leafCount}
+use Rattle.bvh2_tables.specs.Call.{Call, leafCount}
 use Rattle.bvh2_to_cwbvh.specs.Conversion.{refused, Outcome, conversionOf}
 use Rattle.bvh2_to_cwbvh.specs.declared.Conversion.{Conversion}
 use Rattle.bvh2_to_cwbvh.specs.declared.Conversion.the-variants.{Refused}
-use Rattle.bvh2_to_cwbvh.specs.Answer.{answerOf, outcomeOf}
+use Rattle.bvh2_to_cwbvh.specs.Answer.{conversionAnswer, outcomeOf}
 use Rattle.funnelcress.specs.Converted.{orderCause, conversionBy, conversionNumber, handed}
 
 -- ---- what refuses another order, for a cause of the sizes or none
@@ -43,7 +43,7 @@ module _ (order : ℕ) (call : Bool → Call) where
       go (suc (suc k)) h = absurd (omega arith)
 
   pub by-either : order ≤ 1 → (number : ℕ) (v : Conversion) (ds₁ : List ℕ) (cs₁ : List Float) (bytes₁ list₁ : List ℕ)
-      → number ≡ conversionNumber (answerOf v) → outcomeOf v ds₁ cs₁ bytes₁ list₁ ≡ conversionOf (call (eqb order 1))
+      → number ≡ conversionNumber (conversionAnswer v) → outcomeOf v ds₁ cs₁ bytes₁ list₁ ≡ conversionOf (call (eqb order 1))
       → record { number = number; decisions = ds₁; costs = cs₁; bytes = bytes₁; list = list₁ } ≡ handed (conversionBy order call)
   by-either h number v ds₁ cs₁ bytes₁ list₁ e o =
       (λ i. record { number = e i; decisions = ds₁; costs = cs₁; bytes = bytes₁; list = list₁ }) ∙ ap handed (o ∙ same h)
@@ -63,11 +63,11 @@ module _ (order : ℕ) (call : Bool → Call) where
       go (suc zero) h = absurd (omega arith)
       go (suc (suc k)) h = refl
 
-  pub by-other : 1 < order → (number cause : ℕ) → number ≡ conversionNumber (answerOf (Refused cause))
+  pub by-other : 1 < order → (number cause : ℕ) → number ≡ conversionNumber (conversionAnswer (Refused cause))
       → cause ≡ orderCause (length (call false .words)) (leafCount (call false))
       → let c = call false in
       record { number = number; decisions = c .decisions; costs = c .costs; bytes = c .bytes; list = c .list } ≡ handed (conversionBy order call)
-  unfolding answerOf left
+  unfolding conversionAnswer left
   by-other h number cause e k =
       let c = call false in
       (λ i. record { number = e i; decisions = c .decisions; costs = c .costs; bytes = c .bytes; list = c .list })

@@ -17,7 +17,8 @@ length-firsts f (suc k) = simp length-append (omega (arith, length-firsts f k))
 filled-next : (f : ℕ → Float) (k : ℕ) (s : List Float) → k < length s → set (filled f k s) k (f k) ≡ filled f (k + 1) s
 unfolding filled firsts
 filled-next f k s h =
-    rw (add-one, drop-cons s k nan) (set-at (firsts f k) _ (drop (suc k) s) (f k) k (length-firsts f k) ∙ sym (append-snoc (firsts f k) (f k) (drop (suc k) s)))
+    rw (add-one, drop-cons s k nan) (set-at (firsts f k) _ (drop (suc k) s) (f k) k (length-firsts f k) ∙ sym
+    (append-snoc (firsts f k) (f k) (drop (suc k) s)))
 
 -- a list as long as s whose first k places are filled
 pub record Filling (f : ℕ → Float) (k : ℕ) (s out : List Float) : Type 0 where

@@ -11,7 +11,7 @@ use Rattle.ray.specs.declared.Ray.{Ray}
 use Rattle.ray.specs.Ray.{rayOf}
 use Rattle.query.specs.Entry.{entryCause}
 use Rattle.query.specs.Result.{Result, unanswered}
-use Rattle.any_hit.specs.AnyHit.{Answer, refused, anyHitOf, listAfter}
+use Rattle.any_hit.specs.AnyHit.{AnyHitAnswer, refused, anyHitOf, listAfter}
 use Rattle.closest.specs.Panes.{ClosestAnswer, refusedClosest, MissAnswer, refusedMiss, paneCause, closestOf, missOf}
 use Rattle.packed.specs.Packed.{rayIn}
 use Rattle.funnelcress.specs.Queries.{ofEight, anyHitBy, listBy, shortCause, closestIn, closestBy, distanceIn, missBy}
@@ -42,11 +42,12 @@ module _ (ray : List Float) where
     list-unfit list h = unfit list (listAfter bytes n (rayIn ray 0) list) h
 
     pub any-hit-fit : (r : Ray) → length ray ≡ 8 → r ≡ rayIn ray 0
-        → (number : ℕ) (a : Result Answer) (room : ℕ) → number ≡ anyHitNumber a → a ≡ anyHitOf bytes n (again r) room
+        → (number : ℕ) (a : Result AnyHitAnswer) (room : ℕ) → number ≡ anyHitNumber a → a ≡ anyHitOf bytes n (again r) room
         → number ≡ anyHitNumber (anyHitBy bytes n ray room)
     unfolding anyHitBy
     any-hit-fit r g e number a room i j =
-        i ∙ ap anyHitNumber (j ∙ ap (λ (x : Ray). anyHitOf bytes n x room) (same-ray r e) ∙ fit (unanswered (refused 1)) (anyHitOf bytes n (rayIn ray 0) room) g)
+        i ∙ ap anyHitNumber (j ∙ ap (λ (x : Ray). anyHitOf bytes n x room) (same-ray r e) ∙ fit (unanswered (refused 1))
+        (anyHitOf bytes n (rayIn ray 0) room) g)
 
     pub list-fit : (r : Ray) → length ray ≡ 8 → r ≡ rayIn ray 0 → (after list : List ℕ) → after ≡ listAfter bytes n (again r) list
         → after ≡ listBy bytes n ray list

@@ -7,7 +7,7 @@ use lib.Ieee.{Float, nan}
 use lib.ListN.{set, getD}
 use borrow.Author.Tests.{le-ltb, lt-ltb}
 use Rattle.query.specs.Result.{Result}
-use Rattle.any_hit.specs.AnyHit.{Answer, listed, refused, lacking, answerOf, resultOf}
+use Rattle.any_hit.specs.AnyHit.{AnyHitAnswer, listed, refused, lacking, anyHitAnswer, resultOf}
 use Rattle.any_hit.specs.declared.AnyHit.{AnyHit}
 use Rattle.any_hit.specs.declared.AnyHitFound.{AnyHitFound}
 use Rattle.any_hit.specs.declared.AnyHit.the-variants as A
@@ -28,35 +28,36 @@ module _ (r : AnyHitFound) where
   Ends a = r .answer ≡ a
 
   pub number-listed : (count : ℕ) → Ends (A.Listed count) → numberOf (r .tests) 0 count ≡ anyHitNumber (resultOf r)
-  unfolding anyHitNumber answerOf
+  unfolding anyHitNumber anyHitAnswer
   number-listed count e = rw e
 
   pub number-short : (needed : ℕ) → Ends (A.Short needed) → numberOf (r .tests) 1 needed ≡ anyHitNumber (resultOf r)
-  unfolding anyHitNumber answerOf
+  unfolding anyHitNumber anyHitAnswer
   number-short needed e = rw e
 
   pub number-refused : (number : ℕ) → Ends (A.Refused number) → 0x2_0000_0000 + number ≡ anyHitNumber (resultOf r)
-  unfolding anyHitNumber answerOf
+  unfolding anyHitNumber anyHitAnswer
   number-refused number e = rw e
 
   pub listed-tests : (count : ℕ) → Ends (A.Listed count) → AnyHitFits (resultOf r) → r .tests ≤ 65535
-  unfolding AnyHitFits answerOf
+  unfolding AnyHitFits anyHitAnswer
   listed-tests count e h = let k : (r .tests ≤ 65535) × (count < 0x1_0000_0000) = rw e at h in k .0
 
   pub short-tests : (needed : ℕ) → Ends (A.Short needed) → AnyHitFits (resultOf r) → r .tests ≤ 65535
-  unfolding AnyHitFits answerOf
+  unfolding AnyHitFits anyHitAnswer
   short-tests needed e h =
       let k : (r .tests ≡ 0) × (_≡_ {A = ℕ} 11 11) × (needed < 0x1_0000_0000) = rw e at h in omega (arith, k .0)
 
 -- results with the same number are the same
-abbrev made : Answer → ℕ → Result Answer
+abbrev made : AnyHitAnswer → ℕ → Result AnyHitAnswer
 made a t = record { answer = a; tests = t }
 
-pub any-hit-apart : (x y : Result Answer) → AnyHitFits x → AnyHitFits y → anyHitNumber x ≡ anyHitNumber y → x ≡ y
+pub any-hit-apart : (x y : Result AnyHitAnswer) → AnyHitFits x → AnyHitFits y → anyHitNumber x ≡ anyHitNumber y → x ≡ y
 unfolding anyHitNumber AnyHitFits
 any-hit-apart x y = go (x .answer) (y .answer) (x .tests) (y .tests)
   where
-    go : (a b : Answer) (t u : ℕ) → AnyHitFits (made a t) → AnyHitFits (made b u) → anyHitNumber (made a t) ≡ anyHitNumber (made b u) → made a t ≡ made b u
+    go : (a b : AnyHitAnswer) (t u : ℕ) → AnyHitFits (made a t) → AnyHitFits (made b u) → anyHitNumber (made a t) ≡ anyHitNumber (made b u)
+        → made a t ≡ made b u
     go (listed c) (listed e) t u h k q = ap₂ (λ (i j : ℕ). made (listed i) j) (omega arith) (omega arith)
     go (listed c) (lacking m e) t u h k q = absurd (omega arith)
     go (listed c) (refused m) t u h k q = absurd (omega arith)

@@ -10,12 +10,12 @@ use lib.ListN.{length}
 use Rattle.ray.specs.declared.Ray.{Ray}
 use Rattle.advance.specs.declared.Answer as D
 use Rattle.advance.specs.declared.Answer.the-variants.{Tested, Position, Done, Refused}
-use Rattle.advance.specs.Turn.{answerOf}
+use Rattle.advance.specs.Turn.{stepAnswer}
 use Rattle.walk.specs.Step.{Answer, tested, position, done, refused}
 use Rattle.walk.specs.WordStep.{WalkerWords}
-use Rattle.walk_record.specs.Beam.{Beam}
+use Rattle.walk_record.specs.WalkRay.{WalkRay}
 use Rattle.traverse.specs.Walker.{started}
-use Rattle.walker_state.specs.State.{State, isRefused, Leaves}
+use Rattle.walker_state.specs.State.{HeldWords, isRefused, Leaves}
 use Rattle.packed.specs.Packed.{rayIn}
 use Rattle.funnelcress.specs.Walkers.{beginCause, begunNumber, stepNumber}
 use Rattle.funnelcress.proofs.QueryAnswers.{again, same-ray, fit, unfit}
@@ -41,7 +41,7 @@ module _ (ray : List Float) where
   begin-fit r g e k j = j ∙ ap (λ (x : Ray). started x .refused) (same-ray ray r e) ∙ fit ray 1 (started (rayIn ray 0) .refused) g
 
   -- what is left for a ray made again is left for the ray
-  pub begin-leaves : (before after : State) (r : Ray) → r ≡ rayIn ray 0 → (k : ℕ) → k ≡ beginCause ray
+  pub begin-leaves : (before after : HeldWords) (r : Ray) → r ≡ rayIn ray 0 → (k : ℕ) → k ≡ beginCause ray
       → Leaves (not (eqb k 0)) before after (started (again ray r) .walker)
       → Leaves (not (eqb (beginCause ray) 0)) before after (started (rayIn ray 0) .walker)
   begin-leaves before after r e k q h =
@@ -51,23 +51,23 @@ module _ (ray : List Float) where
 -- ---- a step
 
 module _ (a : D.Answer) where
-  pub number-tested : (v : ℕ) → a ≡ Tested v → v ≡ stepNumber (answerOf a)
-  unfolding stepNumber answerOf
+  pub number-tested : (v : ℕ) → a ≡ Tested v → v ≡ stepNumber (stepAnswer a)
+  unfolding stepNumber stepAnswer
   number-tested v e = rw e
 
-  pub number-position : (p : ℕ) → a ≡ Position p → 0x1_0000_0000 + p ≡ stepNumber (answerOf a)
-  unfolding stepNumber answerOf
+  pub number-position : (p : ℕ) → a ≡ Position p → 0x1_0000_0000 + p ≡ stepNumber (stepAnswer a)
+  unfolding stepNumber stepAnswer
   number-position p e = rw e
 
-  pub number-done : a ≡ Done → 0x3_0000_0000 ≡ stepNumber (answerOf a)
-  unfolding stepNumber answerOf
+  pub number-done : a ≡ Done → 0x3_0000_0000 ≡ stepNumber (stepAnswer a)
+  unfolding stepNumber stepAnswer
   number-done e = rw e
 
-  pub number-refused-step : (k : ℕ) → a ≡ Refused k → 0x2_0000_0000 + k ≡ stepNumber (answerOf a)
-  unfolding stepNumber answerOf
+  pub number-refused-step : (k : ℕ) → a ≡ Refused k → 0x2_0000_0000 + k ≡ stepNumber (stepAnswer a)
+  unfolding stepNumber stepAnswer
   number-refused-step k e = rw e
 
-pub step-leaves : (before after : State) (w : WalkerWords Beam) (a b : Answer) → a ≡ b → Leaves (isRefused a) before after w
+pub step-leaves : (before after : HeldWords) (w : WalkerWords WalkRay) (a b : Answer) → a ≡ b → Leaves (isRefused a) before after w
     → Leaves (isRefused b) before after w
 step-leaves before after w a b e h = subst (λ (x : Answer). Leaves (isRefused x) before after w) e h
 

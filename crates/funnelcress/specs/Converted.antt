@@ -5,8 +5,8 @@ use Prim.Native.Nat.{ℕ, zero, suc, _+_, _*_}
 use lib.ListN.{length}
 use lib.Ieee.{Float}
 use Rattle.bvh2.specs.FirstCause.{sizesCause}
-use Rattle.tables.specs.Call.{Call, leafCount}
-use Rattle.bvh2_to_cwbvh.specs.Conversion.{Answer, converted, refused, Outcome, conversionOf}
+use Rattle.bvh2_tables.specs.Call.{Call, leafCount}
+use Rattle.bvh2_to_cwbvh.specs.Conversion.{ConversionAnswer, converted, refused, Outcome, conversionOf}
 
 -- what refuses an order that is neither 0 nor 1: cause 1 or 2 if there is one, else 3, for so many words and n index words
 unfoldable pub orderCause : (words n : ℕ) → ℕ
@@ -28,7 +28,7 @@ conversionBy (suc (suc k)) call =
     }
 
 -- kind 0 is converted, its deepest level above the sixteen bits of its node count; kind 2 is refused with its number, as the record check has it
-unfoldable pub conversionNumber : Answer → ℕ
+unfoldable pub conversionNumber : ConversionAnswer → ℕ
 conversionNumber (converted nodes level) = level * 65536 + nodes
 conversionNumber (refused number) = 0x2_0000_0000 + number
 

@@ -6,7 +6,7 @@ use Prim.Native.Nat.{ℕ, zero, suc, _+_, _*_, _≤_, _<_}
 use lib.Dec.{eqb, ltb}
 use lib.ListN.{length, set}
 use lib.Ieee.{Float}
-use Rattle.any_hit.specs.AnyHit.{Answer, listed, refused, lacking, anyHitOf, listAfter}
+use Rattle.any_hit.specs.AnyHit.{AnyHitAnswer, listed, refused, lacking, anyHitOf, listAfter}
 use Rattle.query.specs.Result.{Result, unanswered}
 use Rattle.closest.specs.Panes.{ClosestAnswer, hitAt, noHit, refusedClosest, MissAnswer, missed, blocked, refusedMiss}
 use Rattle.closest.specs.Panes.{paneCause, closestOf, missOf}
@@ -18,7 +18,7 @@ ofEight ray unfit fit = cond (eqb (length ray) 8) fit unfit
 
 -- ---- the answers
 
-unfoldable pub anyHitBy : List ℕ → ℕ → List Float → ℕ → Result Answer
+unfoldable pub anyHitBy : List ℕ → ℕ → List Float → ℕ → Result AnyHitAnswer
 anyHitBy bytes n ray room = ofEight ray (unanswered (refused 1)) (anyHitOf bytes n (rayIn ray 0) room)
 
 -- the list at the end
@@ -55,7 +55,7 @@ abbrev pub numberOf : (tests kind held : ℕ) → ℕ
 numberOf tests kind held = tests * 0x1_0000_0000_0000 + kind * 0x1_0000_0000 + held
 
 -- kind 0 has listed so many positions, kind 1 is short of the length needed (refused 11)
-unfoldable pub anyHitNumber : Result Answer → ℕ
+unfoldable pub anyHitNumber : Result AnyHitAnswer → ℕ
 anyHitNumber r =
     elim (r .answer) [
       | listed count ↦ numberOf (r .tests) 0 count
@@ -74,7 +74,7 @@ missNumber r = elim (r .answer) [ missed ↦ numberOf (r .tests) 0 0 | blocked �
 
 -- ---- what every answer meets: tests of sixteen bits, words, and a cause's number
 
-unfoldable pub AnyHitFits : Result Answer → Type 0
+unfoldable pub AnyHitFits : Result AnyHitAnswer → Type 0
 AnyHitFits r =
     elim (r .answer) [
       | listed count ↦ (r .tests ≤ 65535) × (count < 0x1_0000_0000)

@@ -8,8 +8,8 @@ ghost use lib.ListN.{length};
 ghost use Rattle.aabb.specs.Aabb.{entryDistance};
 ghost use Rattle.packed.specs.Packed.{boxIn};
 ghost use Rattle.record_shape.specs.Check.{checkOf, wordsAfter};
-ghost use Rattle.validate.specs.Validity.{answerOf};
-ghost use Rattle.bvh2_to_cwbvh.specs.Answer.{answerOf as conversionAnswer};
+ghost use Rattle.validate.specs.Validity.{verdictOf};
+ghost use Rattle.bvh2_to_cwbvh.specs.Answer.{conversionAnswer};
 ghost use Rattle.funnelcress.specs.Answers.{answerNumber};
 ghost use Rattle.funnelcress.specs.Converted.{conversionBy, conversionNumber, handed};
 ghost use Rattle.any_hit.specs.AnyHit.{resultOf as anyHitResult};
@@ -65,7 +65,8 @@ fn fill_areas(boxes: &[f32], out: &mut [f32])
 
 fn fill_entries(boxes: &[f32], r: Ray, out: &mut [f32])
     requires { ⌜ length (now boxes) / 6 ≤ length (now out) ⌝ }
-    ensures { λ _. ⌜ now (out .exit) ≡ filled (λ k. entryDistance (boxIn (now (boxes .entry)) k) r) (length (now (boxes .entry)) / 6) (now (out .entry)) ⌝ }
+    ensures { λ _. ⌜ now (out .exit) ≡ filled (λ k. entryDistance (boxIn (now (boxes .entry)) k) r) (length (now (boxes .entry)) / 6)
+        (now (out .entry)) ⌝ }
 {
     let count = boxes.len() / packed::BOX;
     let mut i: usize = 0;
@@ -113,7 +114,7 @@ fn refusal_number(number: u32) -> u64
 
 // The record check's answer as a number.
 fn answer_number(v: Validity) -> u64
-    ensures { λ r. ⌜ r ≡ answerNumber (answerOf v) ⌝ }
+    ensures { λ r. ⌜ r ≡ answerNumber (verdictOf v) ⌝ }
 {
     match v {
         Validity::Sound(level) => {
@@ -151,7 +152,8 @@ fn conversion_number(c: Conversion) -> u64
     }
 }
 
-// Conversion with ordering off for order 0 and on for 1, any other order being refused: its answer, and below 2^32 the deepest level and the sixteen bits of
+// Conversion with ordering off for order 0 and on for 1, any other order being refused: its answer, and below 2^32 the deepest level and the sixteen
+// bits of
 // the node count, or the number of a refusal. The tables of the tree's decisions and costs are left in the working slices.
 #[no_mangle]
 pub extern "C" fn funnelcress_bvh2_to_cwbvh(

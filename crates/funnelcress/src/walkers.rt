@@ -3,7 +3,7 @@ ghost use mathlib.Core.Path.{_≡_};
 ghost use mathlib.Core.Bool.{not};
 ghost use lib.Dec.{eqb};
 ghost use Rattle.traverse.specs.Walker.{started, toldWalker, stepBytes};
-ghost use Rattle.advance.specs.Turn.{answerOf};
+ghost use Rattle.advance.specs.Turn.{stepAnswer};
 ghost use Rattle.walker_state.specs.State.{walkerIn, held, isRefused, Leaves};
 ghost use Rattle.packed.specs.Packed.{rayIn};
 ghost use Rattle.funnelcress.specs.Walkers.{beginCause, begunNumber, stepNumber};
@@ -35,7 +35,7 @@ pub extern "C" fn funnelcress_begin(ray: &[f32], head: &mut [u64; 18], stack: &m
 
 // A step's answer as a number.
 fn step_number(answer: Answer) -> u64
-    ensures { λ r. ⌜ r ≡ stepNumber (answerOf answer) ⌝ }
+    ensures { λ r. ⌜ r ≡ stepNumber (stepAnswer answer) ⌝ }
 {
     match answer {
         Answer::Tested(node) => return node as u64,

@@ -52,7 +52,11 @@ no-duplicates a h = nodup-iff-count-le-one ℕ-discrete .1 (λ x. value-le-one _
 -- a list is 0, 1, .., n − 1 in some order exactly if each of these stands in it once and no other
 pub perm-upto : (l : List ℕ) (n : ℕ) → Perm l (upto 0 n) ↔ (((x : ℕ) → x < n → count x l ≡ 1) × ((x : ℕ) → n ≤ x → count x l ≡ 0))
 perm-upto l n = (
-  λ p. let h = counts-perm l (upto 0 n) .0 p in (λ x k. h x ∙ count-among x 0 n (omega arith) (omega arith), λ x k. h x ∙ count-past x 0 n (omega arith)),
+  λ p. let h = counts-perm l (upto 0 n) .0 p in (
+    λ x k. h x ∙ count-among x 0 n (omega arith) (omega arith),
+    λ x k. h x ∙ count-past x 0 n
+        (omega arith),
+  ),
   λ h. counts-perm l (upto 0 n) .1 (λ x. pick x h (decLt x n)),
 )
   where

@@ -43,15 +43,19 @@ pub splice-next : {A : Type 0} (s : List A) (at : ℕ) (a b : List A) → at + (
     → splice (splice s at a) (at + length a) b ≡ splice s at (a ++ b)
 unfolding splice
 splice-next s at a b h =
-    let p : length (take at s ++ a) ≡ at + length a = length-append (take at s) a ∙ ap (λ (k : ℕ). k + length a) (length-take-le at s (omega arith)) in
-    let r : take at s ++ (a ++ drop (at + length a) s) ≡ (take at s ++ a) ++ drop (at + length a) s = sym (append-assoc (take at s) a (drop (at + length a) s)) in
-    let t : take (at + length a) (take at s ++ (a ++ drop (at + length a) s)) ≡ take at s ++ a = ap (take (at + length a)) r ∙ take-at (take at s ++ a) (drop (at + length a) s) (at + length a) p in
+    let p : length (take at s ++ a) ≡ at + length a = length-append (take at s) a ∙ ap (λ (k : ℕ). k + length a)
+    (length-take-le at s (omega arith)) in
+    let r : take at s ++ (a ++ drop (at + length a) s)
+    ≡ (take at s ++ a) ++ drop (at + length a) s = sym (append-assoc (take at s) a (drop (at + length a) s)) in
+    let t : take (at + length a) (take at s ++ (a ++ drop (at + length a) s))
+    ≡ take at s ++ a = ap (take (at + length a)) r ∙ take-at (take at s ++ a) (drop (at + length a) s) (at + length a) p in
     let d : drop (at + length a + length b) (take at s ++ (a ++ drop (at + length a) s)) ≡ drop (at + length (a ++ b)) s =
     ap₂ (λ (k : ℕ) (l : List _). drop (k + length b) l) (sym p) r
     ∙ drop-append-add (take at s ++ a) (drop (at + length a) s) (length b)
     ∙ drop-drop (length b) (at + length a) s
     ∙ ap (λ (k : ℕ). drop k s) (add-assoc at (length a) (length b) ∙ ap (λ (k : ℕ). at + k) (sym (length-append a b))) in
-    rw (t, d) (append-assoc (take at s) a (b ++ drop (at + length (a ++ b)) s) ∙ ap (λ (l : List _). take at s ++ l) (sym (append-assoc a b (drop (at + length (a ++ b)) s))))
+    rw (t, d) (append-assoc (take at s) a (b ++ drop (at + length (a ++ b)) s) ∙ ap (λ (l : List _). take at s ++ l)
+    (sym (append-assoc a b (drop (at + length (a ++ b)) s))))
 
 -- the same from the lists that two writes left
 pub written-next : {A : Type 0} (s : List A) (at n k : ℕ) (a b t u : List A) → length a ≡ n → length b ≡ k → at + (n + k) ≤ length s

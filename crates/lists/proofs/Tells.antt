@@ -70,7 +70,8 @@ and-tells (fails p) q = fails (λ h. p (h .0))
 pub below-tells : (P : ℕ → Type 0) (f : ℕ → Bool) → ((i : ℕ) → Tells (P i) (f i)) → (k : ℕ) → Tells ((i : ℕ) → i < k → P i) (allBelow f k)
 unfolding allBelow
 below-tells P f t zero = passes (λ i l. absurd (omega arith))
-below-tells P f t (suc k) = tells-as (and-tells (below-tells P f t k) (t k)) (λ h i l. last h i l (same? i k)) (λ h. (λ i l. h i (omega arith), h k (omega arith)))
+below-tells P f t (suc k) = tells-as (and-tells (below-tells P f t k) (t k)) (λ h i l. last h i l (same? i k))
+    (λ h. (λ i l. h i (omega arith), h k (omega arith)))
   where
     last : ((i : ℕ) → i < k → P i) × P k → (i : ℕ) → i < suc k → Same i k → P i
     last h i l (equal e j) = rw e (h .1)
@@ -88,6 +89,7 @@ unfolding allBelow
 where-fails f zero e = clash (sym e)
 where-fails f (suc k) e = pick (allBelow f k) (f k) refl refl e (where-fails f k)
   where
-    pick : (a b : Bool) → allBelow f k ≡ a → f k ≡ b → a && b ≡ false → (allBelow f k ≡ false → (i : ℕ) × (i < k) × (f i ≡ false)) → (i : ℕ) × (i < suc k) × (f i ≡ false)
+    pick : (a b : Bool) → allBelow f k ≡ a → f k ≡ b → a && b ≡ false → (allBelow f k ≡ false → (i : ℕ) × (i < k) × (f i ≡ false)) → (i : ℕ)
+        × (i < suc k) × (f i ≡ false)
     pick true b x y z g = (k, omega arith, y ∙ z)
     pick false b x y z g = let u = g x in (u .0, omega (arith, u .1), u .2)

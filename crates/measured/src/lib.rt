@@ -5,7 +5,7 @@ ghost use lib.ListN.{length};
 ghost use Rattle.bvh2.specs.Tree.{leaves};
 ghost use Rattle.bvh2.specs.Words.{treeAt};
 ghost use Rattle.cost.specs.Table.{wordOf, costOf};
-ghost use Rattle.cost.specs.Rows.{fill, Ready};
+ghost use Rattle.cost.specs.Rows.{fill, RowsReady};
 use aabb::Aabb;
 use ray::Ray;
 use ray::Vec3;
@@ -15,11 +15,11 @@ use traverse::Walker;
 fn fill_masks(record: &[u8], ray: Ray, octant: u32, m: usize, out: &mut [u32])
     requires { ⌜ (octant < 8) × (80 * m ≤ length (now «record»)) × (m ≤ length (now out)) ⌝ }
 {
-    let e = slot::near_ends(ray.direction);
+    let e = node_slot::near_ends(ray.direction);
     let mut i: usize = 0;
     while i < m {
         let o = node::BYTES * i;
-        out[i] = slot::intersect_ray(record, o, node::metas(record, o), ray, e, octant);
+        out[i] = node_slot::intersect_ray(record, o, node::metas(record, o), ray, e, octant);
         i += 1;
     }
 }
@@ -86,7 +86,7 @@ pub extern "C" fn measured_rules(record: &[u8], n: usize) -> usize {
     let mut met: usize = 0;
     let mut i: usize = 0;
     while i < m {
-        if rule::node_rule(record, i, m, n) {
+        if node_rule::node_rule(record, i, m, n) {
             met += 1;
         }
         i += 1;
@@ -182,7 +182,7 @@ pub extern "C" fn measured_costs(
     decisions: &mut [u32],
     costs: &mut [f32],
 ) -> u32
-    requires { ⌜ Ready (now words) (length (now decisions)) (length (now costs)) 127 0 ⌝ }
+    requires { ⌜ RowsReady (now words) (length (now decisions)) (length (now costs)) 127 0 ⌝ }
     ensures { λ r. ⌜ r ≡ leaves (treeAt (now (words .entry)) 127 0) ⌝ }
     ensures { λ _. ⌜ now (decisions .exit) ≡ fill (wordOf limit) (treeAt (now (words .entry)) 127 0) (now (decisions .entry)) ⌝ }
     ensures { λ _. ⌜ now (costs .exit) ≡ fill (costOf limit) (treeAt (now (words .entry)) 127 0) (now (costs .entry)) ⌝ }

@@ -129,12 +129,14 @@ length-puts zero b o t = refl
 length-puts (suc k) b o t = length-put (putSlots k b o t) o k (getD t k noSlot) ∙ length-puts k b o t
 
 -- what is no slot byte stays
-pub slots-other : (k : ℕ) (b : List ℕ) (o : ℕ) (t : List Slot) (j : ℕ) → k ≤ 8 → (j < o + 32) ⊎ (o + 80 ≤ j) → getD (putSlots k b o t) j 0 ≡ getD b j 0
+pub slots-other : (k : ℕ) (b : List ℕ) (o : ℕ) (t : List Slot) (j : ℕ) → k ≤ 8 → (j < o + 32) ⊎ (o + 80 ≤ j) → getD (putSlots k b o t) j 0
+    ≡ getD b j 0
 unfolding putSlots
 slots-other zero b o t j l h = refl
 slots-other (suc k) b o t j l h =
     put-other (putSlots k b o t) o k (getD t k noSlot) j
-    (λ a e p q z. ⊎-elim (λ m. omega (arith, offset-low a e k)) (λ m. omega (arith, offset-lt a e k (record { axis-lt = p; end-lt = q; slot-lt = omega arith }))) h)
+    (λ a e p q z. ⊎-elim (λ m. omega (arith, offset-low a e k))
+    (λ m. omega (arith, offset-lt a e k (record { axis-lt = p; end-lt = q; slot-lt = omega arith }))) h)
     ∙ slots-other k b o t j (omega arith) h
 
 -- each slot byte is the slot's
@@ -153,6 +155,7 @@ slots-same (suc k) b o t a e i l fits c h = go (slots-same k b o t a e i (omega 
         (λ x y p q z. omega (arith, offset-slot a e i x y k c (record { axis-lt = p; end-lt = q; slot-lt = omega arith }) (omega arith) .2)) ∙ rest m
 
 -- one slot more
-pub puts-next : (k : ℕ) (b s r : List ℕ) (o : ℕ) (t : List Slot) → s ≡ putSlots k b o t → r ≡ putSlot s o k (getD t k noSlot) → r ≡ putSlots (k + 1) b o t
+pub puts-next : (k : ℕ) (b s r : List ℕ) (o : ℕ) (t : List Slot) → s ≡ putSlots k b o t → r ≡ putSlot s o k (getD t k noSlot) → r
+    ≡ putSlots (k + 1) b o t
 unfolding putSlots
 puts-next k b s r o t e f = rw add-one (f ∙ ap (λ (l : List ℕ). putSlot l o k (getD t k noSlot)) e)

@@ -18,7 +18,8 @@ use Rattle.words.proofs.Upto as upto
 use Rattle.node.specs.declared.Node.{Node}
 use Rattle.lists.specs.Splice.{splice}
 use Rattle.node.specs.Bytes.{bytes}
-use Rattle.node.specs.Node.{slotOffset, eight, slotFrom, nodeFrom, noSlot, headBytes, putSlots, nodeBytes, InRange, metaWord, MetaWord, codeCount}
+use Rattle.node.specs.Node.{slotOffset, eight, slotFrom, nodeFrom, noSlot, headBytes, putSlots, nodeBytes, NodeFits, metaWord, MetaWord}
+use Rattle.node.specs.Node.{codeCount}
 use Rattle.lists.proofs.Splice.{length-splice, written-next, splice-in, splice-before, splice-after}
 use Rattle.node.proofs.Splice.{store-splice}
 use Rattle.node.proofs.Offsets.{Corner, offset-lt, offset-onto, cornerOf, length-puts, slots-other, slots-same}
@@ -83,7 +84,8 @@ module _ (s : List ℕ) (o : ℕ) (n : Node) (fits : o + 80 ≤ length s) where
       ⊎-elim (λ q. outside (o + k) (inl (omega arith)) ∙ splice-in s o (headBytes n) near k 0 (omega (arith, length-head n)) ∙ sym (node-head n k q))
       (λ q. let w = offset-onto k q h in
       subst (λ (x : ℕ). getD left (o + x) 0 ≡ getD (nodeBytes n) x 0) (w .is)
-      (slots-same 8 (splice s o (headBytes n)) o (n .slots) (w .axis) (w .end) (w .slot) (omega arith) (omega (arith, length-splice s o (headBytes n) near)) (w .corner) (w .corner .slot-lt)
+      (slots-same 8 (splice s o (headBytes n)) o (n .slots) (w .axis) (w .end) (w .slot) (omega arith)
+      (omega (arith, length-splice s o (headBytes n) near)) (w .corner) (w .corner .slot-lt)
       ∙ sym (node-corner n (w .axis) (w .end) (w .slot) (w .corner)))) (lt-or-ge k 32)
 
   both : (j : ℕ) → getD left j 0 ≡ getD right j 0
@@ -159,7 +161,7 @@ word-at : (b : List ℕ) (at v : ℕ) → v < 2 ^ 32 → ((i : ℕ) → i < 4 �
 unfolding leAt
 word-at b at v l h = sum-congr 8 4 (λ i. getD b (at + i) 0) (λ i. field 8 i v) h ∙ sum-whole 8 4 v l
 
-module _ (n : Node) (r : InRange n) where
+module _ (n : Node) (r : NodeFits n) where
   word : (at v : ℕ) → at + 4 ≤ 32 → v < 2 ^ 32 → ((i : ℕ) → i < 4 → getD (headBytes n) (at + i) 0 ≡ field 8 i v) → leAt 4 (nodeBytes n) at ≡ v
   word at v h l f = word-at (nodeBytes n) at v l (λ i m. node-head n (at + i) (omega arith) ∙ f i m)
 
@@ -190,8 +192,10 @@ module _ (n : Node) (r : InRange n) where
   node-of-bytes =
       let metas : eight (λ i. getD (nodeBytes n) (24 + i) 0) ≡ n .«child_meta» =
       eight-congr (λ i. getD (nodeBytes n) (24 + i) 0) (λ i. getD (n .«child_meta») i 0)
-      (upto.eight (λ i. getD (nodeBytes n) (24 + i) 0 ≡ getD (n .«child_meta») i 0) (node-head n 24 (omega arith)) (node-head n 25 (omega arith)) (node-head n 26 (omega arith))
-      (node-head n 27 (omega arith)) (node-head n 28 (omega arith)) (node-head n 29 (omega arith)) (node-head n 30 (omega arith)) (node-head n 31 (omega arith)))
+      (upto.eight (λ i. getD (nodeBytes n) (24 + i) 0 ≡ getD (n .«child_meta») i 0) (node-head n 24 (omega arith)) (node-head n 25 (omega arith))
+      (node-head n 26 (omega arith))
+      (node-head n 27 (omega arith)) (node-head n 28 (omega arith)) (node-head n 29 (omega arith)) (node-head n 30 (omega arith))
+      (node-head n 31 (omega arith)))
       ∙ eight-list (n .«child_meta») 0 (r .metas) in
       rw (
         word 0 (n .px) (omega arith) (r .px) (below-four (λ i. getD (headBytes n) (0 + i) 0 ≡ field 8 i (n .px)) refl refl refl refl),
@@ -201,15 +205,18 @@ module _ (n : Node) (r : InRange n) where
         node-head n 13 (omega arith),
         node-head n 14 (omega arith),
         node-head n 15 (omega arith),
-        word 16 (n .«child_base_idx») (omega arith) (r .childBase) (below-four (λ i. getD (headBytes n) (16 + i) 0 ≡ field 8 i (n .«child_base_idx»)) refl refl refl refl),
-        word 20 (n .«primitive_base_idx») (omega arith) (r .primitiveBase) (below-four (λ i. getD (headBytes n) (20 + i) 0 ≡ field 8 i (n .«primitive_base_idx»)) refl refl refl refl),
+        word 16 (n .«child_base_idx») (omega arith) (r .childBase)
+            (below-four (λ i. getD (headBytes n) (16 + i) 0 ≡ field 8 i (n .«child_base_idx»)) refl refl refl refl),
+        word 20 (n .«primitive_base_idx») (omega arith) (r .primitiveBase)
+            (below-four (λ i. getD (headBytes n) (20 + i) 0 ≡ field 8 i (n .«primitive_base_idx»)) refl refl refl refl),
         metas,
         eight-congr (slotFrom (nodeBytes n) 0) (λ i. getD (n .slots) i noSlot) slot,
         eight-list (n .slots) noSlot (r .slots),
       )
 
 -- ---- bytes to value to bytes
-part-is : (s : List ℕ) (at : ℕ) (l : List ℕ) (n : ℕ) → length l ≡ n → at + n ≤ length s → ((i : ℕ) → i < n → getD l i 0 ≡ getD s (at + i) 0) → l ≡ take n (drop at s)
+part-is : (s : List ℕ) (at : ℕ) (l : List ℕ) (n : ℕ) → length l ≡ n → at + n ≤ length s → ((i : ℕ) → i < n → getD l i 0 ≡ getD s (at + i) 0) → l
+    ≡ take n (drop at s)
 part-is s at l n e h f =
     let m : length (take n (drop at s)) ≡ n = length-take-le n (drop at s) (rw length-drop (omega arith)) in
     ext-getD 0 l (take n (drop at s)) (e ∙ sym m)
@@ -236,11 +243,13 @@ module _ (s : List ℕ) (o : ℕ) (fits : o + 80 ≤ length s) (small : (k : ℕ
   head-part =
       let px : bytes 4 (leAt 4 s o) ≡ take 4 (drop (o + 0) s) = ap (λ (x : ℕ). bytes 4 (leAt 4 s x)) (sym (add-zero o)) ∙ word-part 0 (omega arith) in
       let metas : eight (λ i. getD (eight (λ j. getD s (o + 24 + j) 0)) i 0) ≡ take 8 (drop (o + 24) s) =
-      part-is s (o + 24) (eight (λ i. getD (eight (λ j. getD s (o + 24 + j) 0)) i 0)) 8 refl (omega arith) (λ i l. eight-at (λ j. getD s (o + 24 + j) 0) 0 i l) in
+      part-is s (o + 24) (eight (λ i. getD (eight (λ j. getD s (o + 24 + j) 0)) i 0)) 8 refl (omega arith)
+      (λ i l. eight-at (λ j. getD s (o + 24 + j) 0) 0 i l) in
       let small4 : getD s (o + 12) 0 ∷ getD s (o + 13) 0 ∷ getD s (o + 14) 0 ∷ getD s (o + 15) 0 ∷ [] ≡ take 4 (drop (o + 12) s) =
       part-is s (o + 12) (getD s (o + 12) 0 ∷ getD s (o + 13) 0 ∷ getD s (o + 14) 0 ∷ getD s (o + 15) 0 ∷ []) 4 refl (omega arith)
       (below-four (λ i. getD (getD s (o + 12) 0 ∷ getD s (o + 13) 0 ∷ getD s (o + 14) 0 ∷ getD s (o + 15) 0 ∷ []) i 0 ≡ getD s (o + 12 + i) 0)
-      (ap (λ (x : ℕ). getD s x 0) (omega arith)) (ap (λ (x : ℕ). getD s x 0) (omega arith)) (ap (λ (x : ℕ). getD s x 0) (omega arith)) (ap (λ (x : ℕ). getD s x 0) (omega arith))) in
+      (ap (λ (x : ℕ). getD s x 0) (omega arith)) (ap (λ (x : ℕ). getD s x 0) (omega arith)) (ap (λ (x : ℕ). getD s x 0) (omega arith))
+      (ap (λ (x : ℕ). getD s x 0) (omega arith))) in
       more 0 4 28 _ _ px (more 4 4 24 _ _ (word-part 4 (omega arith)) (more 8 4 20 _ _ (word-part 8 (omega arith)) (more 12 4 16 _ _ small4
       (more 16 4 12 _ _ (word-part 16 (omega arith)) (more 20 4 8 _ _ (word-part 20 (omega arith)) metas)))))
       ∙ ap (λ (x : ℕ). take 32 (drop x s)) (add-zero o)
@@ -273,7 +282,7 @@ module _ (s : List ℕ) (o : ℕ) (fits : o + 80 ≤ length s) (small : (k : ℕ
   bytes-of-node = part-is s o (nodeBytes (nodeFrom s o)) 80 (length-node (nodeFrom s o)) fits byte-back
 
   -- what is read is in range
-  pub node-in-range : InRange (nodeFrom s o)
+  pub node-in-range : NodeFits (nodeFrom s o)
   unfolding nodeFrom
   node-in-range = record {
     px = subst (λ (x : ℕ). leAt 4 s x < 2 ^ 32) (add-zero o) (word-lt 0 (omega arith));

@@ -13,7 +13,8 @@ use Rattle.lists.specs.Splice.{splice}
 use Rattle.node.specs.Bytes.{bytes}
 
 -- bytes as code stores them
-pub four : (s : List ℕ) (at a b c d : ℕ) → at + 4 ≤ length s → set (set (set (set s at a) (at + 1) b) (at + 2) c) (at + 3) d ≡ splice s at (a ∷ b ∷ c ∷ d ∷ [])
+pub four : (s : List ℕ) (at a b c d : ℕ) → at + 4 ≤ length s → set (set (set (set s at a) (at + 1) b) (at + 2) c) (at + 3) d
+    ≡ splice s at (a ∷ b ∷ c ∷ d ∷ [])
 unfolding splice
 four s at a b c d h =
     let e₁ : at + 1 ≡ suc at = omega arith in

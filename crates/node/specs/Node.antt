@@ -106,7 +106,7 @@ unfolding headBytes putSlots
 nodeBytes n = putSlots 8 (headBytes n ++ replicate 48 0) 0 (n .slots)
 
 -- a value that a node can have: words of 32 digits, and eight slots
-pub record InRange (n : Node) : Type 0 where
+pub record NodeFits (n : Node) : Type 0 where
   pub px : n .px < 2 ^ 32
   pub py : n .py < 2 ^ 32
   pub pz : n .pz < 2 ^ 32

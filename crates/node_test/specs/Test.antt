@@ -3,8 +3,8 @@ use mathlib.Core.Bool.{true, false, cond}
 use Prim.Native.Nat.{ℕ}
 use Rattle.ray.specs.declared.Ray.{Ray}
 use Rattle.node.specs.declared.Node.{Node}
-use Rattle.rule.specs.Rule.{nodeRule}
-use Rattle.slot.specs.Mask.{hitMask}
+use Rattle.node_rule.specs.Rule.{nodeRule}
+use Rattle.node_slot.specs.Mask.{hitMask}
 use Rattle.node_test.specs.declared.Tested.{Tested}
 
 -- a node that breaks the rule: nothing of it is read
@@ -15,5 +15,12 @@ broken = record { meets = false; mask = 0; imask = 0; «child_base_idx» = 0; «
 unfoldable pub tested : Node → (m n i : ℕ) → Ray → ℕ → Tested
 tested v m n i r octant =
     cond (nodeRule v m n i)
-    (record { meets = true; mask = hitMask v r octant; imask = v .imask; «child_base_idx» = v .«child_base_idx»; «primitive_base_idx» = v .«primitive_base_idx» })
+    (record {
+      meets = true;
+      mask = hitMask v r octant;
+      imask = v .imask;
+      «child_base_idx» = v .«child_base_idx»;
+      «primitive_base_idx» =
+          v .«primitive_base_idx»;
+    })
     broken

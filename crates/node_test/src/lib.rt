@@ -3,10 +3,10 @@ ghost use mathlib.Core.Path.{_≡_};
 ghost use Prim.Native.Nat.{_+_, _*_, _≤_, _<_};
 ghost use lib.ListN.{length};
 ghost use Rattle.node.specs.Node.{nodeAt};
-ghost use Rattle.slot.specs.Parts.{endsOf};
+ghost use Rattle.node_slot.specs.Parts.{endsOf};
 ghost use Rattle.node_test.specs.Test.{broken, tested};
+use node_slot::Ends;
 use ray::Ray;
-use slot::Ends;
 
 // What a walk reads of a node: whether it meets the rule, and if so its hit mask and the fields from which its children and positions are counted.
 pub struct Tested {
@@ -37,12 +37,12 @@ pub fn test_node(s: &[u8], i: usize, m: usize, n: usize, ray: Ray, e: Ends, octa
     let o = node::BYTES * i;
     let meta8 = node::metas(s, o);
     let imask = node::imask(s, o);
-    if !rule::meets_rule(s, o, meta8, imask, i, m, n) {
+    if !node_rule::meets_rule(s, o, meta8, imask, i, m, n) {
         return broken_node();
     }
     Tested {
         meets: true,
-        mask: slot::intersect_ray(s, o, meta8, ray, e, octant),
+        mask: node_slot::intersect_ray(s, o, meta8, ray, e, octant),
         imask,
         child_base_idx: node::child_base_idx(s, o),
         primitive_base_idx: node::primitive_base_idx(s, o),

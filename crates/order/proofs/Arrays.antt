@@ -26,18 +26,21 @@ pub eight-at : {A : Type 0} (f : ℕ → A) (d : A) (i : ℕ) → i < 8 → getD
 eight-at f d i h = eight (λ i. getD (eightOf f) i d ≡ f i) refl refl refl refl refl refl refl refl i h
 
 pub eight-set : {A : Type 0} (f g : ℕ → A) (i : ℕ) (v : A) → i < 8 → g i ≡ v → ((j : ℕ) → (j ≡ i → ⊥) → g j ≡ f j) → set (eightOf f) i v ≡ eightOf g
-eight-set f g i v h e k = ext-getD v (set (eightOf f) i v) (eightOf g) (length-set (eightOf f) i v) (λ j l. at j (subst (λ (z : ℕ). j < z) (length-set (eightOf f) i v) l) (ℕ-discrete j i))
+eight-set f g i v h e k = ext-getD v (set (eightOf f) i v) (eightOf g) (length-set (eightOf f) i v)
+    (λ j l. at j (subst (λ (z : ℕ). j < z) (length-set (eightOf f) i v) l) (ℕ-discrete j i))
   where
     at : (j : ℕ) → j < 8 → Dec (j ≡ i) → getD (set (eightOf f) i v) j v ≡ getD (eightOf g) j v
     at j l (yes d) = ap (λ (z : ℕ). getD (set (eightOf f) i v) z v) d ∙ getD-set-same (eightOf f) i v v h ∙ sym (eight-at g v j l ∙ ap g d ∙ e)
     at j l (no d) = getD-set-other (eightOf f) i j v v d ∙ eight-at f v j l ∙ sym (k j d) ∙ sym (eight-at g v j l)
 
 -- one pair more
-pub array-next : (key value : Pair → ℕ) (ps : List Pair) (p : Pair) (xs : List ℕ) → xs ≡ eightOf (partner key value ps) → All (λ q. value q < 8) ps → key p < 8
+pub array-next : (key value : Pair → ℕ) (ps : List Pair) (p : Pair) (xs : List ℕ) → xs ≡ eightOf (partner key value ps) → All (λ q. value q < 8) ps
+    → key p < 8
     → partner key value ps (key p) ≡ 8 → set xs (key p) (value p) ≡ eightOf (partner key value (ps ++ (p ∷ [])))
 array-next key value ps p xs e h l f =
     ap (λ (z : List ℕ). set z (key p) (value p)) e
-    ∙ eight-set (partner key value ps) (partner key value (ps ++ (p ∷ []))) (key p) (value p) l (partner-same key value ps p h f) (partner-other key value ps p)
+    ∙ eight-set (partner key value ps) (partner key value (ps ++ (p ∷ []))) (key p) (value p) l (partner-same key value ps p h f)
+    (partner-other key value ps p)
 
 module _ (table : List (List Float)) (n : ℕ) where
   abbrev after : ℕ → List Pair
@@ -69,7 +72,8 @@ module _ (table : List (List Float)) (n : ℕ) where
     pub child : b .child ≡ pair .child
     pub slot : b .slot ≡ pair .slot
 
-  found-cases : (k : ℕ) (b : Best) → b ≡ firstOr (costIn table) (nextPair (costIn table) n (after k)) → ((b .slot ≡ 8) × Stuck (costIn table) n (after k)) ⊎ Found k b
+  found-cases : (k : ℕ) (b : Best) → b ≡ firstOr (costIn table) (nextPair (costIn table) n (after k))
+      → ((b .slot ≡ 8) × Stuck (costIn table) n (after k)) ⊎ Found k b
   found-cases k b e = elim (round-cases (costIn table) n (after k)) [
     | inl s ↦ inl (ap (λ (z : Best). z .slot) (e ∙ ap (firstOr (costIn table)) (s .is)), s)
     | inr w ↦
@@ -80,7 +84,8 @@ module _ (table : List (List Float)) (n : ℕ) where
   pub found : n ≤ 8 → (k : ℕ) (slot child : List ℕ) (b : Best) → Kept k slot child → b ≡ bestOpen table slot child n → (b .slot ≡ 8 → ⊥) → Found k b
   found few k slot child b h e q = elim (found-cases k b (next-found few k slot child b h e)) [ inl w ↦ absurd (q (w .0)) | inr w ↦ w ]
 
-  pub kept-next : n ≤ 8 → (k : ℕ) (slot child x y : List ℕ) (b : Best) → Kept k slot child → Found k b → x ≡ set slot (b .child) (b .slot) → y ≡ set child (b .slot) (b .child)
+  pub kept-next : n ≤ 8 → (k : ℕ) (slot child x y : List ℕ) (b : Best) → Kept k slot child → Found k b → x ≡ set slot (b .child) (b .slot) → y
+      ≡ set child (b .slot) (b .child)
       → Kept (k + 1) x y
   kept-next few k slot child x y b h f p q =
       let r = f .pair in
@@ -97,7 +102,8 @@ module _ (table : List (List Float)) (n : ℕ) where
         children =
             q
             ∙ ap₂ (set child) (f .slot) (f .child)
-            ∙ array-next (λ q. q .slot) (λ q. q .child) (after k) r child (h .children) (all-map (λ q. q .child < n) (λ q. q .child < 8) (after k) (λ q l. lt-of-lt-of-le l few) (m .children)) (o .slot) (o .free)
+            ∙ array-next (λ q. q .slot) (λ q. q .child) (after k) r child (h .children)
+            (all-map (λ q. q .child < n) (λ q. q .child < 8) (after k) (λ q l. lt-of-lt-of-le l few) (m .children)) (o .slot) (o .free)
             ∙ ap (λ (z : List Pair). eightOf (childOf z)) e;
       })
 

@@ -15,7 +15,7 @@ use Rattle.ray.proofs.Bounds.{Bounded}
 use Rattle.aabb.specs.declared.Aabb.{Aabb}
 use Rattle.aabb.specs.Aabb.{centerOf}
 use Rattle.aabb.proofs.Bounds.{Accepted, center-bounded}
-use Rattle.order.specs.Assign.{greatest}
+use Rattle.order.specs.Assign.{greatestFinite}
 use Rattle.order.specs.Order.{signOf, directionOf, dotOf, directionCost}
 
 sign-within : (bit : ℕ) → Within 0 (signOf bit)
@@ -28,11 +28,13 @@ sign-within bit = go (eqb bit 0)
 
 -- one part of a cost: the difference of two centres' components, with a sign
 part-within : (bit : ℕ) (x y : Float) → Within 40 x → Within 40 y → Within 41 (mul binary32 (signOf bit) (sub binary32 x y))
-part-within bit x y p q = mul-within binary32 0 41 (signOf bit) (sub binary32 x y) (lit≤ tt) (sign-within bit) (sub-within binary32 40 x y (lit< tt) p q)
+part-within bit x y p q = mul-within binary32 0 41 (signOf bit) (sub binary32 x y) (lit≤ tt) (sign-within bit)
+    (sub-within binary32 40 x y (lit< tt) p q)
 
 sum-within : (x y z : Float) → Within 41 x → Within 41 y → Within 41 z → Within 43 (add binary32 (add binary32 x y) z)
 sum-within x y z p q r =
-    add-within binary32 42 (add binary32 x y) z (lit< tt) (add-within binary32 41 x y (lit< tt) p q) (atmost-le z (2 ^ 41) 1 (2 ^ 42) 1 (lit< tt) (lit≤ tt) r)
+    add-within binary32 42 (add binary32 x y) z (lit< tt) (add-within binary32 41 x y (lit< tt) p q)
+    (atmost-le z (2 ^ 41) 1 (2 ^ 42) 1 (lit< tt) (lit≤ tt) r)
 
 -- at most 2 ^ 43 in size
 pub cost-within : (parent child : Aabb) → Accepted parent → Accepted child → (s : ℕ) → Within 43 (directionCost (centerOf parent) child s)
@@ -42,8 +44,10 @@ cost-within parent child a b s =
     let q = centerOf child in
     let m : Bounded p = center-bounded parent a in
     let n : Bounded q = center-bounded child b in
-    sum-within (mul binary32 (signOf (s / 4 % 2)) (sub binary32 (q .x) (p .x))) (mul binary32 (signOf (s / 2 % 2)) (sub binary32 (q .y) (p .y))) (mul binary32 (signOf (s % 2)) (sub binary32 (q .z) (p .z)))
-    (part-within (s / 4 % 2) (q .x) (p .x) (n .x) (m .x)) (part-within (s / 2 % 2) (q .y) (p .y) (n .y) (m .y)) (part-within (s % 2) (q .z) (p .z) (n .z) (m .z))
+    sum-within (mul binary32 (signOf (s / 4 % 2)) (sub binary32 (q .x) (p .x))) (mul binary32 (signOf (s / 2 % 2)) (sub binary32 (q .y) (p .y)))
+    (mul binary32 (signOf (s % 2)) (sub binary32 (q .z) (p .z)))
+    (part-within (s / 4 % 2) (q .x) (p .x) (n .x) (m .x)) (part-within (s / 2 % 2) (q .y) (p .y) (n .y) (m .y))
+    (part-within (s % 2) (q .z) (p .z) (n .z) (m .z))
 
 -- ---- such a value is below the greatest f32
 under : (a d k n : ℕ) → a * 1 ≤ k * d → k < n → 0 < d → a * 1 < n * d
@@ -55,7 +59,7 @@ positive a d n l p = more a (n * d) (mul-pos l p)
     more : (x y : ℕ) → 0 < y → 0 < x + y
     more x y q = omega arith
 
-pub within-below : (x : Float) → Within 43 x → lt x greatest ≡ true
+pub within-below : (x : Float) → Within 43 x → lt x greatestFinite ≡ true
 unfolding lt ofBits
 within-below nan h = absurd h
 within-below (inf s) h = absurd h

@@ -38,7 +38,8 @@ count-none f n h i l = fails (f i) (sum-term (λ i. one (f i)) n i l)
     fails false m = refl
 
 -- a test that fails at one more number
-pub count-less : (f g : ℕ → Bool) (n k : ℕ) → k < n → f k ≡ true → g k ≡ false → ((i : ℕ) → (i ≡ k → ⊥) → f i ≡ g i) → countBelow f n ≡ suc (countBelow g n)
+pub count-less : (f g : ℕ → Bool) (n k : ℕ) → k < n → f k ≡ true → g k ≡ false → ((i : ℕ) → (i ≡ k → ⊥) → f i ≡ g i) → countBelow f n
+    ≡ suc (countBelow g n)
 unfolding countBelow
 count-less f g n k l p q h =
     sum-cong (λ i. one (f i)) (λ i. one (g i) + same i k) n (λ i m. more i (same? i k))

@@ -13,7 +13,7 @@ use lib.ListN.{length, length-append}
 use lib.Ieee.{Float, lt}
 use borrow.Author.Tests.{eq-eqb, ne-eqb, eqb-true}
 use Rattle.order.specs.Lists.{keep}
-use Rattle.order.specs.Assign.{Pair, greatest, pairs, partner, slotOf, childOf, openPairs, leastPair, nextPair, assigned, assignment}
+use Rattle.order.specs.Assign.{Pair, greatestFinite, pairs, partner, slotOf, childOf, openPairs, leastPair, nextPair, assigned, assignment}
 use Rattle.order.proofs.Counts.{countBelow, count-all, count-some, count-none, count-less}
 use Rattle.order.proofs.Least.{Least, least-of, least-is}
 use Rattle.order.proofs.Lists.{All, all-right, all-map, all-kept, all-keep, none-kept}
@@ -33,7 +33,7 @@ pub record Open (cost : Pair → Float) (n : ℕ) (ps : List Pair) (p : Pair) : 
   pub slot : p .slot < 8
   pub waits : slotOf ps (p .child) ≡ 8
   pub free : childOf ps (p .slot) ≡ 8
-  pub below : lt (cost p) greatest ≡ true
+  pub below : lt (cost p) greatestFinite ≡ true
 
 module _ (cost : Pair → Float) (n : ℕ) where
   abbrev openNow : List Pair → List Pair
@@ -45,17 +45,18 @@ module _ (cost : Pair → Float) (n : ℕ) where
   open-bounded : (ps : List Pair) → All Bounded (openNow ps)
   unfolding openPairs
   open-bounded ps =
-      all-kept Bounded (λ p. eqb (slotOf ps (p .child)) 8 && eqb (childOf ps (p .slot)) 8 && lt (cost p) greatest) (pairs n) (pairs-all Bounded n (λ c s l m. (l, m)))
+      all-kept Bounded (λ p. eqb (slotOf ps (p .child)) 8 && eqb (childOf ps (p .slot)) 8 && lt (cost p) greatestFinite) (pairs n)
+      (pairs-all Bounded n (λ c s l m. (l, m)))
 
   abbrev Free : List Pair → Pair → Type 0
-  Free ps p = (slotOf ps (p .child) ≡ 8) × (childOf ps (p .slot) ≡ 8) × (lt (cost p) greatest ≡ true)
+  Free ps p = (slotOf ps (p .child) ≡ 8) × (childOf ps (p .slot) ≡ 8) × (lt (cost p) greatestFinite ≡ true)
 
   open-free : (ps : List Pair) → All (Free ps) (openNow ps)
   unfolding openPairs
   open-free ps =
-      all-keep (Free ps) (λ p. eqb (slotOf ps (p .child)) 8 && eqb (childOf ps (p .slot)) 8 && lt (cost p) greatest) (pairs n)
+      all-keep (Free ps) (λ p. eqb (slotOf ps (p .child)) 8 && eqb (childOf ps (p .slot)) 8 && lt (cost p) greatestFinite) (pairs n)
       (λ p h.
-      let w = and-parts (eqb (slotOf ps (p .child)) 8) (eqb (childOf ps (p .slot)) 8) (lt (cost p) greatest) h in
+      let w = and-parts (eqb (slotOf ps (p .child)) 8) (eqb (childOf ps (p .slot)) 8) (lt (cost p) greatestFinite) h in
       (eqb-true (slotOf ps (p .child)) 8 (w .0), eqb-true (childOf ps (p .slot)) 8 (w .1), w .2))
 
   -- ---- a round takes a pair, the first of the least, or there is none to take
@@ -85,12 +86,14 @@ module _ (cost : Pair → Float) (n : ℕ) where
     none = λ p o.
         true≢false
         (sym (rw (eq-eqb (slotOf ps (p .child)) 8 (o .waits), eq-eqb (childOf ps (p .slot)) 8 (o .free)) (o .below))
-        ∙ pairs-each (λ q. (eqb (slotOf ps (q .child)) 8 && eqb (childOf ps (q .slot)) 8 && lt (cost q) greatest) ≡ false) n
-        (none-kept (λ q. eqb (slotOf ps (q .child)) 8 && eqb (childOf ps (q .slot)) 8 && lt (cost q) greatest) (pairs n) e) (p .child) (p .slot) (o .child) (o .slot));
+        ∙ pairs-each (λ q. (eqb (slotOf ps (q .child)) 8 && eqb (childOf ps (q .slot)) 8 && lt (cost q) greatestFinite) ≡ false) n
+        (none-kept (λ q. eqb (slotOf ps (q .child)) 8 && eqb (childOf ps (q .slot)) 8 && lt (cost q) greatestFinite) (pairs n) e) (p .child)
+        (p .slot) (o .child) (o .slot));
   }
 
   pub round-cases : (ps : List Pair) → Stuck ps ⊎ ((p : Pair) × Taken ps p)
-  round-cases ps = elim (least-of cost (openNow ps) (open-below (slotOf ps) (childOf ps) cost (pairs n))) [ inl e ↦ inl (stuck ps e) | inr w ↦ inr (w .0, taken ps (w .0) (w .1)) ]
+  round-cases ps = elim (least-of cost (openNow ps) (open-below (slotOf ps) (childOf ps) cost (pairs n)))
+      [ inl e ↦ inl (stuck ps e) | inr w ↦ inr (w .0, taken ps (w .0) (w .1)) ]
 
   pub round-stuck : (k : ℕ) → Stuck (assigned cost n k) → assigned cost n (suc k) ≡ assigned cost n k
   unfolding assigned
@@ -106,7 +109,8 @@ module _ (cost : Pair → Float) (n : ℕ) where
   matched-after few zero = matched-none n
   matched-after few (suc k) = go (matched-after few k) (round-cases (assigned cost n k))
     where
-      go : Matched n (assigned cost n k) → Stuck (assigned cost n k) ⊎ ((p : Pair) × Taken (assigned cost n k) p) → Matched n (assigned cost n (suc k))
+      go : Matched n (assigned cost n k) → Stuck (assigned cost n k) ⊎ ((p : Pair) × Taken (assigned cost n k) p)
+          → Matched n (assigned cost n (suc k))
       go m (inl s) = subst (Matched n) (sym (round-stuck k s)) m
       go m (inr (p, t)) =
           subst (Matched n) (sym (round-taken k p t))
@@ -143,8 +147,20 @@ module _ (cost : Pair → Float) (n : ℕ) where
 
   left-pair : (ps : List Pair) (p : Pair) → Matched n ps → n ≤ 8 → Open cost n ps p → Left ps → Left (ps ++ (p ∷ []))
   left-pair ps p m few o l = record {
-    children = omega (arith, l .children, length-append ps (p ∷ []), fewer (λ q. q .child) (λ q. q .slot) n (m .slots) (o .child) (o .slot) (o .waits));
-    slots = omega (arith, l .slots, length-append ps (p ∷ []), fewer (λ q. q .slot) (λ q. q .child) 8 below (o .slot) (omega (arith, o .child)) (o .free));
+    children = omega (
+      arith,
+      l .children,
+      length-append ps (p ∷ []),
+      fewer (λ q. q .child) (λ q. q .slot) n (m .slots) (o .child) (o .slot)
+          (o .waits),
+    );
+    slots = omega (
+      arith,
+      l .slots,
+      length-append ps (p ∷ []),
+      fewer (λ q. q .slot) (λ q. q .child) 8 below (o .slot) (omega (arith, o .child))
+          (o .free),
+    );
   }
     where
       below : All (λ q. q .child < 8) ps
@@ -153,7 +169,8 @@ module _ (cost : Pair → Float) (n : ℕ) where
       fewer : (key value : Pair → ℕ) (b : ℕ) → All (λ q. value q < 8) ps → key p < b → value p < 8 → partner key value ps (key p) ≡ 8
           → countBelow (λ k. eqb (partner key value ps k) 8) b ≡ suc (countBelow (λ k. eqb (partner key value (ps ++ (p ∷ [])) k) 8) b)
       fewer key value b h u v e =
-          count-less (λ k. eqb (partner key value ps k) 8) (λ k. eqb (partner key value (ps ++ (p ∷ [])) k) 8) b (key p) u (eq-eqb (partner key value ps (key p)) 8 e)
+          count-less (λ k. eqb (partner key value ps k) 8) (λ k. eqb (partner key value (ps ++ (p ∷ [])) k) 8) b (key p) u
+          (eq-eqb (partner key value ps (key p)) 8 e)
           (ne-eqb (partner key value (ps ++ (p ∷ [])) (key p)) 8 (λ d. omega (arith, partner-same key value ps p h e)))
           (λ i d. ap (λ (z : ℕ). eqb z 8) (sym (partner-other key value ps p i d)))
 
@@ -185,7 +202,8 @@ module _ (cost : Pair → Float) (n : ℕ) where
   pub no-more : n ≤ 8 → Stuck (assignment cost n)
   no-more few = go (length-after n) (round-cases (assignment cost n)) (left-after few n)
     where
-      go : (length (assignment cost n) ≡ n) ⊎ Stuck (assignment cost n) → Stuck (assignment cost n) ⊎ ((p : Pair) × Taken (assignment cost n) p) → Left (assignment cost n)
+      go : (length (assignment cost n) ≡ n) ⊎ Stuck (assignment cost n) → Stuck (assignment cost n) ⊎ ((p : Pair) × Taken (assignment cost n) p)
+          → Left (assignment cost n)
           → Stuck (assignment cost n)
       go e (inl s) l = s
       go (inr s) (inr w) l = s
@@ -196,28 +214,38 @@ module _ (cost : Pair → Float) (n : ℕ) where
           ∙ count-none (λ c. eqb (slotOf (assignment cost n) c) 8) n (omega (arith, l .children)) (p .child) (t .fits .child)))
 
   -- ---- every cost below the greatest f32
-  module _ (few : n ≤ 8) (low : (c s : ℕ) → c < n → s < 8 → lt (cost (record { child = c; slot = s })) greatest ≡ true) where
+  module _ (few : n ≤ 8) (low : (c s : ℕ) → c < n → s < 8 → lt (cost (record { child = c; slot = s })) greatestFinite ≡ true) where
     never-stuck : (ps : List Pair) → Left ps → length ps < n → Stuck ps → ⊥
     never-stuck ps l h s =
         let c = count-some (λ c. eqb (slotOf ps c) 8) n (omega (arith, l .children)) in
         let f = count-some (λ s. eqb (childOf ps s) 8) 8 (omega (arith, l .slots)) in
         s .none (record { child = c .0; slot = f .0 })
-        (record { child = c .1; slot = f .1; waits = eqb-true (slotOf ps (c .0)) 8 (c .2); free = eqb-true (childOf ps (f .0)) 8 (f .2); below = low (c .0) (f .0) (c .1) (f .1) })
+        (record {
+          child = c .1;
+          slot = f .1;
+          waits = eqb-true (slotOf ps (c .0)) 8 (c .2);
+          free = eqb-true (childOf ps (f .0)) 8 (f .2);
+          below = low
+              (c .0) (f .0) (c .1) (f .1);
+        })
 
     pub each-takes : (k : ℕ) → k ≤ n → length (assigned cost n k) ≡ k
     unfolding assigned
     each-takes zero h = refl
     each-takes (suc k) h = go (each-takes k (omega arith)) (round-cases (assigned cost n k))
       where
-        go : length (assigned cost n k) ≡ k → Stuck (assigned cost n k) ⊎ ((p : Pair) × Taken (assigned cost n k) p) → length (assigned cost n (suc k)) ≡ suc k
+        go : length (assigned cost n k) ≡ k → Stuck (assigned cost n k) ⊎ ((p : Pair) × Taken (assigned cost n k) p)
+            → length (assigned cost n (suc k)) ≡ suc k
         go e (inl s) = absurd (never-stuck (assigned cost n k) (left-after few k) (omega arith) s)
         go e (inr (p, t)) = length-taken k p t ∙ ap suc e
 
     pub all-assigned : OneToOne n (assignment cost n)
-    all-assigned = one-to-one n (assignment cost n) (matched-after few n) (each-takes n (le-refl n)) (count-none (λ c. eqb (slotOf (assignment cost n) c) 8) n (omega (arith, left-after few n .children, each-takes n (le-refl n))))
+    all-assigned = one-to-one n (assignment cost n) (matched-after few n) (each-takes n (le-refl n))
+        (count-none (λ c. eqb (slotOf (assignment cost n) c) 8) n (omega (arith, left-after few n .children, each-takes n (le-refl n))))
 
 -- ---- costs that agree on the children and slots give the same pairs
-pub assigned-same : (cost other : Pair → Float) (n : ℕ) → ((c s : ℕ) → c < n → s < 8 → cost (record { child = c; slot = s }) ≡ other (record { child = c; slot = s }))
+pub assigned-same : (cost other : Pair → Float) (n : ℕ)
+    → ((c s : ℕ) → c < n → s < 8 → cost (record { child = c; slot = s }) ≡ other (record { child = c; slot = s }))
     → (k : ℕ) → assigned cost n k ≡ assigned other n k
 unfolding assigned
 assigned-same cost other n h zero = refl

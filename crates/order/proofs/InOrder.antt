@@ -9,7 +9,7 @@ use native.Mathlib.Omega.{arith}
 use lib.ListN.{length, length-append}
 use borrow.Author.Tests.{ne-eqb}
 use Rattle.order.specs.Assign.{Pair, slotOf, childOf}
-use Rattle.order.specs.Order.{inOrder}
+use Rattle.order.specs.Order.{gatheredOrder}
 use Rattle.order.proofs.Lists.{All, all-append, all-map}
 use Rattle.order.proofs.Partners.{partner-same, partner-other, partner-none, Matched, matched-none, matched-pair, OneToOne, one-to-one}
 
@@ -17,21 +17,21 @@ abbrev own : ℕ → Pair
 own n = record { child = n; slot = n }
 
 -- each pair's two numbers are one, below n
-in-order-all : (P : Pair → Type 0) (n : ℕ) → ((i : ℕ) → i < n → P (own i)) → All P (inOrder n)
-unfolding inOrder
+in-order-all : (P : Pair → Type 0) (n : ℕ) → ((i : ℕ) → i < n → P (own i)) → All P (gatheredOrder n)
+unfolding gatheredOrder
 in-order-all P zero h = tt
-in-order-all P (suc n) h = all-append P (inOrder n) (own n ∷ []) (in-order-all P n (λ i l. h i (omega arith))) (h n (omega arith), tt)
+in-order-all P (suc n) h = all-append P (gatheredOrder n) (own n ∷ []) (in-order-all P n (λ i l. h i (omega arith))) (h n (omega arith), tt)
 
-slot-free : (n : ℕ) → slotOf (inOrder n) n ≡ 8
-slot-free n = partner-none (λ p. p .child) (λ p. p .slot) (inOrder n) n (in-order-all (λ p. p .child ≡ n → ⊥) n (λ i l e. omega arith))
+slot-free : (n : ℕ) → slotOf (gatheredOrder n) n ≡ 8
+slot-free n = partner-none (λ p. p .child) (λ p. p .slot) (gatheredOrder n) n (in-order-all (λ p. p .child ≡ n → ⊥) n (λ i l e. omega arith))
 
-child-free : (n : ℕ) → childOf (inOrder n) n ≡ 8
-child-free n = partner-none (λ p. p .slot) (λ p. p .child) (inOrder n) n (in-order-all (λ p. p .slot ≡ n → ⊥) n (λ i l e. omega arith))
+child-free : (n : ℕ) → childOf (gatheredOrder n) n ≡ 8
+child-free n = partner-none (λ p. p .slot) (λ p. p .child) (gatheredOrder n) n (in-order-all (λ p. p .slot ≡ n → ⊥) n (λ i l e. omega arith))
 
-length-in-order : (n : ℕ) → length (inOrder n) ≡ n
-unfolding inOrder
+length-in-order : (n : ℕ) → length (gatheredOrder n) ≡ n
+unfolding gatheredOrder
 length-in-order zero = refl
-length-in-order (suc n) = length-append (inOrder n) (own n ∷ []) ∙ add-one (length (inOrder n)) ∙ ap suc (length-in-order n)
+length-in-order (suc n) = length-append (gatheredOrder n) (own n ∷ []) ∙ add-one (length (gatheredOrder n)) ∙ ap suc (length-in-order n)
 
 -- one child more may come
 wider : (n : ℕ) (ps : List Pair) → Matched n ps → Matched (suc n) ps
@@ -42,23 +42,25 @@ wider n ps m = record {
   slots-apart = m .slots-apart;
 }
 
-pub in-order-matched : (n : ℕ) → n ≤ 8 → Matched n (inOrder n)
-unfolding inOrder
+pub in-order-matched : (n : ℕ) → n ≤ 8 → Matched n (gatheredOrder n)
+unfolding gatheredOrder
 in-order-matched zero h = matched-none 0
-in-order-matched (suc n) h = matched-pair (suc n) (inOrder n) (own n) h (omega arith) (omega arith) (slot-free n) (child-free n) (wider n (inOrder n) (in-order-matched n (omega arith)))
+in-order-matched (suc n) h = matched-pair (suc n) (gatheredOrder n) (own n) h (omega arith) (omega arith) (slot-free n) (child-free n)
+    (wider n (gatheredOrder n) (in-order-matched n (omega arith)))
 
-pub in-order-slot : (n c : ℕ) → n ≤ 8 → c < n → slotOf (inOrder n) c ≡ c
-unfolding inOrder
+pub in-order-slot : (n c : ℕ) → n ≤ 8 → c < n → slotOf (gatheredOrder n) c ≡ c
+unfolding gatheredOrder
 in-order-slot zero c h l = absurd (not-suc-le-zero l)
 in-order-slot (suc n) c h l = go (eq-or-lt-of-le (le-of-suc-le-suc l)) (in-order-slot n c (omega arith))
   where
-    go : (c ≡ n) ⊎ (c < n) → (c < n → slotOf (inOrder n) c ≡ c) → slotOf (inOrder n ++ (own n ∷ [])) c ≡ c
+    go : (c ≡ n) ⊎ (c < n) → (c < n → slotOf (gatheredOrder n) c ≡ c) → slotOf (gatheredOrder n ++ (own n ∷ [])) c ≡ c
     go (inl e) r =
-        ap (slotOf (inOrder n ++ (own n ∷ []))) e
-        ∙ partner-same (λ p. p .child) (λ p. p .slot) (inOrder n) (own n) (in-order-all (λ p. p .slot < 8) n (λ i m. omega arith)) (slot-free n)
+        ap (slotOf (gatheredOrder n ++ (own n ∷ []))) e
+        ∙ partner-same (λ p. p .child) (λ p. p .slot) (gatheredOrder n) (own n) (in-order-all (λ p. p .slot < 8) n (λ i m. omega arith)) (slot-free n)
         ∙ sym e
-    go (inr m) r = partner-other (λ p. p .child) (λ p. p .slot) (inOrder n) (own n) c (λ e. omega arith) ∙ r m
+    go (inr m) r = partner-other (λ p. p .child) (λ p. p .slot) (gatheredOrder n) (own n) c (λ e. omega arith) ∙ r m
 
-pub in-order-one-to-one : (n : ℕ) → n ≤ 8 → OneToOne n (inOrder n)
+pub in-order-one-to-one : (n : ℕ) → n ≤ 8 → OneToOne n (gatheredOrder n)
 in-order-one-to-one n h =
-    one-to-one n (inOrder n) (in-order-matched n h) (length-in-order n) (λ c l. ne-eqb (slotOf (inOrder n) c) 8 (λ e. omega (arith, in-order-slot n c h l)))
+    one-to-one n (gatheredOrder n) (in-order-matched n h) (length-in-order n)
+    (λ c l. ne-eqb (slotOf (gatheredOrder n) c) 8 (λ e. omega (arith, in-order-slot n c h l)))

@@ -9,7 +9,7 @@ use lib.Ieee.{Float, ofBits, lt, isNan}
 use Rattle.float.proofs.Order.{lt-through, lt-self, lt-between}
 use Rattle.float.proofs.Sign.{no-nan-lt-l}
 use Rattle.order.specs.Lists.{keep, some}
-use Rattle.order.specs.Assign.{Pair, greatest, leastPair}
+use Rattle.order.specs.Assign.{Pair, greatestFinite, leastPair}
 use Rattle.order.specs.Scan.{priced, noBest, firstOr, bestPair, cheaper}
 use Rattle.order.specs.declared.Best.{Best}
 use Rattle.order.proofs.Lists.{All, all-append, all-map, all-kept, all-take, keep-same, keep-first, some-same, some-none, some-one}
@@ -47,34 +47,34 @@ cheaper-assoc a b c n = go (lt (b .cost) (a .cost)) refl (lt (c .cost) (b .cost)
 
 -- nothing found yet, or a cost below the greatest
 abbrev pub Under : Best → Type 0
-Under b = (b ≡ noBest) ⊎ (lt (b .cost) greatest ≡ true)
+Under b = (b ≡ noBest) ⊎ (lt (b .cost) greatestFinite ≡ true)
 
-greatest-proper : T (not (isNan greatest))
+greatest-proper : T (not (isNan greatestFinite))
 unfolding ofBits isNan
 greatest-proper = tt
 
 under-proper : (b : Best) → Under b → Proper b
 under-proper b (inl e) = subst (λ (z : Best). Proper z) (sym e) greatest-proper
-under-proper b (inr l) = no-nan-lt-l (b .cost) greatest l
+under-proper b (inr l) = no-nan-lt-l (b .cost) greatestFinite l
 
 pub cheaper-none : (b : Best) → Under b → cheaper b noBest ≡ b
 unfolding cheaper
-cheaper-none b (inl e) = rw (e, lt-self greatest)
-cheaper-none b (inr l) = rw (lt-not-both (b .cost) greatest l)
+cheaper-none b (inl e) = rw (e, lt-self greatestFinite)
+cheaper-none b (inr l) = rw (lt-not-both (b .cost) greatestFinite l)
 
 pub none-cheaper : (b : Best) → Under b → cheaper noBest b ≡ b
 unfolding cheaper
-none-cheaper b (inl e) = rw (e, lt-self greatest)
+none-cheaper b (inl e) = rw (e, lt-self greatestFinite)
 none-cheaper b (inr l) = rw l
 
 -- what is not below the greatest is not cheaper
-pub cheaper-past : (b x : Best) → Under b → lt (x .cost) greatest ≡ false → cheaper b x ≡ b
+pub cheaper-past : (b x : Best) → Under b → lt (x .cost) greatestFinite ≡ false → cheaper b x ≡ b
 unfolding cheaper
 cheaper-past b x (inl e) h = rw (e, h)
 cheaper-past b x (inr l) h = rw (past (lt (x .cost) (b .cost)) refl)
   where
     past : (t : Bool) → lt (x .cost) (b .cost) ≡ t → lt (x .cost) (b .cost) ≡ false
-    past true e = absurd (true≢false (sym (lt-through (x .cost) (b .cost) greatest e l) ∙ h))
+    past true e = absurd (true≢false (sym (lt-through (x .cost) (b .cost) greatestFinite e l) ∙ h))
     past false e = e
 
 cheaper-under : (a b : Best) → Under a → Under b → Under (cheaper a b)
@@ -89,7 +89,7 @@ cheaper-under a b u v = go (lt (b .cost) (a .cost))
 module _ (cost : Pair → Float) where
   -- each costs less than the greatest
   abbrev pub Below : List Pair → Type 0
-  Below ps = All (λ p. lt (cost p) greatest ≡ true) ps
+  Below ps = All (λ p. lt (cost p) greatestFinite ≡ true) ps
 
   bestIn : List Pair → Best
   bestIn [] = noBest
@@ -129,14 +129,21 @@ module _ (cost : Pair → Float) where
           ∙ ap not (some-one (λ r. lt (cost r) (cost q)) (l .before) p (l .after) e)
 
   abbrev Chosen : List Pair → Best → Type 0
-  Chosen ps b = (p : Pair) × Least ps p × (lt (cost p) greatest ≡ true) × (b ≡ priced cost p)
+  Chosen ps b = (p : Pair) × Least ps p × (lt (cost p) greatestFinite ≡ true) × (b ≡ priced cost p)
 
-  chosen-one : (p : Pair) → lt (cost p) greatest ≡ true → Chosen (p ∷ []) (cheaper (priced cost p) noBest)
-  chosen-one p u = (p, record { before = []; after = []; is = refl; dearer = tt; none = (lt-self (cost p), tt) }, u, cheaper-none (priced cost p) (inr u))
+  chosen-one : (p : Pair) → lt (cost p) greatestFinite ≡ true → Chosen (p ∷ []) (cheaper (priced cost p) noBest)
+  chosen-one p u = (
+    p,
+    record { before = []; after = []; is = refl; dearer = tt; none = (lt-self (cost p), tt) },
+    u,
+    cheaper-none (priced cost p)
+        (inr u),
+  )
 
-  chosen-next : (p : Pair) (ps : List Pair) (b : Best) → lt (cost p) greatest ≡ true → Chosen ps b → Chosen (p ∷ ps) (cheaper (priced cost p) b)
+  chosen-next : (p : Pair) (ps : List Pair) (b : Best) → lt (cost p) greatestFinite ≡ true → Chosen ps b → Chosen (p ∷ ps) (cheaper (priced cost p) b)
   unfolding cheaper
-  chosen-next p ps b u (q, l, v, e) = subst (λ (z : Best). Chosen (p ∷ ps) (cond (lt (z .cost) (cost p)) z (priced cost p))) (sym e) (go (lt (cost q) (cost p)) refl)
+  chosen-next p ps b u (q, l, v, e) = subst (λ (z : Best). Chosen (p ∷ ps) (cond (lt (z .cost) (cost p)) z (priced cost p))) (sym e)
+      (go (lt (cost q) (cost p)) refl)
     where
       go : (t : Bool) → lt (cost q) (cost p) ≡ t → Chosen (p ∷ ps) (cond t (priced cost q) (priced cost p))
       go true h = (
@@ -158,7 +165,11 @@ module _ (cost : Pair → Float) where
           after = ps;
           is = refl;
           dearer = tt;
-          none = (lt-self (cost p), all-map (λ r. lt (cost r) (cost q) ≡ false) (λ r. lt (cost r) (cost p) ≡ false) ps (λ r f. not-below (cost r) (cost q) (cost p) (no-nan-lt-l (cost q) greatest v) f h) (l .none));
+          none = (
+            lt-self (cost p),
+            all-map (λ r. lt (cost r) (cost q) ≡ false) (λ r. lt (cost r) (cost p) ≡ false) ps
+                (λ r f. not-below (cost r) (cost q) (cost p) (no-nan-lt-l (cost q) greatestFinite v) f h) (l .none),
+          );
         },
         u,
         refl,
@@ -182,9 +193,10 @@ module _ (cost : Pair → Float) where
   best-under ps h = subst Under (sym (best-is ps h)) (bestIn-under ps h)
 
   pub best-append : (xs ys : List Pair) → Below xs → Below ys → bestPair cost (xs ++ ys) ≡ cheaper (bestPair cost xs) (bestPair cost ys)
-  best-append xs ys h k = best-is (xs ++ ys) (all-append (λ p. lt (cost p) greatest ≡ true) xs ys h k) ∙ bestIn-append xs ys h k ∙ sym (ap₂ cheaper (best-is xs h) (best-is ys k))
+  best-append xs ys h k = best-is (xs ++ ys) (all-append (λ p. lt (cost p) greatestFinite ≡ true) xs ys h k) ∙ bestIn-append xs ys h k ∙ sym
+      (ap₂ cheaper (best-is xs h) (best-is ys k))
 
-  pub best-one : (p : Pair) → lt (cost p) greatest ≡ true → bestPair cost (p ∷ []) ≡ priced cost p
+  pub best-one : (p : Pair) → lt (cost p) greatestFinite ≡ true → bestPair cost (p ∷ []) ≡ priced cost p
   unfolding bestIn
   best-one p h = best-is (p ∷ []) (h, tt) ∙ cheaper-none (priced cost p) (inr h)
 

@@ -85,7 +85,8 @@ none-kept f (x ∷ xs) e = go (f x) refl e (none-kept f xs)
     go false d g r = (d, r g)
 
 -- the first that passes, all before it failing
-pub keep-first : {A : Type 0} (f : A → Bool) (xs : List A) (y : A) (ys : List A) → All (λ x. f x ≡ false) xs → f y ≡ true → take 1 (keep f (xs ++ (y ∷ ys))) ≡ y ∷ []
+pub keep-first : {A : Type 0} (f : A → Bool) (xs : List A) (y : A) (ys : List A) → All (λ x. f x ≡ false) xs → f y ≡ true
+    → take 1 (keep f (xs ++ (y ∷ ys))) ≡ y ∷ []
 unfolding keep
 keep-first f [] y ys h e = rw e
 keep-first f (x ∷ xs) y ys h e = rw (h .0) (keep-first f xs y ys (h .1) e)

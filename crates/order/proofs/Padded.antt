@@ -26,7 +26,8 @@ pub map-next : {A B : Type 0} (f : A → B) (d : B) (none : A) (xs : List A) (k 
 map-next f d none xs k ys v len h e g =
     ap₂ (λ (l : List _) (x : _). set l k x) e g
     ∙ padded-next d (map f (take k xs)) k (f (getD xs k none)) (length-map (take k xs) f ∙ length-take-le k xs (omega arith)) h
-    ∙ ap (padded d) (sym (map-append f (take k xs) (getD xs k none ∷ [])) ∙ ap (map f) (sym (take-suc xs k none (omega arith)) ∙ ap (λ (j : ℕ). take j xs) (sym (add-one k))))
+    ∙ ap (padded d) (sym (map-append f (take k xs) (getD xs k none ∷ [])) ∙ ap (map f)
+    (sym (take-suc xs k none (omega arith)) ∙ ap (λ (j : ℕ). take j xs) (sym (add-one k))))
 
 -- and all of them
 pub map-whole : {A B : Type 0} (f : A → B) (d : B) (xs : List A) (k : ℕ) → length xs ≡ 8 → 8 ≤ k → padded d (map f (take k xs)) ≡ map f xs

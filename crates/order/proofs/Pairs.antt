@@ -12,21 +12,25 @@ module _ (P : Pair → Type 0) where
   pub row-all : (c k : ℕ) → ((s : ℕ) → s < k → P (record { child = c; slot = s })) → All P (rowPairs c k)
   unfolding rowPairs
   row-all c zero h = tt
-  row-all c (suc k) h = all-append P (rowPairs c k) (record { child = c; slot = k } ∷ []) (row-all c k (λ s l. h s (omega arith))) (h k (omega arith), tt)
+  row-all c (suc k) h = all-append P (rowPairs c k) (record { child = c; slot = k } ∷ []) (row-all c k (λ s l. h s (omega arith)))
+      (h k (omega arith), tt)
 
   row-each : (c k : ℕ) → All P (rowPairs c k) → (s : ℕ) → s < k → P (record { child = c; slot = s })
   unfolding rowPairs
   row-each c zero h s l = absurd (not-suc-le-zero l)
-  row-each c (suc k) h s l = go (eq-or-lt-of-le (le-of-suc-le-suc l)) (row-each c k (all-left P (rowPairs c k) (record { child = c; slot = k } ∷ []) h) s)
+  row-each c (suc k) h s l = go (eq-or-lt-of-le (le-of-suc-le-suc l))
+      (row-each c k (all-left P (rowPairs c k) (record { child = c; slot = k } ∷ []) h) s)
     where
       go : (s ≡ k) ⊎ (s < k) → (s < k → P (record { child = c; slot = s })) → P (record { child = c; slot = s })
-      go (inl e) r = subst (λ (z : ℕ). P (record { child = c; slot = z })) (sym e) (all-right P (rowPairs c k) (record { child = c; slot = k } ∷ []) h .0)
+      go (inl e) r = subst (λ (z : ℕ). P (record { child = c; slot = z })) (sym e)
+          (all-right P (rowPairs c k) (record { child = c; slot = k } ∷ []) h .0)
       go (inr m) r = r m
 
   pub pairs-all : (n : ℕ) → ((c s : ℕ) → c < n → s < 8 → P (record { child = c; slot = s })) → All P (pairs n)
   unfolding pairs
   pairs-all zero h = tt
-  pairs-all (suc n) h = all-append P (pairs n) (rowPairs n 8) (pairs-all n (λ c s l m. h c s (omega arith) m)) (row-all n 8 (λ s m. h n s (omega arith) m))
+  pairs-all (suc n) h = all-append P (pairs n) (rowPairs n 8) (pairs-all n (λ c s l m. h c s (omega arith) m))
+      (row-all n 8 (λ s m. h n s (omega arith) m))
 
   pub pairs-each : (n : ℕ) → All P (pairs n) → (c s : ℕ) → c < n → s < 8 → P (record { child = c; slot = s })
   unfolding pairs

@@ -21,12 +21,14 @@ module _ (key value : Pair → ℕ) where
   partner-other (q ∷ ps) p k h = ap (λ (z : ℕ). cond (eqb (key q) k) (value q) z) (partner-other ps p k h)
 
   -- a key that is new
-  pub partner-same : (ps : List Pair) (p : Pair) → All (λ q. value q < 8) ps → partner key value ps (key p) ≡ 8 → partner key value (ps ++ (p ∷ [])) (key p) ≡ value p
+  pub partner-same : (ps : List Pair) (p : Pair) → All (λ q. value q < 8) ps → partner key value ps (key p) ≡ 8
+      → partner key value (ps ++ (p ∷ [])) (key p) ≡ value p
   unfolding partner
   partner-same [] p h e = rw (eq-eqb (key p) (key p) refl)
   partner-same (q ∷ ps) p h e = go (eqb (key q) (key p)) e (λ f. partner-same ps p (h .1) f)
     where
-      go : (t : Bool) → cond t (value q) (partner key value ps (key p)) ≡ 8 → (partner key value ps (key p) ≡ 8 → partner key value (ps ++ (p ∷ [])) (key p) ≡ value p)
+      go : (t : Bool) → cond t (value q) (partner key value ps (key p)) ≡ 8
+          → (partner key value ps (key p) ≡ 8 → partner key value (ps ++ (p ∷ [])) (key p) ≡ value p)
           → cond t (value q) (partner key value (ps ++ (p ∷ [])) (key p)) ≡ value p
       go true f r = absurd (full (value q) (h .0) f)
       go false f r = r f
@@ -72,7 +74,8 @@ module _ (key value : Pair → ℕ) where
       later (q ∷ qs) h r = (rw (ne-eqb (key p) (key q) (λ e. h .0 (sym e))) (r .0), later qs (h .1) (r .1))
 
   -- what is found comes from a pair
-  partner-of : (P : Pair → Type 0) (ps : List Pair) → All P ps → (k : ℕ) → (partner key value ps k ≡ 8) ⊎ ((p : Pair) × P p × (key p ≡ k) × (partner key value ps k ≡ value p))
+  partner-of : (P : Pair → Type 0) (ps : List Pair) → All P ps → (k : ℕ)
+      → (partner key value ps k ≡ 8) ⊎ ((p : Pair) × P p × (key p ≡ k) × (partner key value ps k ≡ value p))
   unfolding partner
   partner-of P [] h k = inl refl
   partner-of P (p ∷ ps) h k = go (eqb (key p) k) refl (partner-of P ps (h .1) k)
@@ -87,9 +90,15 @@ there-and-back : (key value : Pair → ℕ) (ps : List Pair) (m l : ℕ) → All
     → (k : ℕ) → (partner key value ps k ≡ 8) ⊎ ((k < m) × (partner key value ps k < l) × (partner value key ps (partner key value ps k) ≡ k))
 there-and-back key value ps m l hk hv a k =
     elim (partner-of key value (λ p. ((key p < m) × (value p < l)) × (partner value key ps (value p) ≡ key p)) ps
-    (all-both (λ p. (key p < m) × (value p < l)) (λ p. partner value key ps (value p) ≡ key p) ps (all-both (λ p. key p < m) (λ p. value p < l) ps hk hv) (partner-own value key ps a)) k) [
+    (all-both (λ p. (key p < m) × (value p < l)) (λ p. partner value key ps (value p) ≡ key p) ps
+    (all-both (λ p. key p < m) (λ p. value p < l) ps hk hv) (partner-own value key ps a)) k) [
       | inl e ↦ inl e
-      | inr (p, h, e, f) ↦ inr (subst (λ (z : ℕ). z < m) e (h .0 .0), subst (λ (z : ℕ). z < l) (sym f) (h .0 .1), ap (partner value key ps) f ∙ h .1 ∙ e)
+      | inr (p, h, e, f) ↦ inr (
+        subst (λ (z : ℕ). z < m) e (h .0 .0),
+        subst (λ (z : ℕ). z < l) (sym f) (h .0 .1),
+        ap (partner value key ps) f ∙ h .1
+            ∙ e,
+      )
     ]
 
 -- ---- the pairs of n children: below the bounds, no child twice and no slot twice

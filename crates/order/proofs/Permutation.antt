@@ -1,7 +1,8 @@
 -- The children by slots are the children in gathered order, rearranged: whatever each child lists, the slots list it as often.
 use mathlib.Core.Path.{_≡_, refl, sym, ap, ap₂, _∙_, subst, fun-ext}
 use mathlib.Core.Logic.{inl, inr}
-use mathlib.Core.List.{List, [], _∷_, _++_, map, flatMap, append-assoc, Perm, List·Permᴰ, Permᴰ·refl, Permᴰ·symm, List·Permᴰ·trans, Permᴰ·append-left, Permᴰ·append-right, List·Permᴰ·append-comm}
+use mathlib.Core.List.{List, [], _∷_, _++_, map, flatMap, append-assoc, Perm, List·Permᴰ, Permᴰ·refl, Permᴰ·symm, List·Permᴰ·trans}
+use mathlib.Core.List.{Permᴰ·append-left, Permᴰ·append-right, List·Permᴰ·append-comm}
 use Prim.Native.Nat.{ℕ, zero, suc, _-_, _≤_, _<_}
 use native.Mathlib.Nat.{not-suc-le-zero, le-of-suc-le-suc}
 use native.Mathlib.Omega.{arith}
@@ -17,10 +18,12 @@ use Rattle.order.proofs.Lists.{All, all-map}
 use Rattle.order.proofs.Partners.{Apart, partner-none, partner-own, child-slot, OneToOne}
 
 -- a pair in front sets its key's place
-front-set : (key value : Pair → ℕ) (p : Pair) (ps : List Pair) → key p < 8 → set (eightOf (partner key value ps)) (key p) (value p) ≡ eightOf (partner key value (p ∷ ps))
+front-set : (key value : Pair → ℕ) (p : Pair) (ps : List Pair) → key p < 8 → set (eightOf (partner key value ps)) (key p) (value p)
+    ≡ eightOf (partner key value (p ∷ ps))
 unfolding partner
 front-set key value p ps l =
-    eight-set (partner key value ps) (partner key value (p ∷ ps)) (key p) (value p) l (rw (eq-eqb (key p) (key p) refl)) (λ j d. rw (ne-eqb (key p) j (λ e. d (sym e))))
+    eight-set (partner key value ps) (partner key value (p ∷ ps)) (key p) (value p) l (rw (eq-eqb (key p) (key p) refl))
+    (λ j d. rw (ne-eqb (key p) j (λ e. d (sym e))))
 
 swap-front : {B : Type 0} (x y z : List B) → List·Permᴰ (x ++ (y ++ z)) (y ++ (x ++ z))
 swap-front x y z = rw (← append-assoc x y z, ← append-assoc y x z) (Permᴰ·append-right z (List·Permᴰ·append-comm x y))
@@ -46,7 +49,8 @@ module _ {B : Type 0} (h : ℕ → List B) (none : h 8 ≡ []) where
       (ap h (eight-at (partner key value ps) 0 (key p) (b .0) ∙ partner-none key value ps (key p) (a .0)) ∙ none))
       (Permᴰ·append-left (h (value p)) (by-key key value ps (b .1) (a .1))))
 
-flat-same : {B : Type 0} (f g : ℕ → List B) (u v : Pair → ℕ) (ps : List Pair) → All (λ p. f (u p) ≡ g (v p)) ps → flatMap f (map u ps) ≡ flatMap g (map v ps)
+flat-same : {B : Type 0} (f g : ℕ → List B) (u v : Pair → ℕ) (ps : List Pair) → All (λ p. f (u p) ≡ g (v p)) ps → flatMap f (map u ps)
+    ≡ flatMap g (map v ps)
 unfolding flatMap
 flat-same f g u v [] h = refl
 flat-same f g u v (p ∷ ps) h = ap₂ (λ (x y : List _). x ++ y) (h .0) (flat-same f g u v ps (h .1))
@@ -74,7 +78,8 @@ module _ {A : Type 0} (none : A) where
   flat-padded g e (x ∷ xs) m = ap (λ (l : List _). g x ++ l) (flat-padded g e xs m)
 
 -- ---- the theorem: g says what a child lists, and nothing where there is none
-module _ {A B : Type 0} (none : A) (g : A → List B) (e : g none ≡ []) (ps : List Pair) (xs : List A) (few : length xs ≤ 8) (o : OneToOne (length xs) ps) where
+module _ {A B : Type 0} (none : A) (g : A → List B) (e : g none ≡ []) (ps : List Pair) (xs : List A) (few : length xs ≤ 8)
+    (o : OneToOne (length xs) ps) where
   abbrev listed : ℕ → List B
   listed c = g (getD xs c none)
 
@@ -82,7 +87,8 @@ module _ {A B : Type 0} (none : A) (g : A → List B) (e : g none ≡ []) (ps : 
   listed-past c h = ap g (List·getD-eq-default xs none {n = c} h) ∙ e
 
   no-ninth : childOf ps 8 ≡ 8
-  no-ninth = partner-none (λ p. p .slot) (λ p. p .child) ps 8 (all-map (λ p. p .slot < 8) (λ p. p .slot ≡ 8 → ⊥) ps (λ p l d. omega arith) (o .matched .slots))
+  no-ninth = partner-none (λ p. p .slot) (λ p. p .child) ps 8
+      (all-map (λ p. p .slot < 8) (λ p. p .slot ≡ 8 → ⊥) ps (λ p l d. omega arith) (o .matched .slots))
 
   -- through its slot a child comes back to itself
   round-trip : (c : ℕ) → listed (childOf ps (slotOf ps c)) ≡ listed c
@@ -115,7 +121,8 @@ module _ {A B : Type 0} (none : A) (g : A → List B) (e : g none ≡ []) (ps : 
       List·Permᴰ·trans (by-key listed (listed-past 8 few) (λ p. p .slot) (λ p. p .child) ps (m .slots) (m .slots-apart))
       (subst (λ (l : List B). List·Permᴰ (flatMap listed (map (λ p. p .child) ps)) l) in-gathered-order
       (subst (λ (l : List B). List·Permᴰ l (flatMap (λ s. listed (childOf ps s)) (eightOf (slotOf ps)))) in-pair-order
-      (Permᴰ·symm (by-key (λ s. listed (childOf ps s)) (ap listed no-ninth ∙ listed-past 8 few) (λ p. p .child) (λ p. p .slot) ps below (m .children-apart)))))
+      (Permᴰ·symm (by-key (λ s. listed (childOf ps s)) (ap listed no-ninth ∙ listed-past 8 few) (λ p. p .child) (λ p. p .slot) ps below
+      (m .children-apart)))))
 
   pub placed-perm : Perm (flatMap g (placed none ps xs)) (flatMap g xs)
   placed-perm = ∣ placed-permᴰ ∣₁

@@ -14,7 +14,8 @@ use Rattle.order.proofs.Partners.{Matched, slot-child}
 
 module _ {A : Type 0} (none : A) where
   -- as the code reads them from the whole array
-  pub place-taken : (ps : List Pair) (xs : List A) (n count : ℕ) → length xs ≡ 8 → Matched n ps → n ≤ count → map (λ c. getD xs c none) (eightOf (childOf ps)) ≡ placed none ps (take count xs)
+  pub place-taken : (ps : List Pair) (xs : List A) (n count : ℕ) → length xs ≡ 8 → Matched n ps → n ≤ count
+      → map (λ c. getD xs c none) (eightOf (childOf ps)) ≡ placed none ps (take count xs)
   unfolding placed
   place-taken ps xs n count e m l = ap (λ (f : ℕ → A). eightOf f) (fun-ext at)
     where

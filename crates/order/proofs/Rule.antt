@@ -9,7 +9,7 @@ use lib.Dec.{eqb}
 use lib.Ieee.{Float, lt}
 use borrow.Author.Tests.{eq-eqb}
 use Rattle.order.specs.Lists.{consIf, keep}
-use Rattle.order.specs.Assign.{Pair, greatest, rowPairs, pairs, slotOf, childOf, openPairs}
+use Rattle.order.specs.Assign.{Pair, greatestFinite, rowPairs, pairs, slotOf, childOf, openPairs}
 use Rattle.order.proofs.Greedy.{Open, Taken}
 use Rattle.order.proofs.Lists.{All, all-append, all-map, all-kept}
 use Rattle.order.proofs.Pairs.{row-all, pairs-all, pairs-each}
@@ -59,7 +59,8 @@ unfolding keep
 kept-each P f [] h = tt
 kept-each P f (p ∷ ps) h = go (f p) refl h (λ r. kept-each P f ps r)
   where
-    go : (t : Bool) → f p ≡ t → All P (consIf t p (keep f ps)) → (All P (keep f ps) → All (λ q. f q ≡ true → P q) ps) → (f p ≡ true → P p) × All (λ q. f q ≡ true → P q) ps
+    go : (t : Bool) → f p ≡ t → All P (consIf t p (keep f ps)) → (All P (keep f ps) → All (λ q. f q ≡ true → P q) ps) → (f p ≡ true → P p)
+        × All (λ q. f q ≡ true → P q) ps
     go true e r k = (λ d. r .0, k (r .1))
     go false e r k = (λ d. absurd (true≢false (sym d ∙ e)), k r)
 
@@ -72,13 +73,15 @@ module _ (cost : Pair → Float) (n : ℕ) (ps : List Pair) where
   open-each : (P : Pair → Type 0) → All P (openPairs (slotOf ps) (childOf ps) cost (pairs n)) → (q : Pair) → Open cost n ps q → P q
   unfolding openPairs
   open-each P h q o =
-      pairs-each (λ r. (eqb (slotOf ps (r .child)) 8 && eqb (childOf ps (r .slot)) 8 && lt (cost r) greatest) ≡ true → P r) n
-      (kept-each P (λ r. eqb (slotOf ps (r .child)) 8 && eqb (childOf ps (r .slot)) 8 && lt (cost r) greatest) (pairs n) h) (q .child) (q .slot) (o .child) (o .slot)
+      pairs-each (λ r. (eqb (slotOf ps (r .child)) 8 && eqb (childOf ps (r .slot)) 8 && lt (cost r) greatestFinite) ≡ true → P r) n
+      (kept-each P (λ r. eqb (slotOf ps (r .child)) 8 && eqb (childOf ps (r .slot)) 8 && lt (cost r) greatestFinite) (pairs n) h) (q .child)
+      (q .slot) (o .child) (o .slot)
       (rw (eq-eqb (slotOf ps (q .child)) 8 (o .waits), eq-eqb (childOf ps (q .slot)) 8 (o .free)) (o .below))
 
   open-sorted : Sorted (openPairs (slotOf ps) (childOf ps) cost (pairs n))
   unfolding openPairs
-  open-sorted = sorted-keep (λ r. eqb (slotOf ps (r .child)) 8 && eqb (childOf ps (r .slot)) 8 && lt (cost r) greatest) (pairs n) (pairs-sorted n)
+  open-sorted = sorted-keep (λ r. eqb (slotOf ps (r .child)) 8 && eqb (childOf ps (r .slot)) 8 && lt (cost r) greatestFinite) (pairs n)
+      (pairs-sorted n)
 
   -- the next pair is by 01's rule
   pub next-rule : (p : Pair) → Taken cost n ps p → Rule cost n ps p

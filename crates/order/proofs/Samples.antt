@@ -18,6 +18,8 @@ abbrev point : Aabb
 point = record { min = corner; max = corner }
 
 -- the lower child takes the lower slot
-pub ties : slotsOf true point (point ∷ point ∷ point ∷ []) ≡ record { child = 0; slot = 0 } ∷ record { child = 1; slot = 1 } ∷ record { child = 2; slot = 2 } ∷ []
-unfolding slotsOf costTable directionCost dotOf directionOf signOf centerOf assigned leastPair openPairs partner pairs rowPairs keep some ofBits add sub mul round lt
+pub ties : slotsOf true point (point ∷ point ∷ point ∷ [])
+    ≡ record { child = 0; slot = 0 } ∷ record { child = 1; slot = 1 } ∷ record { child = 2; slot = 2 } ∷ []
+unfolding slotsOf costTable directionCost dotOf directionOf signOf centerOf assigned leastPair openPairs partner pairs rowPairs keep some ofBits add
+    sub mul round lt
 ties = refl

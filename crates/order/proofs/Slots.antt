@@ -10,7 +10,7 @@ use Rattle.aabb.specs.declared.Aabb.{Aabb}
 use Rattle.aabb.specs.Aabb.{centerOf, acceptedBox}
 use Rattle.aabb.proofs.Bounds.{accepted}
 use Rattle.order.specs.Lists.{eightOf, padded}
-use Rattle.order.specs.Assign.{costIn, greatest, assigned, assignment}
+use Rattle.order.specs.Assign.{costIn, greatestFinite, assigned, assignment}
 use Rattle.order.specs.Order.{directionCost, costTable, noRow, slotsOf}
 use Rattle.order.proofs.Arrays.{eight-at}
 use Rattle.order.proofs.Bounds.{cost-within, within-below}
@@ -44,19 +44,20 @@ abbrev pub AcceptedAll : List Aabb → Type 0
 AcceptedAll boxes = All (λ b. T (acceptedBox b)) boxes
 
 module _ (parent : Aabb) (p : T (acceptedBox parent)) where
-  row-below : (b : Aabb) → T (acceptedBox b) → (s : ℕ) → s < 8 → lt (getD (eightOf (directionCost (centerOf parent) b)) s nan) greatest ≡ true
+  row-below : (b : Aabb) → T (acceptedBox b) → (s : ℕ) → s < 8 → lt (getD (eightOf (directionCost (centerOf parent) b)) s nan) greatestFinite ≡ true
   row-below b q s l =
-      subst (λ (x : Float). lt x greatest ≡ true) (sym (eight-at (directionCost (centerOf parent) b) nan s l))
+      subst (λ (x : Float). lt x greatestFinite ≡ true) (sym (eight-at (directionCost (centerOf parent) b) nan s l))
       (within-below (directionCost (centerOf parent) b s) (cost-within parent b (accepted parent p) (accepted b q) s))
 
   pub table-below : (boxes : List Aabb) → AcceptedAll boxes → (c s : ℕ) → c < length boxes → s < 8
-      → lt (costIn (costTable parent boxes) (record { child = c; slot = s })) greatest ≡ true
+      → lt (costIn (costTable parent boxes) (record { child = c; slot = s })) greatestFinite ≡ true
   unfolding costTable
   table-below boxes h c s l m =
-      all-at (λ row. (s : ℕ) → s < 8 → lt (getD row s nan) greatest ≡ true) (map (λ b. eightOf (directionCost (centerOf parent) b)) boxes) c []
+      all-at (λ row. (s : ℕ) → s < 8 → lt (getD row s nan) greatestFinite ≡ true) (map (λ b. eightOf (directionCost (centerOf parent) b)) boxes) c []
       (subst (λ (n : ℕ). c < n) (sym (length-map boxes (λ b. eightOf (directionCost (centerOf parent) b)))) l)
-      (all-mapped (λ row. (s : ℕ) → s < 8 → lt (getD row s nan) greatest ≡ true) (λ b. eightOf (directionCost (centerOf parent) b)) boxes
-      (all-map (λ b. T (acceptedBox b)) (λ b. (s : ℕ) → s < 8 → lt (getD (eightOf (directionCost (centerOf parent) b)) s nan) greatest ≡ true) boxes row-below h))
+      (all-mapped (λ row. (s : ℕ) → s < 8 → lt (getD row s nan) greatestFinite ≡ true) (λ b. eightOf (directionCost (centerOf parent) b)) boxes
+      (all-map (λ b. T (acceptedBox b)) (λ b. (s : ℕ) → s < 8 → lt (getD (eightOf (directionCost (centerOf parent) b)) s nan) greatestFinite ≡ true)
+      boxes row-below h))
       s m
 
 -- with ordering and without, each of up to eight accepted children has a slot of its own

@@ -18,8 +18,8 @@ abbrev pub costIn : List (List Float) → Pair → Float
 costIn table p = getD (getD table (p .child) []) (p .slot) nan
 
 -- the greatest finite f32, from which the Rust starts each search: only a cost below it is taken, so no NaN
-abbrev pub greatest : Float
-greatest = ofBits binary32 0x7f7f_ffff
+abbrev pub greatestFinite : Float
+greatestFinite = ofBits binary32 0x7f7f_ffff
 
 -- child c with each slot below k
 unfoldable pub rowPairs : ℕ → ℕ → List Pair
@@ -46,7 +46,7 @@ childOf ps s = partner (λ p. p .slot) (λ p. p .child) ps s
 -- Those of the pairs that a round may take: the child has no slot yet, the slot no child, and the cost is below the greatest f32. `slot` and
 -- `child` say what each has, 8 for none.
 unfoldable pub openPairs : (ℕ → ℕ) → (ℕ → ℕ) → (Pair → Float) → List Pair → List Pair
-openPairs slot child cost ps = keep (λ p. eqb (slot (p .child)) 8 && eqb (child (p .slot)) 8 && lt (cost p) greatest) ps
+openPairs slot child cost ps = keep (λ p. eqb (slot (p .child)) 8 && eqb (child (p .slot)) 8 && lt (cost p) greatestFinite) ps
 
 -- the first of the pairs than which none is cheaper, in their order; nothing where there are none
 unfoldable pub leastPair : (Pair → Float) → List Pair → List Pair

@@ -10,7 +10,7 @@ use Rattle.ray.specs.declared.Vec3.{Vec3}
 use Rattle.aabb.specs.declared.Aabb.{Aabb}
 use Rattle.aabb.specs.Aabb.{each, centerOf}
 use Rattle.order.specs.Lists.{eightOf}
-use Rattle.order.specs.Assign.{Pair, costIn, greatest, childOf, assignment}
+use Rattle.order.specs.Assign.{Pair, costIn, greatestFinite, childOf, assignment}
 
 -- −1 for a bit that is set, else 1
 unfoldable pub signOf : ℕ → Float
@@ -33,14 +33,14 @@ unfoldable pub costTable : Aabb → List Aabb → List (List Float)
 costTable parent boxes = let p = centerOf parent in map (λ b. eightOf (directionCost p b)) boxes
 
 -- child i in slot i
-unfoldable pub inOrder : ℕ → List Pair
-inOrder zero = []
-inOrder (suc n) = inOrder n ++ (record { child = n; slot = n } ∷ [])
+unfoldable pub gatheredOrder : ℕ → List Pair
+gatheredOrder zero = []
+gatheredOrder (suc n) = gatheredOrder n ++ (record { child = n; slot = n } ∷ [])
 
 -- the slots of up to eight children: by cost with ordering on, else in gathered order
 unfoldable pub slotsOf : Bool → Aabb → List Aabb → List Pair
 slotsOf true parent boxes = assignment (costIn (costTable parent boxes)) (length boxes)
-slotsOf false parent boxes = inOrder (length boxes)
+slotsOf false parent boxes = gatheredOrder (length boxes)
 
 -- the children by slots, `none` in a slot without one
 unfoldable pub placed : {A : Type 0} → A → List Pair → List A → List A
@@ -48,4 +48,4 @@ placed none ps children = eightOf (λ s. getD children (childOf ps s) none)
 
 -- the row of a child that is not there
 abbrev pub noRow : List Float
-noRow = replicate 8 greatest
+noRow = replicate 8 greatestFinite

@@ -4,7 +4,7 @@ use mathlib.Core.List.{List, [], _∷_}
 use Prim.Native.Nat.{ℕ}
 use lib.ListN.{getD}
 use lib.Ieee.{Float, nan, lt}
-use Rattle.order.specs.Assign.{Pair, costIn, greatest, rowPairs, pairs, openPairs, leastPair}
+use Rattle.order.specs.Assign.{Pair, costIn, greatestFinite, rowPairs, pairs, openPairs, leastPair}
 use Rattle.order.specs.declared.Best.{Best}
 
 -- a pair and what it costs
@@ -13,7 +13,7 @@ priced cost p = record { cost = cost p; child = p .child; slot = p .slot }
 
 -- no pair, dearer than each that may be taken
 abbrev pub noBest : Best
-noBest = record { cost = greatest; child = 8; slot = 8 }
+noBest = record { cost = greatestFinite; child = 8; slot = 8 }
 
 -- the first of some pairs, if there is one
 abbrev pub firstOr : (Pair → Float) → List Pair → Best

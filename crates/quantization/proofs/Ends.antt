@@ -1,4 +1,5 @@
--- A child's two bytes: at most 255, each grows with the coordinate, and the lower is never above the upper one; and the reciprocal of a scale is an exact power
+-- A child's two bytes: at most 255, each grows with the coordinate, and the lower is never above the upper one; and the reciprocal of a scale is an
+-- exact power
 -- of two.
 use mathlib.Core.Path.{_≡_, refl, sym, ap, _∙_, subst}
 use mathlib.Core.Logic.{inl, inr}
@@ -58,7 +59,8 @@ pub record Rounds (r : ℕ → ℕ → ℕ) : Type 0 where
 pub rounds-up : Rounds roundUp
 rounds-up = record {
   none = λ d. simp (zero-mod, zero-div) refl;
-  order = λ n d m c D C h. up-least n d (roundUp m c) D (le-of-mul-le-mul-right (le-trans h (le-trans (mul-le-mul-right d (up-reaches m c C)) (le-of-eq (mul-right-comm (roundUp m c) c d)))) C);
+  order = λ n d m c D C h. up-least n d (roundUp m c) D
+      (le-of-mul-le-mul-right (le-trans h (le-trans (mul-le-mul-right d (up-reaches m c C)) (le-of-eq (mul-right-comm (roundUp m c) c d)))) C);
 }
 
 -- ---- bytes
@@ -93,7 +95,8 @@ unfolding clampedByte
 byte-down-up nan = zero-le
 byte-down-up (inf s) = le-refl (cond s 0 255)
 byte-down-up (fin true m e) = zero-le
-byte-down-up (fin false m e) = le-min (le-trans (min-le-left (m * up e / down e) 255) (down-up (m * up e) (down e))) (min-le-right (m * up e / down e) 255)
+byte-down-up (fin false m e) = le-min (le-trans (min-le-left (m * up e / down e) 255) (down-up (m * up e) (down e)))
+    (min-le-right (m * up e / down e) 255)
 
 -- ---- 1 / 2 ^ (e - 127) is 2 ^ (127 - e)
 pub reciprocal-power : (e : ℕ) → 0 < e → e < 255 → reciprocalOf e ≡ power (254 - e)
@@ -104,19 +107,22 @@ reciprocal-power e l h = ap (div binary32 (fin false 1 (pos 0))) (scale-power e 
 pub min-le-max : (x y : Float) → T (le x y) → quantMin x ≤ quantMax y
 min-le-max x y h = le-trans (byte-down-up x) (byte-mono roundUp rounds-up x y h)
 
-grid-mono : (p : Float) (e : ℕ) (x y : Float) → 0 < e → e < 255 → Within 40 p → Within 40 x → Within 40 y → T (le x y) → T (le (onGrid p e x) (onGrid p e y))
+grid-mono : (p : Float) (e : ℕ) (x y : Float) → 0 < e → e < 255 → Within 40 p → Within 40 x → Within 40 y → T (le x y)
+    → T (le (onGrid p e x) (onGrid p e y))
 unfolding onGrid
 grid-mono p e x y l u P X Y h =
     subst (λ (r : Float). T (le (mul binary32 (sub binary32 x p) r) (mul binary32 (sub binary32 y p) r))) (sym (reciprocal-power e l u))
     (mul-mono-left binary32 (sub binary32 x p) (sub binary32 y p) 1 (minus (254 - e) 127) (difference x X) (difference y Y)
-    (sub-mono binary32 x y p p (atmost-finite x (2 ^ 40) 1 X) (atmost-finite y (2 ^ 40) 1 Y) (atmost-finite p (2 ^ 40) 1 P) (atmost-finite p (2 ^ 40) 1 P)
+    (sub-mono binary32 x y p p (atmost-finite x (2 ^ 40) 1 X) (atmost-finite y (2 ^ 40) 1 Y) (atmost-finite p (2 ^ 40) 1 P)
+    (atmost-finite p (2 ^ 40) 1 P)
     h (le-self p (atmost-no-nan p (2 ^ 40) 1 P))))
   where
     difference : (v : Float) → Within 40 v → T (finite (sub binary32 v p))
     difference v w = atmost-finite (sub binary32 v p) (2 ^ 41) 1 (sub-within binary32 40 v p (lit< tt) w P)
 
 -- where the child's ends are in order, so are its bytes, inside its parent or not
-pub child-order : (p : Float) (e : ℕ) (lo hi : Float) → 0 < e → e < 255 → Within 40 p → Within 40 lo → Within 40 hi → T (le lo hi) → childMin p e lo ≤ childMax p e hi
+pub child-order : (p : Float) (e : ℕ) (lo hi : Float) → 0 < e → e < 255 → Within 40 p → Within 40 lo → Within 40 hi → T (le lo hi)
+    → childMin p e lo ≤ childMax p e hi
 unfolding childMin childMax
 child-order p e lo hi l u P L H h = min-le-max (onGrid p e lo) (onGrid p e hi) (grid-mono p e lo hi l u P L H h)
 

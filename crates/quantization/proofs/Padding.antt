@@ -14,7 +14,8 @@ use Rattle.float.proofs.Zeros.{minus-zero, plus-zero}
 use Rattle.quantization.specs.Ends.{roundUp, clampedByte, quantMin, quantMax, reciprocalOf, onGrid, childMin, childMax}
 use Rattle.quantization.proofs.Ends.{rounds-up}
 
-pub padded-min : (p : Float) (e : ℕ) (lo : Float) → quantMin (mul binary32 (sub binary32 (sub binary32 lo p) plusZero) (reciprocalOf e)) ≡ childMin p e lo
+pub padded-min : (p : Float) (e : ℕ) (lo : Float) → quantMin (mul binary32 (sub binary32 (sub binary32 lo p) plusZero) (reciprocalOf e))
+    ≡ childMin p e lo
 unfolding childMin onGrid
 padded-min p e lo = ap (λ (x : Float). quantMin (mul binary32 x (reciprocalOf e))) (minus-zero (sub binary32 lo p) (sub-fits binary32 lo p))
 
@@ -36,11 +37,14 @@ zero-product s (fin t n d) =
     let z : 0 * (n * up d) ≡ 0 = zero-mul (n * up d) in
     let D : 0 < 1 * down d = mul-pos (pow-pos 0) (down-pos d) in
     zero-byte (round binary32 (unlike s t) (0 * (n * up d)) (1 * down d)) (unlike s t) (0 * (n * up d)) (1 * down d) z D
-    (round-exact binary32 (unlike s t) (0 * (n * up d)) (1 * down d) 0 0 D (pow-pos 24) (pow-pos 277) (ap (λ (k : ℕ). k * 2 ^ 149) z ∙ sym (zero-mul (1 * down d))))
+    (round-exact binary32 (unlike s t) (0 * (n * up d)) (1 * down d) 0 0 D (pow-pos 24) (pow-pos 277)
+    (ap (λ (k : ℕ). k * 2 ^ 149) z ∙ sym (zero-mul (1 * down d))))
 
-pub padded-max : (p : Float) (e : ℕ) (hi : Float) → quantMax (mul binary32 (add binary32 (sub binary32 hi p) plusZero) (reciprocalOf e)) ≡ childMax p e hi
+pub padded-max : (p : Float) (e : ℕ) (hi : Float) → quantMax (mul binary32 (add binary32 (sub binary32 hi p) plusZero) (reciprocalOf e))
+    ≡ childMax p e hi
 unfolding childMax onGrid
 padded-max p e hi = elim (plus-zero (sub binary32 hi p) (sub-fits binary32 hi p)) [
   | inl h ↦ ap (λ (x : Float). quantMax (mul binary32 x (reciprocalOf e))) h
-  | inr h ↦ ap (λ (x : Float). quantMax (mul binary32 x (reciprocalOf e))) (h .1) ∙ zero-product false (reciprocalOf e) ∙ sym (ap (λ (x : Float). quantMax (mul binary32 x (reciprocalOf e))) (h .0) ∙ zero-product true (reciprocalOf e))
+  | inr h ↦ ap (λ (x : Float). quantMax (mul binary32 x (reciprocalOf e))) (h .1) ∙ zero-product false (reciprocalOf e) ∙ sym
+      (ap (λ (x : Float). quantMax (mul binary32 x (reciprocalOf e))) (h .0) ∙ zero-product true (reciprocalOf e))
 ]

@@ -1,7 +1,10 @@
--- The steps of `quantize_min` and `quantize_max` on plain values: the whole part below 255, one more where a fraction is left, and the two ends of the range.
+-- The steps of `quantize_min` and `quantize_max` on plain values: the whole part below 255, one more where a fraction is left, and the two ends of
+-- the range.
 use mathlib.Core.Path.{_≡_, refl, sym, ap, _∙_, subst}
 use Prim.Native.Nat.{ℕ, suc, _+_, _*_, _/_, _%_, _^_, _≤_, _<_, min}
-use native.Mathlib.Nat.{le-trans, le-of-eq, le-of-lt, lt-of-lt-of-le, lt-of-le-of-lt, not-le-of-lt, lt-of-not-le, zero-mul, mul-one, one-mul, mul-right-comm, mul-le-mul-right, le-of-mul-le-mul-right, min-eq-left, min-eq-right, min-le-left, div-add-mod', le-div-iff-mul-le, div-lt-iff-lt-mul, zero-div}
+use native.Mathlib.Nat.{le-trans, le-of-eq, le-of-lt, lt-of-lt-of-le, lt-of-le-of-lt, not-le-of-lt, lt-of-not-le, zero-mul, mul-one, one-mul}
+use native.Mathlib.Nat.{mul-right-comm, mul-le-mul-right, le-of-mul-le-mul-right, min-eq-left, min-eq-right, min-le-left, div-add-mod'}
+use native.Mathlib.Nat.{le-div-iff-mul-le, div-lt-iff-lt-mul, zero-div}
 use native.Mathlib.Omega.{arith}
 use mathlib.Core.Bool.{Bool, true, false, not, cond, true≢false}
 use lib.IntN.{pos}
@@ -44,7 +47,8 @@ unfolding lt
 above-minus-one nan h = absurd h
 above-minus-one (inf s) h = absurd h
 above-minus-one (fin true m e) h = absurd h
-above-minus-one (fin false m e) h = lt→ltb 0 (1 * 1 * down e + m * up e * 1) (more (down e) (1 * 1 * down e) (m * up e * 1) (down-pos e) (one-mul (down e)))
+above-minus-one (fin false m e) h = lt→ltb 0 (1 * 1 * down e + m * up e * 1)
+    (more (down e) (1 * 1 * down e) (m * up e * 1) (down-pos e) (one-mul (down e)))
   where
     more : (d u v : ℕ) → 0 < d → u ≡ d → 0 < u + v
     more d u v p q = omega arith
@@ -55,7 +59,8 @@ below-two-64 nan h = absurd h
 below-two-64 (inf s) h = absurd h
 below-two-64 (fin true m e) h = absurd h
 below-two-64 (fin false m e) h =
-    lt→ltb (m * up e * 1) (1 * 2 ^ 64 * down e) (lt-of-le-of-lt (le-of-eq (mul-one (m * up e))) (lt-of-lt-of-le h (mul-le-mul-right (down e) (lit≤ tt))))
+    lt→ltb (m * up e * 1) (1 * 2 ^ 64 * down e) (lt-of-le-of-lt (le-of-eq (mul-one (m * up e)))
+    (lt-of-lt-of-le h (mul-le-mul-right (down e) (lit≤ tt))))
 
 pub whole-part : (x : Float) → Inside x → (toUnsigned 64 x ≡ quantMin x) × (quantMin x < 255)
 unfolding toUnsigned clampedByte
@@ -104,7 +109,8 @@ capped : (w t : ℕ) → t ≡ min w 255 → t < 255 → t ≡ w
 capped w t h l = omega arith
 
 up-round : (n d : ℕ) → n / d * d < n → roundUp n d ≡ suc (n / d)
-up-round n d h = cond-no (eqb (n % d) 0) (n / d) (suc (n / d)) (not-T (eqb (n % d) 0) (λ (t : T (eqb (n % d) 0)). clash (n / d * d) (n % d) n (div-add-mod' n d) (eqb→eq (n % d) 0 t) h))
+up-round n d h = cond-no (eqb (n % d) 0) (n / d) (suc (n / d))
+    (not-T (eqb (n % d) 0) (λ (t : T (eqb (n % d) 0)). clash (n / d * d) (n % d) n (div-add-mod' n d) (eqb→eq (n % d) 0 t) h))
   where
     clash : (u r n : ℕ) → u + r ≡ n → r ≡ 0 → u < n → ⊥
     clash u r n a b c = omega arith
@@ -134,7 +140,8 @@ one-more-at t (fin true m e) (fin false n d) v h l p = absurd (true≢false (sym
 one-more-at t (fin false m e) (fin false n d) v h l p =
     let w = m * up e / down e in
     let q : t ≡ w = capped w t h l in
-    let k : t * down e < m * up e = compares (n * up d) (m * up e) (down e) (down d) t (down-pos d) (v .1) .0 (ltb→lt (n * up d * down e) (m * up e * down d) (yes (ltb (n * up d * down e) (m * up e * down d)) p)) in
+    let k : t * down e < m * up e = compares (n * up d) (m * up e) (down e) (down d) t (down-pos d) (v .1) .0
+    (ltb→lt (n * up d * down e) (m * up e * down d) (yes (ltb (n * up d * down e) (m * up e * down d)) p)) in
     let r : roundUp (m * up e) (down e) ≡ suc w = up-round (m * up e) (down e) (subst (λ (z : ℕ). z * down e < m * up e) q k) in
     next t w (min (roundUp (m * up e) (down e)) 255) q (ap (λ (z : ℕ). min z 255) r ∙ min-eq-left (subst (λ (z : ℕ). z < 255) q l))
   where
@@ -155,7 +162,8 @@ the-same-at t (fin true m e) (fin false n d) v h l p = h
 the-same-at t (fin false m e) (fin false n d) v h l p =
     let w = m * up e / down e in
     let q : t ≡ w = capped w t h l in
-    let k : m * up e ≤ t * down e = compares (n * up d) (m * up e) (down e) (down d) t (down-pos d) (v .1) .1 (nltb→le (n * up d * down e) (m * up e * down d) (no (ltb (n * up d * down e) (m * up e * down d)) p)) in
+    let k : m * up e ≤ t * down e = compares (n * up d) (m * up e) (down e) (down d) t (down-pos d) (v .1) .1
+    (nltb→le (n * up d * down e) (m * up e * down d) (no (ltb (n * up d * down e) (m * up e * down d)) p)) in
     let r : roundUp (m * up e) (down e) ≡ w = no-round (m * up e) (down e) (subst (λ (z : ℕ). m * up e ≤ z * down e) q k) in
     h ∙ ap (λ (z : ℕ). min z 255) (sym r)
 

@@ -1,4 +1,5 @@
--- The exponent byte of one axis of a box (01, "Corners of each file", bvh2_to_cwbvh.rs): each operation is rounded once, in the order in which the Rust writes it.
+-- The exponent byte of one axis of a box (01, "Corners of each file", bvh2_to_cwbvh.rs): each operation is rounded once, in the order in which the
+-- Rust writes it.
 use Prim.Native.Nat.{ℕ, _^_}
 use mathlib.Core.Bool.{false}
 use lib.IntN.{pos}

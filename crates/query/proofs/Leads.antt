@@ -1,4 +1,5 @@
--- Queries as loops over positions: what is left of a query, run from the walker that a loop holds and with what it has noted, gives the query's outcome.
+-- Queries as loops over positions: what is left of a query, run from the walker that a loop holds and with what it has noted, gives the query's
+-- outcome.
 -- For any fields and masks of nodes, any rays and any query.
 use mathlib.Core.Bool.{true, false, _&&_, cond}
 use mathlib.Core.List.{List, [], _∷_}
@@ -11,7 +12,8 @@ use Rattle.faststack.specs.Stack.{capacity}
 use Rattle.walk.specs.Step as S
 use Rattle.walk.specs.Queries.{Reaction, Going}
 use Rattle.walk.specs.Words.{Group, firstPosition}
-use Rattle.walk.specs.WordStep.{WalkerWords, SteppedWords, NodeWords, InRange, isTest, findsNone, stayWords, afterReportWords, tellWords, reportWords, turnWords, advanceWords, seekWords, stepWords}
+use Rattle.walk.specs.WordStep.{WalkerWords, SteppedWords, NodeWords, WordsFit, isTest, findsNone, stayWords, afterReportWords, tellWords}
+use Rattle.walk.specs.WordStep.{reportWords, turnWords, advanceWords, seekWords, stepWords}
 use Rattle.walk.specs.WordQueries.{OutcomeWords, toldAllWords, followWords, queryWords}
 use Rattle.walk.proofs.Cases.{cond-elim}
 use Rattle.walk.proofs.Words.{AtFront, empty-front, front-stays}
@@ -24,8 +26,8 @@ pub record Steady {s d : Type 0} (m : ℕ) (N : NodeWords s d) (n : ℕ) : Type 
   pub some : 0 < m
   pub nodes : m ≤ 65535
   pub positions : n ≤ 65536
-  pub range : (w : WalkerWords s) → InRange w → InRange (stepWords m N n w .walker)
-  pub falls : (w : WalkerWords s) → InRange w → Going (stepWords m N n w .answer) → stepsLeftWords m (stepWords m N n w .walker) < stepsLeftWords m w
+  pub range : (w : WalkerWords s) → WordsFit w → WordsFit (stepWords m N n w .walker)
+  pub falls : (w : WalkerWords s) → WordsFit w → Going (stepWords m N n w .answer) → stepsLeftWords m (stepWords m N n w .walker) < stepsLeftWords m w
   pub told : (x : d) (r : s) → N .forged r ≡ false → N .forged (N .told x r) ≡ false
 
 -- a walker on its way: it is not forged, and its words are in range
@@ -33,17 +35,19 @@ pub record OnWay {s d : Type 0} (m : ℕ) (N : NodeWords s d) (w : WalkerWords s
   pub accepted : N .forged (w .ray) ≡ false
   pub tests : w .tests ≤ m
   pub deep : w .depth ≤ capacity
-  pub range : InRange w
+  pub range : WordsFit w
 
 -- from this walker, with x noted, the query ends as the goal says, with steps to spare
-pub record Leads {s d a : Type 0} (m : ℕ) (N : NodeWords s d) (n : ℕ) (react : ℕ → s → a → Reaction d a) (goal : OutcomeWords s a) (w : WalkerWords s) (x : a) : Type 0 where
+pub record Leads {s d a : Type 0} (m : ℕ) (N : NodeWords s d) (n : ℕ) (react : ℕ → s → a → Reaction d a) (goal : OutcomeWords s a)
+    (w : WalkerWords s) (x : a) : Type 0 where
   pub way : OnWay m N w
   pub steps : ℕ
   pub enough : stepsLeftWords m w < steps
   pub rest : queryWords m N react steps n w x ≡ goal
 
 -- the query goes on from walker w, with y noted and fewer steps left than from u
-pub record Goes {s d a : Type 0} (m : ℕ) (N : NodeWords s d) (n : ℕ) (react : ℕ → s → a → Reaction d a) (goal : OutcomeWords s a) (u w : WalkerWords s) (y : a) : Type 0 where
+pub record Goes {s d a : Type 0} (m : ℕ) (N : NodeWords s d) (n : ℕ) (react : ℕ → s → a → Reaction d a) (goal : OutcomeWords s a)
+    (u w : WalkerWords s) (y : a) : Type 0 where
   pub leads : Leads m N n react goal w y
   pub less : stepsLeftWords m w < stepsLeftWords m u
 
@@ -98,11 +102,12 @@ module _ {s d a : Type 0} {m : ℕ} {N : NodeWords s d} {n : ℕ} {react : ℕ �
     shown : Shows m N n w (r .answer) (r .walker)
     shown = subst (λ (q : SteppedWords s). Shows m N n w (q .answer) (q .walker)) (sym e) (turn-shows m N n w (o .deep))
 
-    in-range : InRange (r .walker)
-    in-range = subst (λ (q : SteppedWords s). InRange (q .walker)) (is-step ∙ sym e) (steady .range w (o .range))
+    in-range : WordsFit (r .walker)
+    in-range = subst (λ (q : SteppedWords s). WordsFit (q .walker)) (is-step ∙ sym e) (steady .range w (o .range))
 
     falls : Going (r .answer) → stepsLeftWords m (r .walker) < stepsLeftWords m w
-    falls = subst (λ (q : SteppedWords s). Going (q .answer) → stepsLeftWords m (q .walker) < stepsLeftWords m w) (is-step ∙ sym e) (steady .falls w (o .range))
+    falls = subst (λ (q : SteppedWords s). Going (q .answer) → stepsLeftWords m (q .walker) < stepsLeftWords m w) (is-step ∙ sym e)
+        (steady .falls w (o .range))
 
   -- ---- a position in hand
 
@@ -114,7 +119,7 @@ module _ {s d a : Type 0} {m : ℕ} {N : NodeWords s d} {n : ℕ} {react : ℕ �
     is-due = rw (unskipped-turn m N n w front, lt-ltb 0 (w .positions .bits) held, present)
 
     -- one past the n refuses the query
-    pub leads-past : n ≤ p → record { walker = w; noted = x; ended = S.refused 10 } ≡ goal
+    pub leads-past : n ≤ p → record { walker = w; accumulator = x; ended = S.refused 10 } ≡ goal
     unfolding reportWords
     leads-past h =
         let e : stayWords w (S.refused 10) ≡ reportWords n w = rw (← named, le-leb n p h) in
@@ -133,16 +138,17 @@ module _ {s d a : Type 0} {m : ℕ} {N : NodeWords s d} {n : ℕ} {react : ℕ �
       followed : ℕ → Reaction d a → OutcomeWords s a
       followed f r =
           let u = toldAllWords N (r .tells) reported in
-          cond (r .stop) (record { walker = u; noted = r .noted; ended = S.position p }) (queryWords m N react f n u (r .noted))
+          cond (r .stop) (record { walker = u; accumulator = r .accumulator; ended = S.position p }) (queryWords m N react f n u (r .accumulator))
 
       -- the query stops there,
-      pub leads-stops : {y : a} {ds : List d} → react p (w .ray) x ≡ record { noted = y; tells = ds; stop = true }
-          → record { walker = toldAllWords N ds reported; noted = y; ended = S.position p } ≡ goal
+      pub leads-stops : {y : a} {ds : List d} → react p (w .ray) x ≡ record { accumulator = y; tells = ds; stop = true }
+          → record { walker = toldAllWords N ds reported; accumulator = y; ended = S.position p } ≡ goal
       unfolding followed
       leads-stops q = let g = follows _ is-report in ap (followed (g .spare)) (sym q) ∙ g .rest
 
       -- or goes on
-      pub leads-on : {y : a} {ds : List d} → react p (w .ray) x ≡ record { noted = y; tells = ds; stop = false } → Goes m N n react goal w (toldAllWords N ds reported) y
+      pub leads-on : {y : a} {ds : List d} → react p (w .ray) x ≡ record { accumulator = y; tells = ds; stop = false }
+          → Goes m N n react goal w (toldAllWords N ds reported) y
       unfolding followed
       leads-on {ds = ds} q =
           let g = follows _ is-report in
@@ -150,7 +156,8 @@ module _ {s d a : Type 0} {m : ℕ} {N : NodeWords s d} {n : ℕ} {react : ℕ �
           let k = told-left m N n steady ds reported in
           record {
             leads = record {
-              way = told-way m N n steady ds reported (record { accepted = o .accepted; tests = o .tests; deep = o .deep; range = in-range _ is-report });
+              way = told-way m N n steady ds reported
+                  (record { accepted = o .accepted; tests = o .tests; deep = o .deep; range = in-range _ is-report });
               steps = g .spare;
               enough = omega (arith, g .enough);
               rest = ap (followed (g .spare)) (sym q) ∙ g .rest;
@@ -161,28 +168,33 @@ module _ {s d a : Type 0} {m : ℕ} {N : NodeWords s d} {n : ℕ} {react : ℕ �
 -- ---- on to the next position
 
 -- how a search for positions leaves a query: it goes on after a test, and ends with done or a refusal
-abbrev pub Sought : {s d a : Type 0} (m : ℕ) (N : NodeWords s d) (n : ℕ) (react : ℕ → s → a → Reaction d a) (goal : OutcomeWords s a) (w : WalkerWords s) (x : a) → S.Answer → WalkerWords s → Type 0
+abbrev pub Sought : {s d a : Type 0} (m : ℕ) (N : NodeWords s d) (n : ℕ) (react : ℕ → s → a → Reaction d a) (goal : OutcomeWords s a)
+    (w : WalkerWords s) (x : a) → S.Answer → WalkerWords s → Type 0
 Sought m N n react goal w x (S.tested v) u = Goes m N n react goal w u x
 Sought m N n react goal w x (S.position p) u = ⊥
-Sought m N n react goal w x S.done u = record { walker = u; noted = x; ended = S.done } ≡ goal
-Sought m N n react goal w x (S.refused k) u = record { walker = u; noted = x; ended = S.refused k } ≡ goal
+Sought m N n react goal w x S.done u = record { walker = u; accumulator = x; ended = S.done } ≡ goal
+Sought m N n react goal w x (S.refused k) u = record { walker = u; accumulator = x; ended = S.refused k } ≡ goal
 
 -- what a later turn's search gives, a first one gives too
-sought-after : {s d a : Type 0} (m : ℕ) (N : NodeWords s d) (n : ℕ) (react : ℕ → s → a → Reaction d a) (goal : OutcomeWords s a) (x : a) (w u : WalkerWords s) (b : S.Answer) (v : WalkerWords s)
+sought-after : {s d a : Type 0} (m : ℕ) (N : NodeWords s d) (n : ℕ) (react : ℕ → s → a → Reaction d a) (goal : OutcomeWords s a) (x : a)
+    (w u : WalkerWords s) (b : S.Answer) (v : WalkerWords s)
     → stepsLeftWords m u < stepsLeftWords m w → Sought m N n react goal u x b v → Sought m N n react goal w x b v
 sought-after m N n react goal x w u (S.tested j) v l h = record { leads = h .leads; less = omega (arith, l, h .less) }
 sought-after m N n react goal x w u (S.position p) v l h = h
 sought-after m N n react goal x w u S.done v l h = h
 sought-after m N n react goal x w u (S.refused k) v l h = h
 
-module _ {s d a : Type 0} {m : ℕ} {N : NodeWords s d} {n : ℕ} {react : ℕ → s → a → Reaction d a} {goal : OutcomeWords s a} {x : a} (steady : Steady m N n) where
+module _ {s d a : Type 0} {m : ℕ} {N : NodeWords s d} {n : ℕ} {react : ℕ → s → a → Reaction d a} {goal : OutcomeWords s a} {x : a}
+    (steady : Steady m N n) where
   -- one turn without positions in hand
   turn-sought : (w : WalkerWords s) → Leads m N n react goal w x → w .positions .bits ≤ 0 → (r : SteppedWords s) → r ≡ advanceWords m N n w
       → Sought m N n react goal w x (r .answer) (r .walker)
   turn-sought w L none r e =
-      go (r .answer) (r .walker) (shown steady L r e) (in-range steady L r e) (falls steady L r e) (follows steady L r e .spare) (follows steady L r e .enough) (follows steady L r e .rest)
+      go (r .answer) (r .walker) (shown steady L r e) (in-range steady L r e) (falls steady L r e) (follows steady L r e .spare)
+      (follows steady L r e .enough) (follows steady L r e .rest)
     where
-      go : (b : S.Answer) (u : WalkerWords s) → Shows m N n w b u → InRange u → (Going b → stepsLeftWords m u < stepsLeftWords m w) → (k : ℕ) → stepsLeftWords m w ≤ k
+      go : (b : S.Answer) (u : WalkerWords s) → Shows m N n w b u → WordsFit u → (Going b → stepsLeftWords m u < stepsLeftWords m w) → (k : ℕ)
+          → stepsLeftWords m w ≤ k
           → followWords m N react b u x (queryWords m N react k n) ≡ goal → Sought m N n react goal w x b u
       go (S.tested v) u h i f k l q = record {
         leads = record {
@@ -193,7 +205,8 @@ module _ {s d a : Type 0} {m : ℕ} {N : NodeWords s d} {n : ℕ} {react : ℕ �
         };
         less = f tt;
       }
-      go (S.position p) u h i f k l q = absurd (let e = front-stays (N .skips (w .ray)) 32 (w .positions) (empty-front (N .skips (w .ray)) (w .positions) none) in omega (arith, h .0, ap (λ (g : Group). g .bits) e))
+      go (S.position p) u h i f k l q = absurd (let e = front-stays (N .skips (w .ray)) 32 (w .positions)
+          (empty-front (N .skips (w .ray)) (w .positions) none) in omega (arith, h .0, ap (λ (g : Group). g .bits) e))
       go S.done u h i f k l q = q
       go (S.refused j) u h i f k l q = q
 
@@ -204,15 +217,18 @@ module _ {s d a : Type 0} {m : ℕ} {N : NodeWords s d} {n : ℕ} {react : ℕ �
   seek-sought zero w L none = turn-sought w L none _ refl
   seek-sought (suc k) w L none =
       cond-elim (λ (q : SteppedWords s). Sought m N n react goal w x (q .answer) (q .walker)) (findsNone (advanceWords m N n w)) _ _
-      (λ h. again (advanceWords m N n w .answer) h (turn-sought w L none _ refl) (seek-sought k (advanceWords m N n w .walker))) (λ h. turn-sought w L none _ refl)
+      (λ h. again (advanceWords m N n w .answer) h (turn-sought w L none _ refl) (seek-sought k (advanceWords m N n w .walker)))
+      (λ h. turn-sought w L none _ refl)
     where
       u : WalkerWords s
       u = advanceWords m N n w .walker
 
       again : (b : S.Answer) → isTest b && eqb (u .positions .bits) 0 ≡ true → Sought m N n react goal w x b u
-          → (Leads m N n react goal u x → u .positions .bits ≤ 0 → Sought m N n react goal u x (seekWords m N k n u .answer) (seekWords m N k n u .walker))
+          → (Leads m N n react goal u x → u .positions .bits ≤ 0
+          → Sought m N n react goal u x (seekWords m N k n u .answer) (seekWords m N k n u .walker))
           → Sought m N n react goal w x (seekWords m N k n u .answer) (seekWords m N k n u .walker)
-      again (S.tested v) h g rest = sought-after m N n react goal x w u (seekWords m N k n u .answer) (seekWords m N k n u .walker) (g .less) (rest (g .leads) (let z = eqb-true (u .positions .bits) 0 h in omega arith))
+      again (S.tested v) h g rest = sought-after m N n react goal x w u (seekWords m N k n u .answer) (seekWords m N k n u .walker) (g .less)
+          (rest (g .leads) (let z = eqb-true (u .positions .bits) 0 h in omega arith))
       again (S.position p) h g rest = absurd g
       again S.done h g rest = absurd (let z : _≡_ {A = ℕ} 0 1 = cc in omega arith)
       again (S.refused j) h g rest = absurd (let z : _≡_ {A = ℕ} 0 1 = cc in omega arith)

@@ -6,7 +6,7 @@ use lib.ListN.{length}
 use Rattle.record_shape.specs.Record.{nodeCount}
 
 -- a record of whole nodes, at least one, whose sizes fit, for n positions
-pub record Sized (bytes : List ℕ) (n : ℕ) : Type 0 where
+pub record RecordSized (bytes : List ℕ) (n : ℕ) : Type 0 where
   pub whole : length bytes % 80 ≡ 0
   pub some : 0 < nodeCount bytes
   pub nodes : nodeCount bytes ≤ 65535

@@ -55,7 +55,8 @@ safe-inverse-within v p = go (tiny v) refl
     go : (t : Bool) → tiny v ≡ t → Within 23 (cond t (fin (signBit v) 1 (pos 23)) (div binary32 (fin false 1 (pos 0)) v))
     go true h = lit≤ tt
     go false h =
-        div-atmost binary32 (fin false 1 (pos 0)) v 1 1 1 (2 ^ 23) (lit< tt) (lit< tt) (held-pow binary32 23 (lit≤ tt)) (lit≤ tt) (atleast-of-test v 1 (negsuc 22) p h)
+        div-atmost binary32 (fin false 1 (pos 0)) v 1 1 1 (2 ^ 23) (lit< tt) (lit< tt) (held-pow binary32 23 (lit≤ tt)) (lit≤ tt)
+        (atleast-of-test v 1 (negsuc 22) p h)
 
 -- ---- accepted rays
 pub record Accepted (r : Ray) : Type 0 where

@@ -8,28 +8,28 @@ use native.Mathlib.Nat.{mul-zero, mul-suc, eq-or-lt-of-le, le-of-suc-le-suc, mul
 use native.Mathlib.Omega.{arith}
 use lib.ListN.{length, getD, length-append, List·getD-append}
 use lib.Seq.{getD-append-add}
-use Rattle.record.specs.Record.{joined}
+use Rattle.record.specs.Record.{joinedBelow}
 
 module _ {A : Type 0} (size : ℕ) (f : ℕ → List A) (each : (i : ℕ) → length (f i) ≡ size) where
-  pub joined-length : (k : ℕ) → length (joined k f) ≡ size * k
-  unfolding joined
+  pub joined-length : (k : ℕ) → length (joinedBelow k f) ≡ size * k
+  unfolding joinedBelow
   joined-length zero = sym (mul-zero size)
-  joined-length (suc k) = length-append (joined k f) (f k) ∙ omega (arith, joined-length k, each k, mul-suc size k)
+  joined-length (suc k) = length-append (joinedBelow k f) (f k) ∙ omega (arith, joined-length k, each k, mul-suc size k)
 
-  pub joined-at : (k v j : ℕ) (z : A) → v < k → j < size → getD (joined k f) (size * v + j) z ≡ getD (f v) j z
-  unfolding joined
+  pub joined-at : (k v j : ℕ) (z : A) → v < k → j < size → getD (joinedBelow k f) (size * v + j) z ≡ getD (f v) j z
+  unfolding joinedBelow
   joined-at zero v j z h l = absurd (omega arith)
   joined-at (suc k) v j z h l = pick (joined-at k v j z) (eq-or-lt-of-le (le-of-suc-le-suc h))
     where
       before : v < k → size * v + j < size * k
       before g = omega (arith, mul-le-mul-left size g, mul-suc size v)
 
-      pick : (v < k → j < size → getD (joined k f) (size * v + j) z ≡ getD (f v) j z) → (v ≡ k) ⊎ (v < k)
-          → getD (joined k f ++ f k) (size * v + j) z ≡ getD (f v) j z
+      pick : (v < k → j < size → getD (joinedBelow k f) (size * v + j) z ≡ getD (f v) j z) → (v ≡ k) ⊎ (v < k)
+          → getD (joinedBelow k f ++ f k) (size * v + j) z ≡ getD (f v) j z
       pick rest (inl e) =
-          ap (λ (x : ℕ). getD (joined k f ++ f k) x z) (omega (arith, joined-length k, ap (λ (x : ℕ). size * x) e))
-          ∙ getD-append-add (joined k f) (f k) j z ∙ ap (λ (x : ℕ). getD (f x) j z) (sym e)
-      pick rest (inr g) = List·getD-append (joined k f) (f k) z (size * v + j) (omega (arith, joined-length k, before g)) ∙ rest g l
+          ap (λ (x : ℕ). getD (joinedBelow k f ++ f k) x z) (omega (arith, joined-length k, ap (λ (x : ℕ). size * x) e))
+          ∙ getD-append-add (joinedBelow k f) (f k) j z ∙ ap (λ (x : ℕ). getD (f x) j z) (sym e)
+      pick rest (inr g) = List·getD-append (joinedBelow k f) (f k) z (size * v + j) (omega (arith, joined-length k, before g)) ∙ rest g l
 
 module _ (size : ℕ) where
   -- place i lies before or behind block v

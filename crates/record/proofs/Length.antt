@@ -4,12 +4,12 @@ use Prim.Native.Nat.{ℕ, _*_}
 use lib.ListN.{length}
 use Rattle.node.specs.Node.{nodeBytes}
 use Rattle.node.proofs.RoundTrip.{length-node}
-use Rattle.wide.specs.Wide.{Wide}
-use Rattle.wide.specs.Layout.{nodes}
-use Rattle.wide.specs.Shape.{nodeAt}
+use Rattle.wide_layout.specs.Wide.{Wide}
+use Rattle.wide_layout.specs.Layout.{nodes}
+use Rattle.wide_layout.specs.Shape.{layoutEntry}
 use Rattle.record.specs.Record.{nodeOf, recordBytes}
 use Rattle.record.proofs.Joined.{joined-length}
 
 pub record-length : (t : Wide) → length (recordBytes t) ≡ 80 * nodes t
 unfolding recordBytes
-record-length t = joined-length 80 (λ i. nodeBytes (nodeOf (nodeAt t i))) (λ i. length-node (nodeOf (nodeAt t i))) (nodes t)
+record-length t = joined-length 80 (λ i. nodeBytes (nodeOf (layoutEntry t i))) (λ i. length-node (nodeOf (layoutEntry t i))) (nodes t)

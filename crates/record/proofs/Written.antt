@@ -13,14 +13,14 @@ use Rattle.lists.proofs.Splice.{length-splice, splice-in, splice-before, splice
 use Rattle.lists.specs.Counts.{count}
 use Rattle.lists.proofs.Counts.{same-self}
 use Rattle.soundness.proofs.Range.{range-most}
-use Rattle.wide.specs.Wide.{Wide}
-use Rattle.wide.specs.Layout.{Entry, layout, numbers, Each, nodes, indexCount}
-use Rattle.wide.specs.Conversion.{writeAll}
-use Rattle.wide.specs.Shape.{nodeAt, Inside}
-use Rattle.wide.proofs.Each.{each-map, none-numbered, node-has, node-number}
-use Rattle.wide.proofs.Numbers.{numbers-once}
-use Rattle.wide.proofs.Placed.{inside}
-use Rattle.record.specs.Record.{joined}
+use Rattle.wide_layout.specs.Wide.{Wide}
+use Rattle.wide_layout.specs.Layout.{Entry, layout, numbers, EachEntry, nodes, indexCount}
+use Rattle.wide_layout.specs.Conversion.{writeAll}
+use Rattle.wide_layout.specs.Shape.{layoutEntry, EntryInside}
+use Rattle.wide_layout.proofs.Each.{each-map, none-numbered, node-has, node-number}
+use Rattle.wide_layout.proofs.Numbers.{numbers-once}
+use Rattle.wide_layout.proofs.Placed.{inside}
+use Rattle.record.specs.Record.{joinedBelow}
 use Rattle.record.proofs.Joined.{joined-length, joined-at, Beside, beside-other, Place, place}
 
 -- a node's block at its number, where blocks have so many elements
@@ -38,7 +38,7 @@ module _ (width : ℕ) (block : Entry → List ℕ) (size : (e : Entry) → leng
   put-length : (e : Entry) (s : List ℕ) (L : ℕ) → length s ≡ L → Fits L e → length (put width block e s) ≡ L
   put-length e s L h f = length-splice s (width * e .number) (block e) (omega (arith, size e)) ∙ h
 
-  all-length : (r : List Entry) (s : List ℕ) (L : ℕ) → length s ≡ L → Each (Fits L) r → length (writes s r) ≡ L
+  all-length : (r : List Entry) (s : List ℕ) (L : ℕ) → length s ≡ L → EachEntry (Fits L) r → length (writes s r) ≡ L
   all-length [] s L h f = h
   all-length (e ∷ r) s L h f = all-length r (put width block e s) L (put-length e s L h (f .0)) (f .1)
 
@@ -47,7 +47,7 @@ module _ (width : ℕ) (block : Entry → List ℕ) (size : (e : Entry) → leng
   outside e s i f (inl h) = splice-before s (width * e .number) (block e) (omega (arith, size e)) i 0 h
   outside e s i f (inr h) = splice-after s (width * e .number) (block e) (omega (arith, size e)) i 0 (omega (arith, size e))
 
-  keep : (r : List Entry) (s : List ℕ) (L : ℕ) → length s ≡ L → Each (Fits L) r → (i : ℕ) → Each (λ e. Beside width i (e .number)) r
+  keep : (r : List Entry) (s : List ℕ) (L : ℕ) → length s ≡ L → EachEntry (Fits L) r → (i : ℕ) → EachEntry (λ e. Beside width i (e .number)) r
       → getD (writes s r) i 0 ≡ getD s i 0
   keep [] s L h f i n = refl
   keep (e ∷ r) s L h f i n =
@@ -57,7 +57,8 @@ module _ (width : ℕ) (block : Entry → List ℕ) (size : (e : Entry) → leng
   abbrev Stands : List ℕ → Entry → Type 0
   Stands s e = (j : ℕ) → j < width → getD s (width * e .number + j) 0 ≡ getD (block e) j 0
 
-  found : (r : List Entry) (s : List ℕ) (L : ℕ) → length s ≡ L → Each (Fits L) r → ((x : ℕ) → count x (numbers r) ≤ 1) → Each (Stands (writes s r)) r
+  found : (r : List Entry) (s : List ℕ) (L : ℕ) → length s ≡ L → EachEntry (Fits L) r → ((x : ℕ) → count x (numbers r) ≤ 1)
+      → EachEntry (Stands (writes s r)) r
   unfolding count
   found [] s L h f o = tt
   found (e ∷ r) s L h f o = (
@@ -72,10 +73,10 @@ module _ (width : ℕ) (block : Entry → List ℕ) (size : (e : Entry) → leng
 
   module _ (t : Wide) (s : List ℕ) (room : width * nodes t ≤ length s) where
     pieces : ℕ → List ℕ
-    pieces i = block (nodeAt t i)
+    pieces i = block (layoutEntry t i)
 
     whole : List ℕ
-    whole = joined (nodes t) pieces
+    whole = joinedBelow (nodes t) pieces
 
     after : List ℕ
     after = writes s (layout t)
@@ -84,34 +85,35 @@ module _ (width : ℕ) (block : Entry → List ℕ) (size : (e : Entry) → leng
     in-front : (v : ℕ) → v < nodes t → width * v + width ≤ width * nodes t
     in-front v h = omega (arith, mul-le-mul-left width h, mul-suc width v)
 
-    fits : Each (Fits (length s)) (layout t)
-    fits = each-map (Inside (nodes t) (indexCount t)) (Fits (length s)) (layout t) (λ e p. omega (arith, in-front (e .number) (p .number))) (inside t)
+    fits : EachEntry (Fits (length s)) (layout t)
+    fits = each-map (EntryInside (nodes t) (indexCount t)) (Fits (length s)) (layout t) (λ e p. omega (arith, in-front (e .number) (p .number)))
+        (inside t)
 
     once : (x : ℕ) → count x (numbers (layout t)) ≤ 1
     once x = omega (arith, numbers-once t x, range-most x 0 (nodes t))
 
     whole-length : length whole ≡ width * nodes t
     unfolding whole pieces
-    whole-length = joined-length width pieces (λ i. size (nodeAt t i)) (nodes t)
+    whole-length = joined-length width pieces (λ i. size (layoutEntry t i)) (nodes t)
 
     in-blocks : (v j : ℕ) → v < nodes t → j < width → getD after (width * v + j) 0 ≡ getD (splice s 0 whole) (width * v + j) 0
     unfolding whole pieces after
     in-blocks v j h l =
-        subst (λ (n : ℕ). getD after (width * n + j) 0 ≡ getD (block (nodeAt t v)) j 0) (node-number t v h)
+        subst (λ (n : ℕ). getD after (width * n + j) 0 ≡ getD (block (layoutEntry t v)) j 0) (node-number t v h)
         (node-has (Stands after) t (found (layout t) s (length s) refl fits once) v h j l)
         ∙ sym (ap (λ (x : ℕ). getD (splice s 0 whole) x 0) (sym (zero-add (width * v + j)))
         ∙ splice-in s 0 whole (omega (arith, whole-length)) (width * v + j) 0 (omega (arith, whole-length, in-front v h))
-        ∙ joined-at width pieces (λ i. size (nodeAt t i)) (nodes t) v j 0 h l)
+        ∙ joined-at width pieces (λ i. size (layoutEntry t i)) (nodes t) v j 0 h l)
 
     past : (i : ℕ) → width * nodes t ≤ i → getD after i 0 ≡ getD (splice s 0 whole) i 0
     unfolding after
     past i h =
         keep (layout t) s (length s) refl fits i
-        (each-map (Inside (nodes t) (indexCount t)) (λ e. Beside width i (e .number)) (layout t)
+        (each-map (EntryInside (nodes t) (indexCount t)) (λ e. Beside width i (e .number)) (layout t)
         (λ e p. inr (omega (arith, in-front (e .number) (p .number)))) (inside t))
         ∙ sym (splice-after s 0 whole (omega (arith, whole-length)) i 0 (omega (arith, whole-length)))
 
-    pub written : writeAll (put width block) s (layout t) ≡ splice s 0 (joined (nodes t) (λ i. block (nodeAt t i)))
+    pub written : writeAll (put width block) s (layout t) ≡ splice s 0 (joinedBelow (nodes t) (λ i. block (layoutEntry t i)))
     unfolding whole pieces after
     written =
         ext-getD 0 after (splice s 0 whole)

@@ -5,60 +5,60 @@ use lib.ListN.{length}
 use Rattle.aabb.specs.declared.Aabb.{Aabb}
 use Rattle.node.specs.declared.Slot.{Slot}
 use Rattle.node.specs.Node.{noSlot}
-use Rattle.wide.specs.Wide.{Slots, end, empty, leaf, inner}
+use Rattle.wide_layout.specs.Wide.{Slots, end, empty, leaf, inner}
 use Rattle.record.specs.Record.{leafMeta, innerMeta, gridBox}
 
 -- nothing, a leaf child with its box and positions, or an inner child with its box and slots
-pub data Child : Type 0 where
-  none : Child
-  leafChild : Aabb → List ℕ → Child
-  innerChild : Aabb → Slots 8 → Child
+pub data Content : Type 0 where
+  none : Content
+  leafChild : Aabb → List ℕ → Content
+  innerChild : Aabb → Slots 8 → Content
 
 -- what stands in slot k
-unfoldable pub childAt : {w : ℕ} → Slots w → ℕ → Child
-childAt end k = none
-childAt (empty s) zero = none
-childAt (empty s) (suc k) = childAt s k
-childAt (leaf b ps s) zero = leafChild b ps
-childAt (leaf b ps s) (suc k) = childAt s k
-childAt (inner b t s) zero = innerChild b t
-childAt (inner b t s) (suc k) = childAt s k
+unfoldable pub contentAt : {w : ℕ} → Slots w → ℕ → Content
+contentAt end k = none
+contentAt (empty s) zero = none
+contentAt (empty s) (suc k) = contentAt s k
+contentAt (leaf b ps s) zero = leafChild b ps
+contentAt (leaf b ps s) (suc k) = contentAt s k
+contentAt (inner b t s) zero = innerChild b t
+contentAt (inner b t s) (suc k) = contentAt s k
 
 -- its meta byte in slot i, with `before` of the node's positions before it
-unfoldable pub childMeta : Child → (i before : ℕ) → ℕ
+unfoldable pub childMeta : Content → (i before : ℕ) → ℕ
 childMeta none i before = 0
 childMeta (leafChild b ps) i before = leafMeta (length ps) before
 childMeta (innerChild b t) i before = innerMeta i
 
 -- its six bytes on the grid of the node's box
-unfoldable pub childBytes : Aabb → Child → Slot
+unfoldable pub childBytes : Aabb → Content → Slot
 childBytes b none = noSlot
 childBytes b (leafChild c ps) = gridBox b c
 childBytes b (innerChild c t) = gridBox b c
 
 -- its bit in the mask, the positions that it writes, and whether it counts as an inner child
-unfoldable pub childBit : Child → ℕ → ℕ
+unfoldable pub childBit : Content → ℕ → ℕ
 childBit none i = 0
 childBit (leafChild b ps) i = 0
 childBit (innerChild b t) i = 2 ^ i
 
-unfoldable pub childPositions : Child → List ℕ
+unfoldable pub childPositions : Content → List ℕ
 childPositions none = []
 childPositions (leafChild b ps) = ps
 childPositions (innerChild b t) = []
 
-unfoldable pub childInner : Child → ℕ
+unfoldable pub childInner : Content → ℕ
 childInner none = 0
 childInner (leafChild b ps) = 0
 childInner (innerChild b t) = 1
 
 -- the same of the first k slots together, counted from slot i
 unfoldable pub bitsBefore : {w : ℕ} → Slots w → (i k : ℕ) → ℕ
-unfolding childAt childBit
+unfolding contentAt childBit
 bitsBefore s i zero = 0
-bitsBefore s i (suc k) = bitsBefore s i k + childBit (childAt s k) (i + k)
+bitsBefore s i (suc k) = bitsBefore s i k + childBit (contentAt s k) (i + k)
 
 unfoldable pub positionsBefore : {w : ℕ} → Slots w → ℕ → List ℕ
-unfolding childAt childPositions
+unfolding contentAt childPositions
 positionsBefore s zero = []
-positionsBefore s (suc k) = positionsBefore s k ++ childPositions (childAt s k)
+positionsBefore s (suc k) = positionsBefore s k ++ childPositions (contentAt s k)

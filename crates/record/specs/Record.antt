@@ -9,9 +9,9 @@ use Rattle.quantization.specs.Ends.{childMin, childMax}
 use Rattle.node.specs.declared.Slot.{Slot}
 use Rattle.node.specs.declared.Node.{Node}
 use Rattle.node.specs.Node.{noSlot, nodeBytes}
-use Rattle.wide.specs.Wide.{Slots, end, empty, leaf, inner, Wide}
-use Rattle.wide.specs.Layout.{Entry, nodes}
-use Rattle.wide.specs.Shape.{nodeAt}
+use Rattle.wide_layout.specs.Wide.{Slots, end, empty, leaf, inner, Wide}
+use Rattle.wide_layout.specs.Layout.{Entry, nodes}
+use Rattle.wide_layout.specs.Shape.{layoutEntry}
 
 -- a leaf's meta byte: as many ones from bit 5 up as it has positions, and below them how many positions of the node stand before its own
 abbrev pub leafMeta : ℕ → ℕ → ℕ
@@ -73,10 +73,10 @@ nodeOf e = record {
 }
 
 -- the lists of the first k numbers, one behind the other
-unfoldable pub joined : {A : Type 0} → ℕ → (ℕ → List A) → List A
-joined zero f = []
-joined (suc k) f = joined k f ++ f k
+unfoldable pub joinedBelow : {A : Type 0} → ℕ → (ℕ → List A) → List A
+joinedBelow zero f = []
+joinedBelow (suc k) f = joinedBelow k f ++ f k
 
 -- the record: the nodes by their numbers, 80 bytes each
 unfoldable pub recordBytes : Wide → List ℕ
-recordBytes t = joined (nodes t) (λ i. nodeBytes (nodeOf (nodeAt t i)))
+recordBytes t = joinedBelow (nodes t) (λ i. nodeBytes (nodeOf (layoutEntry t i)))

@@ -13,11 +13,11 @@ use Rattle.node.specs.declared.Slot.{Slot}
 use Rattle.node.specs.declared.Node.{Node}
 use Rattle.node.specs.Bytes.{bytes}
 use Rattle.node.specs.Node.{slotOffset, eight, noSlot, headBytes, putSlot, putSlots, nodeBytes}
-use Rattle.wide.specs.Wide.{Slots, end, empty, leaf, inner, Wide}
-use Rattle.wide.specs.Sizes.{SmallLeaves}
-use Rattle.wide.specs.Layout.{Entry, nodes}
-use Rattle.wide.specs.Shape as shape
-use Rattle.record.specs.Record.{leafMeta, metas, innerMask, gridBox, gridBoxes, nodeOf, joined, recordBytes}
+use Rattle.wide_layout.specs.Wide.{Slots, end, empty, leaf, inner, Wide}
+use Rattle.wide_layout.specs.Sizes.{SmallLeaves}
+use Rattle.wide_layout.specs.Layout.{Entry, nodes}
+use Rattle.wide_layout.specs.Shape as shape
+use Rattle.record.specs.Record.{leafMeta, metas, innerMask, gridBox, gridBoxes, nodeOf, joinedBelow, recordBytes}
 use Rattle.record_laws.specs.Writable.{NodeBox, Writable}
 use Rattle.record_laws.proofs.Range.{node-of}
 
@@ -177,14 +177,14 @@ entry-bytes e b s =
       slots = boxes-bytes 8 (e .box) (e .slots);
     })
 
-joined-bytes : (k : ℕ) (f : ℕ → List ℕ) → ((i : ℕ) → i < k → Bytes (f i)) → Bytes (joined k f)
-unfolding joined
+joined-bytes : (k : ℕ) (f : ℕ → List ℕ) → ((i : ℕ) → i < k → Bytes (f i)) → Bytes (joinedBelow k f)
+unfolding joinedBelow
 joined-bytes zero f h = tt
-joined-bytes (suc k) f h = bytes-append (joined k f) (f k) (joined-bytes k f (λ i l. h i (omega arith))) (h k (omega arith))
+joined-bytes (suc k) f h = bytes-append (joinedBelow k f) (f k) (joined-bytes k f (λ i l. h i (omega arith))) (h k (omega arith))
 
 pub record-bytes : (t : Wide) → Writable t → (i : ℕ) → getD (recordBytes t) i 0 < 256
 unfolding recordBytes
 record-bytes t h =
     byte-at (recordBytes t)
-    (joined-bytes (nodes t) (λ i. nodeBytes (nodeOf (shape.nodeAt t i)))
-    (λ i l. let r = node-of t h i l in entry-bytes (shape.nodeAt t i) (r .box) (r .small)))
+    (joined-bytes (nodes t) (λ i. nodeBytes (nodeOf (shape.layoutEntry t i)))
+    (λ i l. let r = node-of t h i l in entry-bytes (shape.layoutEntry t i) (r .box) (r .small)))

@@ -9,10 +9,10 @@ use Rattle.words.specs.Fields.{field}
 use Rattle.words.proofs.Le.{field-sum}
 use Rattle.words.proofs.Ranks.{bit-is, rank-step}
 use Rattle.node.specs.Node.{innerBit, codeCount}
-use Rattle.wide.specs.Wide.{Slots}
-use Rattle.wide.specs.Sizes.{innerChildren, innerBefore}
+use Rattle.wide_layout.specs.Wide.{Slots}
+use Rattle.wide_layout.specs.Sizes.{innerChildren, innerBefore}
 use Rattle.record.specs.Record.{leafMeta, innerMask}
-use Rattle.record.specs.Children.{Child, none, leafChild, innerChild, childAt, childBit, childInner, bitsBefore}
+use Rattle.record.specs.Children.{Content, none, leafChild, innerChild, contentAt, childBit, childInner, bitsBefore}
 use Rattle.record.proofs.Children.{mask-all, inner-next, inner-all, own-first}
 
 -- ---- leaf codes
@@ -39,32 +39,32 @@ code (suc (suc (suc zero))) before h l =
 code (suc (suc (suc (suc n)))) before h l = absurd (omega arith)
 
 -- ---- the mask
-bit-of : (c : Child) (i : ℕ) → childBit c i ≡ childInner c * 2 ^ (i * 1)
+bit-of : (c : Content) (i : ℕ) → childBit c i ≡ childInner c * 2 ^ (i * 1)
 unfolding childBit childInner
 bit-of none i = sym (zero-mul (2 ^ (i * 1)))
 bit-of (leafChild b ps) i = sym (zero-mul (2 ^ (i * 1)))
 bit-of (innerChild b t) i = ap (λ (x : ℕ). 2 ^ x) (sym (mul-one i)) ∙ omega arith
 
-pub inner-bit-most : (c : Child) → childInner c < 2
+pub inner-bit-most : (c : Content) → childInner c < 2
 unfolding childInner
 inner-bit-most none = omega arith
 inner-bit-most (leafChild b ps) = omega arith
 inner-bit-most (innerChild b t) = omega arith
 
 module _ {w : ℕ} (s : Slots w) where
-  bits-sum : (k : ℕ) → bitsBefore s 0 k ≡ sumOf 1 k (λ j. childInner (childAt s j))
+  bits-sum : (k : ℕ) → bitsBefore s 0 k ≡ sumOf 1 k (λ j. childInner (contentAt s j))
   unfolding bitsBefore sumOf
   bits-sum zero = refl
-  bits-sum (suc k) = ap₂ (λ (x y : ℕ). x + y) (bits-sum k) (ap (childBit (childAt s k)) (zero-add k) ∙ bit-of (childAt s k) k)
+  bits-sum (suc k) = ap₂ (λ (x y : ℕ). x + y) (bits-sum k) (ap (childBit (contentAt s k)) (zero-add k) ∙ bit-of (contentAt s k) k)
 
-  mask-sum : innerMask s 0 ≡ sumOf 1 w (λ j. childInner (childAt s j))
+  mask-sum : innerMask s 0 ≡ sumOf 1 w (λ j. childInner (contentAt s j))
   mask-sum = mask-all s 0 ∙ bits-sum w
 
-  mask-field : (k : ℕ) → k < w → field 1 k (innerMask s 0) ≡ childInner (childAt s k)
-  mask-field k h = ap (field 1 k) mask-sum ∙ field-sum 1 w (λ j. childInner (childAt s j)) (λ j l. inner-bit-most (childAt s j)) k h
+  mask-field : (k : ℕ) → k < w → field 1 k (innerMask s 0) ≡ childInner (contentAt s k)
+  mask-field k h = ap (field 1 k) mask-sum ∙ field-sum 1 w (λ j. childInner (contentAt s j)) (λ j l. inner-bit-most (contentAt s j)) k h
 
   -- a slot's bit says whether it has an inner child
-  pub mask-bit : (k : ℕ) → k < w → innerBit (innerMask s 0) k ≡ childInner (childAt s k)
+  pub mask-bit : (k : ℕ) → k < w → innerBit (innerMask s 0) k ≡ childInner (contentAt s k)
   mask-bit k h = sym (bit-is k (innerMask s 0)) ∙ mask-field k h
 
   -- the rank of a slot is the count of inner children before it

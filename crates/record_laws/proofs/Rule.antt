@@ -16,14 +16,14 @@ use Rattle.aabb.specs.Aabb.{acceptedBox, inOrder}
 use Rattle.quantization.proofs.Exponent.{box-in-range}
 use Rattle.node.specs.Node as bytes
 use Rattle.node.specs.Node.{innerBit}
-use Rattle.rule.specs.Rule.{Head, LeafTop, one, two, three, SlotRule, empty, child, leaf, Rule}
-use Rattle.wide.specs.Wide.{Slots, Wide}
-use Rattle.wide.specs.Sizes.{ownCount, ownBefore, SmallLeaves}
-use Rattle.wide.specs.Layout.{Entry, nodes, indexCount}
-use Rattle.wide.specs.Shape.{nodeAt}
-use Rattle.wide.proofs.Sizes.{own-inside}
+use Rattle.node_rule.specs.Rule.{Head, LeafTop, one, two, three, SlotRule, empty, child, leaf, Rule}
+use Rattle.wide_layout.specs.Wide.{Slots, Wide}
+use Rattle.wide_layout.specs.Sizes.{ownCount, ownBefore, SmallLeaves}
+use Rattle.wide_layout.specs.Layout.{Entry, nodes, indexCount}
+use Rattle.wide_layout.specs.Shape.{layoutEntry}
+use Rattle.wide_layout.proofs.Sizes.{own-inside}
 use Rattle.record.specs.Record.{nodeOf, metas, innerMask, recordBytes}
-use Rattle.record.specs.Children.{Child, none, leafChild, innerChild, childAt, childMeta, childInner, childPositions}
+use Rattle.record.specs.Children.{Content, none, leafChild, innerChild, contentAt, childMeta, childInner, childPositions}
 use Rattle.record_shape.specs.Record.{RuleAt}
 use Rattle.record_laws.specs.Writable.{NodeBox, Writable}
 use Rattle.record_laws.proofs.ReadBack.{record-count}
@@ -43,8 +43,12 @@ lower b t = and-l (boundedVec (b .min)) (boundedVec (b .max)) (and-l (boundedVec
 components : (v : Vec3) → T (boundedVec v) → T (inBounds (v .x)) × T (inBounds (v .y)) × T (inBounds (v .z))
 unfolding boundedVec
 components v t =
-    let xy = and-l (inBounds (v .x) && inBounds (v .y)) (inBounds (v .z)) t in
-    (and-l (inBounds (v .x)) (inBounds (v .y)) xy, and-r (inBounds (v .x)) (inBounds (v .y)) xy, and-r (inBounds (v .x) && inBounds (v .y)) (inBounds (v .z)) t)
+    let xy = and-l (inBounds (v .x) && inBounds (v .y)) (inBounds (v .z)) t in (
+      and-l (inBounds (v .x)) (inBounds (v .y)) xy,
+      and-r (inBounds (v .x)) (inBounds (v .y)) xy,
+      and-r (inBounds (v .x) && inBounds (v .y))
+          (inBounds (v .z)) t,
+    )
 
 head : (e : Entry) → NodeBox (e .box) → Head (nodeOf e)
 unfolding nodeOf
@@ -67,11 +71,13 @@ leaf-top (suc (suc zero)) top h l e = two e
 leaf-top (suc (suc (suc zero))) top h l e = three e
 leaf-top (suc (suc (suc (suc n)))) top h l e = absurd (omega arith)
 
-leaf-rule : (meta count before i base n : ℕ) → 1 ≤ count → count ≤ 3 → Code meta count before → before + count ≤ 24 → base + (before + count) ≤ n → SlotRule meta 0 i base n
+leaf-rule : (meta count before i base n : ℕ) → 1 ≤ count → count ≤ 3 → Code meta count before → before + count ≤ 24 → base + (before + count) ≤ n
+    → SlotRule meta 0 i base n
 leaf-rule meta count before i base n h l c a b =
     leaf (leaf-top count (meta / 32) h l (c .top)) refl (omega (arith, c .low, c .ones)) (omega (arith, c .low, c .ones))
 
-child-rule : (c : Child) (i before base n : ℕ) → SmallChild c → before + length (childPositions c) ≤ 24 → base + (before + length (childPositions c)) ≤ n
+child-rule : (c : Content) (i before base n : ℕ) → SmallChild c → before + length (childPositions c) ≤ 24
+    → base + (before + length (childPositions c)) ≤ n
     → SlotRule (childMeta c i before) (childInner c) i base n
 unfolding childMeta childInner childPositions
 child-rule none i before base n s a b = empty refl refl
@@ -79,19 +85,20 @@ child-rule (leafChild c ps) i before base n s a b =
     leaf-rule _ (length ps) before i base n (s .0) (s .1) (code (length ps) before (s .1) (omega arith)) a b
 child-rule (innerChild c t) i before base n s a b = child refl refl
 
-slot : (s : Slots 8) (base n : ℕ) → SmallLeaves s → base + ownCount s ≤ n → (k : ℕ) → k < 8 → SlotRule (getD (metas s 0 0) k 0) (innerBit (innerMask s 0) k) k base n
+slot : (s : Slots 8) (base n : ℕ) → SmallLeaves s → base + ownCount s ≤ n → (k : ℕ) → k < 8
+    → SlotRule (getD (metas s 0 0) k 0) (innerBit (innerMask s 0) k) k base n
 slot s base n small room k l =
     subst (λ (m : ℕ). SlotRule m (innerBit (innerMask s 0) k) k base n) (sym (meta-of s small k l))
-    (subst (λ (x : ℕ). SlotRule (childMeta (childAt s k) k (ownBefore s k)) x k base n) (sym (bit-of s small k l))
-    (child-rule (childAt s k) k (ownBefore s k) base n (small-child s small k)
+    (subst (λ (x : ℕ). SlotRule (childMeta (contentAt s k) k (ownBefore s k)) x k base n) (sym (bit-of s small k l))
+    (child-rule (contentAt s k) k (ownBefore s k) base n (small-child s small k)
     (omega (arith, own-child s k, ends-24 s small k l))
     (omega (arith, own-child s k, own-inside s k))))
 
 -- ---- the rule
-pub node-rule : (t : Wide) → Writable t → (v : ℕ) → v < nodes t → Rule (nodeOf (nodeAt t v)) (nodes t) (indexCount t) v
+pub node-rule : (t : Wide) → Writable t → (v : ℕ) → v < nodes t → Rule (nodeOf (layoutEntry t v)) (nodes t) (indexCount t) v
 unfolding nodeOf
 node-rule t h v l =
-    let e = nodeAt t v in
+    let e = layoutEntry t v in
     let r = node-of t h v l in
     let i = r .inside in record {
       head = head e (r .box);

@@ -5,9 +5,9 @@ use lib.Dec.{T}
 use lib.Ieee.{binary32, fits}
 use Rattle.aabb.specs.declared.Aabb.{Aabb}
 use Rattle.aabb.specs.Aabb.{acceptedBox}
-use Rattle.wide.specs.Wide.{Slots, end, empty, leaf, inner, Wide}
-use Rattle.wide.specs.Sizes.{SmallLeaves}
-use Rattle.wide.specs.Layout.{nodes, indexCount}
+use Rattle.wide_layout.specs.Wide.{Slots, end, empty, leaf, inner, Wide}
+use Rattle.wide_layout.specs.Sizes.{SmallLeaves}
+use Rattle.wide_layout.specs.Layout.{nodes, indexCount}
 
 -- a node's box: accepted, and its lower corner, which the record keeps, made of f32 values
 pub record NodeBox (b : Aabb) : Type 0 where

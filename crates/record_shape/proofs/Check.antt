@@ -15,7 +15,7 @@ use Rattle.causes.proofs.Sizes.{Fit, record-passed, record-fit}
 use Rattle.soundness.proofs.Once.{empty-sound, empty-unsound}
 use Rattle.record_shape.specs.Record.{nodeCount, nodesAt, shapeIn, shapeAt, RuleAt, SoundRecord, DeepestLevel}
 use Rattle.record_shape.specs.Test.{soundNodes, deepestNodes}
-use Rattle.record_shape.specs.Check.{Answer, sound, unsound, refused, causeOf, soundnessOf, checkOf, wordsAfter, checkConditions}
+use Rattle.record_shape.specs.Check.{Verdict, sound, unsound, refused, causeOf, soundnessOf, checkOf, wordsAfter, checkConditions}
 use Rattle.record_shape.proofs.Record.{record-tells, record-deepest, deepest-one}
 
 -- ---- the first cause
@@ -94,7 +94,7 @@ module _ (bytes : List ℕ) (n words : ℕ) where
   check-unsound h s = check-answers h ∙ answers-unsound bytes n s
 
   -- the answer and all that holds with it
-  data Says : Answer → Type 0 where
+  data Says : Verdict → Type 0 where
     says-sound : (d : ℕ) → causeOf (length bytes) n words ≡ 0 → SoundRecord bytes n → DeepestLevel bytes n d → Says (sound d)
     says-unsound : causeOf (length bytes) n words ≡ 0 → (SoundRecord bytes n → ⊥) → Says unsound
     says-refused : (c : ℕ) → causeOf (length bytes) n words ≡ c → 0 < c → Says (refused c)
@@ -113,7 +113,7 @@ module _ (bytes : List ℕ) (n words : ℕ) where
   pub sound-iff : (d : ℕ) → (checkOf bytes n words ≡ sound d) ↔ ((causeOf (length bytes) n words ≡ 0) × SoundRecord bytes n × DeepestLevel bytes n d)
   sound-iff d = (go (checkOf bytes n words) check-says, λ h. check-sound (h .0) (h .1) d (h .2))
     where
-      go : (a : Answer) → Says a → a ≡ sound d → (causeOf (length bytes) n words ≡ 0) × SoundRecord bytes n × DeepestLevel bytes n d
+      go : (a : Verdict) → Says a → a ≡ sound d → (causeOf (length bytes) n words ≡ 0) × SoundRecord bytes n × DeepestLevel bytes n d
       go a (says-sound l c s h) e = let z : l ≡ d = cc in (c, s, subst (λ (x : ℕ). DeepestLevel bytes n x) z h)
       go a (says-unsound c s) e = let z : _≡_ {A = ℕ} 0 1 = cc in absurd (omega arith)
       go a (says-refused k c l) e = let z : _≡_ {A = ℕ} 0 1 = cc in absurd (omega arith)
@@ -122,7 +122,7 @@ module _ (bytes : List ℕ) (n words : ℕ) where
   pub unsound-iff : (checkOf bytes n words ≡ unsound) ↔ ((causeOf (length bytes) n words ≡ 0) × (SoundRecord bytes n → ⊥))
   unsound-iff = (go (checkOf bytes n words) check-says, λ h. check-unsound (h .0) (h .1))
     where
-      go : (a : Answer) → Says a → a ≡ unsound → (causeOf (length bytes) n words ≡ 0) × (SoundRecord bytes n → ⊥)
+      go : (a : Verdict) → Says a → a ≡ unsound → (causeOf (length bytes) n words ≡ 0) × (SoundRecord bytes n → ⊥)
       go a (says-sound l c s h) e = let z : _≡_ {A = ℕ} 0 1 = cc in absurd (omega arith)
       go a (says-unsound c s) e = (c, s)
       go a (says-refused k c l) e = let z : _≡_ {A = ℕ} 0 1 = cc in absurd (omega arith)
@@ -131,7 +131,7 @@ module _ (bytes : List ℕ) (n words : ℕ) where
   pub refused-iff : (c : ℕ) → (checkOf bytes n words ≡ refused c) ↔ ((causeOf (length bytes) n words ≡ c) × (0 < c))
   refused-iff c = (go (checkOf bytes n words) check-says, λ h. let z = h .0 in let p = h .1 in check-refuses (omega arith) ∙ ap refused z)
     where
-      go : (a : Answer) → Says a → a ≡ refused c → (causeOf (length bytes) n words ≡ c) × (0 < c)
+      go : (a : Verdict) → Says a → a ≡ refused c → (causeOf (length bytes) n words ≡ c) × (0 < c)
       go a (says-sound l k s h) e = let z : _≡_ {A = ℕ} 0 1 = cc in absurd (omega arith)
       go a (says-unsound k s) e = let z : _≡_ {A = ℕ} 0 1 = cc in absurd (omega arith)
       go a (says-refused k d l) e = let z : k ≡ c = cc in (d ∙ z, omega arith)
@@ -162,6 +162,7 @@ module _ (bytes : List ℕ) (n : ℕ) (words : List ℕ) where
       go (suc c) l = refl
 
   -- and any other answer leaves zeros where they were needed
-  pub words-zero : causeOf (length bytes) n (length words) ≡ 0 → wordsAfter bytes n words ≡ replicate (nodeCount bytes + n) 0 ++ drop (nodeCount bytes + n) words
+  pub words-zero : causeOf (length bytes) n (length words) ≡ 0 → wordsAfter bytes n words
+      ≡ replicate (nodeCount bytes + n) 0 ++ drop (nodeCount bytes + n) words
   unfolding wordsAfter
   words-zero h = ap (λ (c : ℕ). elim c [ zero ↦ replicate (nodeCount bytes + n) 0 ++ drop (nodeCount bytes + n) words | suc d ↦ words ]) h

@@ -11,8 +11,8 @@ use Rattle.words.specs.Le.{leAt, sumOf}
 use Rattle.words.specs.Ones.{onesBelow}
 use Rattle.soundness.specs.Range.{inRange}
 use Rattle.node.specs.Node.{nodeFrom}
-use Rattle.rule.specs.Rule.{pointOk, exponentOk, headOk, childrenOk, leafTop, slotOk, slotsOk, nodeRule}
-use Rattle.record_shape.specs.Record.{leafCount, shapeIn}
+use Rattle.node_rule.specs.Rule.{pointOk, exponentOk, headOk, childrenOk, leafTop, slotOk, slotsOk, nodeRule}
+use Rattle.record_shape.specs.Record.{slotPositions, shapeIn}
 use Rattle.record_shape.specs.Test.{parentAmong, levelUpto, greatest, soundTest, deepestOf, soundNodes, deepestNodes}
 use Rattle.record_shape.specs.Check.{sound, unsound, refused, soundnessOf, checkOf, checkConditions}
 use Rattle.causes.specs.Causes.{firstCause}
@@ -58,7 +58,7 @@ pub record Examples : Type 0 where
 
 pub examples : Examples
 unfolding checkOf checkConditions recordConditions firstCause soundnessOf soundNodes deepestNodes soundTest deepestOf greatest levelUpto
-    parentAmong shapeIn leafCount allBelow sum leAt sumOf onesBelow inRange nodeFrom pointOk exponentOk headOk childrenOk leafTop slotOk slotsOk
+    parentAmong shapeIn slotPositions allBelow sum leAt sumOf onesBelow inRange nodeFrom pointOk exponentOk headOk childrenOk leafTop slotOk slotsOk
     nodeRule inBounds ofBits le
 examples = record {
   leaves = refl;

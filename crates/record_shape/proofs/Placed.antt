@@ -3,14 +3,14 @@ use mathlib.Core.Path.{_≡_}
 use Prim.Native.Nat.{ℕ, zero, suc, _+_, _%_, _<_, _≤_}
 use native.Mathlib.Omega.{arith}
 use Rattle.words.specs.Ones.{onesBelow}
-use Rattle.soundness.specs.Shape.{Placed}
+use Rattle.soundness.specs.Shape.{RangesPlaced}
 use Rattle.node.specs.Node.{innerBit}
-use Rattle.rule.specs.Rule.{SlotRule, empty, child, leaf}
-use Rattle.record_shape.specs.Record.{Nodes, metaAt, leafCount, shapeIn, RuleIn}
+use Rattle.node_rule.specs.Rule.{SlotRule, empty, child, leaf}
+use Rattle.record_shape.specs.Record.{Nodes, metaAt, slotPositions, shapeIn, RuleIn}
 
-leaf-inside : (meta bit s base n : ℕ) → SlotRule meta bit s base n → 0 < leafCount bit meta → base + meta % 32 + leafCount bit meta ≤ n
-unfolding leafCount onesBelow
-leaf-inside meta zero s base n (empty e f) h = let z : leafCount 0 meta ≡ 0 = rw e in absurd (omega arith)
+leaf-inside : (meta bit s base n : ℕ) → SlotRule meta bit s base n → 0 < slotPositions bit meta → base + meta % 32 + slotPositions bit meta ≤ n
+unfolding slotPositions onesBelow
+leaf-inside meta zero s base n (empty e f) h = let z : slotPositions 0 meta ≡ 0 = rw e in absurd (omega arith)
 leaf-inside meta (suc k) s base n (empty e f) h = absurd (omega arith)
 leaf-inside meta zero s base n (child e f) h = absurd (omega arith)
 leaf-inside meta (suc k) s base n (child e f) h = absurd (omega arith)
@@ -23,7 +23,7 @@ some-child zero h = absurd (omega arith)
 some-child (suc mask) h = omega arith
 
 -- children come later and exist, positions exist
-pub placed : (N : Nodes) (n i : ℕ) → RuleIn N n i → Placed (shapeIn N n) i
+pub placed : (N : Nodes) (n i : ℕ) → RuleIn N n i → RangesPlaced (shapeIn N n) i
 unfolding shapeIn
 placed N n i r = record {
   later = λ h. r .children .later (some-child (N .node i .imask) h);

@@ -8,8 +8,8 @@ use Rattle.lists.proofs.Tells.{Tells, passes, fails}
 use Rattle.soundness.specs.Sound.{Deepest}
 use Rattle.soundness.proofs.Once.{one-deepest}
 use Rattle.node.specs.declared.Node.{Node}
-use Rattle.rule.specs.Rule.{Rule, nodeRule}
-use Rattle.rule.proofs.RuleLaws.{rule-iff}
+use Rattle.node_rule.specs.Rule.{Rule, nodeRule}
+use Rattle.node_rule.proofs.RuleLaws.{rule-iff}
 use Rattle.record_shape.specs.Record.{Nodes, shapeIn, RuleIn, SoundIn}
 use Rattle.record_shape.specs.Test.{soundNodes, deepestNodes}
 use Rattle.record_shape.proofs.Placed.{placed}

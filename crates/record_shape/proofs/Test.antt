@@ -9,29 +9,30 @@ use Rattle.lists.specs.Sums.{sum}
 use Rattle.lists.proofs.Counts.{Same, equal, apart, same?}
 use Rattle.lists.proofs.Tells.{Tells, tells-as, eqb-tells, leb-tells, and-tells, below-tells}
 use Rattle.soundness.specs.Range.{inRange}
-use Rattle.soundness.specs.Shape.{Shape, Child, parents, holders, Level, Placed}
+use Rattle.soundness.specs.Shape.{Shape, ChildOf, parents, holders, Level, RangesPlaced}
 use Rattle.soundness.specs.Sound.{Sound, Deepest}
 use Rattle.soundness.proofs.Once.{child-counts, counts-child, same-parent, no-parent}
 use Rattle.soundness.proofs.Sound.{parents-most, has-level}
-use Rattle.record_shape.specs.Test.{pick, parentAmong, levelUpto, greatest, soundTest, deepestOf}
+use Rattle.record_shape.specs.Test.{ifNonzero, parentAmong, levelUpto, greatest, soundTest, deepestOf}
 
 module _ (S : Shape) where
   -- the one parent is found
-  found : (v p : ℕ) → parents S (S .nodes) v ≤ 1 → Child S p v → (k : ℕ) → k ≤ S .nodes → p < k → parentAmong S k v ≡ p
+  found : (v p : ℕ) → parents S (S .nodes) v ≤ 1 → ChildOf S p v → (k : ℕ) → k ≤ S .nodes → p < k → parentAmong S k v ≡ p
   unfolding parentAmong
   found v p h c zero l b = absurd (omega arith)
   found v p h c (suc k) l b = go (inRange v (S .base k) (S .children k)) refl (found v p h c k (omega arith)) (same? p k)
     where
-      go : (r : ℕ) → inRange v (S .base k) (S .children k) ≡ r → (p < k → parentAmong S k v ≡ p) → Same p k → pick r k (parentAmong S k v) ≡ p
+      go : (r : ℕ) → inRange v (S .base k) (S .children k) ≡ r → (p < k → parentAmong S k v ≡ p) → Same p k → ifNonzero r k (parentAmong S k v) ≡ p
       go zero e f (equal g i) = absurd (omega (arith, subst (λ (x : ℕ). inRange v (S .base x) (S .children x) ≡ 1) g (child-counts S p v c)))
       go zero e f (apart g i) = f (omega arith)
       go (suc r) e f s = same-parent S v k p h (counts-child S k v l (omega arith)) c
 
-  pub parent-found : (v p : ℕ) → parents S (S .nodes) v ≤ 1 → Child S p v → parentAmong S (S .nodes) v ≡ p
+  pub parent-found : (v p : ℕ) → parents S (S .nodes) v ≤ 1 → ChildOf S p v → parentAmong S (S .nodes) v ≡ p
   parent-found v p h c = found v p h c (S .nodes) (omega arith) (c .parent)
 
   -- a node's level is the steps that lead up from it, where no node has two parents and the first none
-  pub level-upto : parents S (S .nodes) 0 ≡ 0 → ((v : ℕ) → v < S .nodes → parents S (S .nodes) v ≤ 1) → (g l v : ℕ) → v < S .nodes → Level S l v → levelUpto S g v ≡ min g l
+  pub level-upto : parents S (S .nodes) 0 ≡ 0 → ((v : ℕ) → v < S .nodes → parents S (S .nodes) v ≤ 1) → (g l v : ℕ) → v < S .nodes → Level S l v
+      → levelUpto S g v ≡ min g l
   unfolding Level levelUpto
   level-upto z h zero l v b a = omega arith
   level-upto z h (suc g) zero v b a = rw a (omega arith)
@@ -56,17 +57,19 @@ unfolding greatest
 greatest-some f zero h = absurd (omega arith)
 greatest-some f (suc k) h = go (greatest-some f k) (decLt (f k) (greatest f k)) (decLt 0 k)
   where
-    go : (0 < k → (j : ℕ) × (j < k) × (greatest f k ≡ f j)) → Dec (f k < greatest f k) → Dec (0 < k) → (j : ℕ) × (j < suc k) × (greatest f (suc k) ≡ f j)
+    go : (0 < k → (j : ℕ) × (j < k) × (greatest f k ≡ f j)) → Dec (f k < greatest f k) → Dec (0 < k) → (j : ℕ) × (j < suc k)
+        × (greatest f (suc k) ≡ f j)
     go g (yes l) (yes p) = let r = g p in (r .0, omega (arith, r .1), omega (arith, r .2))
     go g (yes l) (no p) = absurd (let e : k ≡ 0 = omega arith in let z : greatest f k ≡ 0 = rw e in omega arith)
     go g (no l) d = (k, omega arith, omega arith)
 
 -- ---- the whole
 
-module _ (S : Shape) (Rule : ℕ → Type 0) (place : (i : ℕ) → i < S .nodes → Rule i → Placed S i) where
+module _ (S : Shape) (Rule : ℕ → Type 0) (place : (i : ℕ) → i < S .nodes → Rule i → RangesPlaced S i) where
   abbrev Parts : Type 0
   Parts =
-      ((((i : ℕ) → i < S .nodes → Rule i) × ((v : ℕ) → v < S .nodes → parents S (S .nodes) v ≡ min 1 v)) × ((x : ℕ) → x < S .positions → holders S (S .nodes) x ≡ 1))
+      ((((i : ℕ) → i < S .nodes → Rule i) × ((v : ℕ) → v < S .nodes → parents S (S .nodes) v ≡ min 1 v))
+      × ((x : ℕ) → x < S .positions → holders S (S .nodes) x ≡ 1))
       × ((v : ℕ) → v < S .nodes → levelUpto S 32 v ≤ 31)
 
   sound-to : Parts → Sound S Rule
@@ -117,7 +120,8 @@ module _ (S : Shape) (Rule : ℕ → Type 0) (place : (i : ℕ) → i < S .nodes
       some = go (decLt 0 (S .nodes));
     }
       where
-        go : Dec (0 < S .nodes) → ((S .nodes ≡ 0) × (greatest (levelUpto S 32) (S .nodes) ≡ 0)) ⊎ ((v : ℕ) × (v < S .nodes) × Level S (greatest (levelUpto S 32) (S .nodes)) v)
+        go : Dec (0 < S .nodes) → ((S .nodes ≡ 0) × (greatest (levelUpto S 32) (S .nodes) ≡ 0)) ⊎
+            ((v : ℕ) × (v < S .nodes) × Level S (greatest (levelUpto S 32) (S .nodes)) v)
         go (yes p) =
             let r = greatest-some (levelUpto S 32) (S .nodes) p in
             inr (r .0, r .1, subst (λ (l : ℕ). Level S l (r .0)) (sym (r .2)) (at-level (r .0) (r .1) .0))

@@ -6,7 +6,7 @@ use native.Mathlib.Omega.{arith}
 use Rattle.words.specs.Ones.{onesBelow}
 use Rattle.words.specs.Fields.{field}
 use Rattle.words.proofs.Ranks.{bit-is, rank-lt, rank-inj}
-use Rattle.soundness.specs.Shape.{Child, Holds, Level}
+use Rattle.soundness.specs.Shape.{ChildOf, Holds, Level}
 use Rattle.soundness.specs.Sound.{OneParent, OneHolder}
 use Rattle.soundness.specs.Subtree.{HeldBelow}
 use Rattle.soundness.proofs.Sound.{parent-of, child-node, first-has-none, has-level, child-level, holder-of, holds-position}
@@ -23,14 +23,15 @@ unfolding onesBelow
 rank-slot zero m r h = absurd (omega arith)
 rank-slot (suc k) m r h = go (decLt r (onesBelow k m)) (rank-slot k m r)
   where
-    go : Dec (r < onesBelow k m) → (r < onesBelow k m → (s : ℕ) × (s < k) × (field 1 s m ≡ 1) × (onesBelow s m ≡ r)) → (s : ℕ) × (s < suc k) × (field 1 s m ≡ 1) × (onesBelow s m ≡ r)
+    go : Dec (r < onesBelow k m) → (r < onesBelow k m → (s : ℕ) × (s < k) × (field 1 s m ≡ 1) × (onesBelow s m ≡ r)) → (s : ℕ) × (s < suc k)
+        × (field 1 s m ≡ 1) × (onesBelow s m ≡ r)
     go (yes l) f = let z = f l in (z .0, omega (arith, z .1), z .2, z .3)
     go (no l) f = let e = bit-is k m in (k, omega arith, omega arith, omega arith)
 
 module _ (N : Nodes) (n i : ℕ) where
   -- an inner slot's child stands in the child range,
   pub slot-child : (s : ℕ) → i < N .count → s < 8 → innerBit (N .node i .imask) s ≡ 1
-      → Child (shapeIn N n) i (childIndex (N .node i .«child_base_idx») (N .node i .imask) s)
+      → ChildOf (shapeIn N n) i (childIndex (N .node i .«child_base_idx») (N .node i .imask) s)
   unfolding shapeIn childIndex
   slot-child s h l b = record {
     parent = h;
@@ -45,7 +46,7 @@ module _ (N : Nodes) (n i : ℕ) where
   slot-one s t a b e = rank-inj s t (N .node i .imask) (bit-is s (N .node i .imask) ∙ a) (bit-is t (N .node i .imask) ∙ b) (omega arith)
 
   -- and every node of the child range is some slot's child
-  pub child-slot : (c : ℕ) → Child (shapeIn N n) i c
+  pub child-slot : (c : ℕ) → ChildOf (shapeIn N n) i c
       → (s : ℕ) × (s < 8) × (innerBit (N .node i .imask) s ≡ 1) × (c ≡ childIndex (N .node i .«child_base_idx») (N .node i .imask) s)
   unfolding shapeIn childIndex
   child-slot c h =
@@ -62,12 +63,12 @@ module _ (N : Nodes) (n : ℕ) (sound : SoundIn N n) where
   unfolding shapeIn
   node-parent = parent-of (shapeIn N n) (RuleIn N n) (λ j l r. placed N n j r) sound
 
-  pub parent-lower : (p c : ℕ) → Child (shapeIn N n) p c → (p < c) × (c < N .count)
+  pub parent-lower : (p c : ℕ) → ChildOf (shapeIn N n) p c → (p < c) × (c < N .count)
   unfolding shapeIn
   parent-lower = child-node (shapeIn N n) (RuleIn N n) (λ j l r. placed N n j r) sound
 
   -- and the first is no child
-  pub first-parent : (p : ℕ) → Child (shapeIn N n) p 0 → ⊥
+  pub first-parent : (p : ℕ) → ChildOf (shapeIn N n) p 0 → ⊥
   first-parent = first-has-none (shapeIn N n) (RuleIn N n) (λ j l r. placed N n j r) sound
 
   -- every node has one level, at most 31, and a child's is its parent's plus 1
@@ -75,7 +76,7 @@ module _ (N : Nodes) (n : ℕ) (sound : SoundIn N n) where
   unfolding shapeIn
   node-level = has-level (shapeIn N n) (RuleIn N n) (λ j l r. placed N n j r) sound
 
-  pub level-rises : (l k p c : ℕ) → Child (shapeIn N n) p c → Level (shapeIn N n) l p → Level (shapeIn N n) k c → k ≡ suc l
+  pub level-rises : (l k p c : ℕ) → ChildOf (shapeIn N n) p c → Level (shapeIn N n) l p → Level (shapeIn N n) k c → k ≡ suc l
   level-rises = child-level (shapeIn N n) (RuleIn N n) (λ j l r. placed N n j r) sound
 
   -- every position stands in exactly one leaf range, and no leaf range holds another number
@@ -88,9 +89,9 @@ module _ (N : Nodes) (n : ℕ) (sound : SoundIn N n) where
   holds-below = holds-position (shapeIn N n) (RuleIn N n) (λ j l r. placed N n j r) sound
 
   -- the subtrees of two children of a node have no position in common, and none with the node itself
-  pub children-apart : (p u w x : ℕ) → Child (shapeIn N n) p u → Child (shapeIn N n) p w
+  pub children-apart : (p u w x : ℕ) → ChildOf (shapeIn N n) p u → ChildOf (shapeIn N n) p w
       → HeldBelow (shapeIn N n) u x → HeldBelow (shapeIn N n) w x → u ≡ w
   children-apart = siblings-apart (shapeIn N n) (RuleIn N n) (λ j l r. placed N n j r) sound
 
-  pub parent-apart : (u c s x : ℕ) → Child (shapeIn N n) u c → Holds (shapeIn N n) u s x → HeldBelow (shapeIn N n) c x → ⊥
+  pub parent-apart : (u c s x : ℕ) → ChildOf (shapeIn N n) u c → Holds (shapeIn N n) u s x → HeldBelow (shapeIn N n) c x → ⊥
   parent-apart = own-apart (shapeIn N n) (RuleIn N n) (λ j l r. placed N n j r) sound

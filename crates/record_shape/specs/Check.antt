@@ -10,10 +10,10 @@ use Rattle.causes.specs.Causes.{Condition, _unless_, firstCause}
 use Rattle.causes.specs.Sizes.{recordConditions}
 
 -- sound with the deepest level, or unsound, or refused with the number of a cause
-pub data Answer : Type 0 where
-  sound : ℕ → Answer
-  unsound : Answer
-  refused : ℕ → Answer
+pub data Verdict : Type 0 where
+  sound : ℕ → Verdict
+  unsound : Verdict
+  refused : ℕ → Verdict
 
 -- for this many bytes, positions and working words: the record's sizes, then a working word for each node and each position
 unfoldable pub checkConditions : (long n words : ℕ) → List Condition
@@ -24,11 +24,11 @@ abbrev pub causeOf : (long n words : ℕ) → ℕ
 causeOf long n words = firstCause (checkConditions long n words)
 
 -- the answer where no cause of refusal holds
-unfoldable pub soundnessOf : List ℕ → ℕ → Answer
+unfoldable pub soundnessOf : List ℕ → ℕ → Verdict
 unfolding soundNodes deepestNodes
 soundnessOf bytes n = elim (soundNodes (nodesAt bytes) n) [ true ↦ sound (deepestNodes (nodesAt bytes) n) | false ↦ unsound ]
 
-unfoldable pub checkOf : List ℕ → (n words : ℕ) → Answer
+unfoldable pub checkOf : List ℕ → (n words : ℕ) → Verdict
 unfolding checkConditions firstCause soundnessOf
 checkOf bytes n words = elim (causeOf (length bytes) n words) [ zero ↦ soundnessOf bytes n | suc c ↦ refused (suc c) ]
 

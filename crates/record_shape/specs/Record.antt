@@ -8,7 +8,7 @@ use Rattle.soundness.specs.Shape.{Shape}
 use Rattle.soundness.specs.Sound.{Sound, Deepest}
 use Rattle.node.specs.declared.Node.{Node}
 use Rattle.node.specs.Node.{nodeAt, innerBit, codeCount}
-use Rattle.rule.specs.Rule.{Rule}
+use Rattle.node_rule.specs.Rule.{Rule}
 
 -- how many nodes there are, and which node each number is
 pub record Nodes : Type 0 where
@@ -20,23 +20,23 @@ abbrev pub metaAt : Node → ℕ → ℕ
 metaAt v s = getD (v .«child_meta») s 0
 
 -- how many positions a slot has, by its bit of imask and its meta byte: a leaf as many as its code says, a child node and an empty slot none
-unfoldable pub leafCount : ℕ → ℕ → ℕ
-leafCount zero meta = codeCount meta
-leafCount (suc bit) meta = 0
+unfoldable pub slotPositions : ℕ → ℕ → ℕ
+slotPositions zero meta = codeCount meta
+slotPositions (suc bit) meta = 0
 
 -- ---- of nodes, taken to have n positions
 
 module _ (N : Nodes) (n : ℕ) where
   -- Child ranges start at child_base_idx and are as long as imask has ones. A leaf range starts at primitive_base_idx plus the code's low five bits.
   unfoldable pub shapeIn : Shape
-  unfolding leafCount
+  unfolding slotPositions
   shapeIn = record {
     nodes = N .count;
     positions = n;
     base = λ i. N .node i .«child_base_idx»;
     children = λ i. onesBelow 8 (N .node i .imask);
     start = λ i s. N .node i .«primitive_base_idx» + metaAt (N .node i) s % 32;
-    count = λ i s. leafCount (innerBit (N .node i .imask) s) (metaAt (N .node i) s);
+    count = λ i s. slotPositions (innerBit (N .node i .imask) s) (metaAt (N .node i) s);
   }
 
   -- node i meets the node rule

@@ -6,18 +6,18 @@ use lib.Dec.{eqb, leb}
 use Rattle.lists.specs.Below.{allBelow}
 use Rattle.soundness.specs.Range.{inRange}
 use Rattle.soundness.specs.Shape.{Shape, parents, holders}
-use Rattle.rule.specs.Rule.{nodeRule}
+use Rattle.node_rule.specs.Rule.{nodeRule}
 use Rattle.record_shape.specs.Record.{Nodes, shapeIn}
 
 -- a where the number is not 0, else b
-abbrev pub pick : ℕ → ℕ → ℕ → ℕ
-pick zero a b = b
-pick (suc k) a b = a
+abbrev pub ifNonzero : ℕ → ℕ → ℕ → ℕ
+ifNonzero zero a b = b
+ifNonzero (suc k) a b = a
 
 -- the last of the first k nodes in whose child range v stands; 0 if v stands in none
 unfoldable pub parentAmong : Shape → ℕ → ℕ → ℕ
 parentAmong S zero v = 0
-parentAmong S (suc k) v = pick (inRange v (S .base k) (S .children k)) k (parentAmong S k v)
+parentAmong S (suc k) v = ifNonzero (inRange v (S .base k) (S .children k)) k (parentAmong S k v)
 
 -- v's level, or g if it is more: as many steps as lead from v up to the first node
 unfoldable pub levelUpto : Shape → ℕ → ℕ → ℕ

@@ -24,7 +24,7 @@ fn decoded(case: &[u8]) -> bool {
     if octant > 7 {
         return false;
     }
-    let bits = decode::get_child_and_index_bits(double_word(case, 0), octant);
+    let bits = node_meta::get_child_and_index_bits(double_word(case, 0), octant);
     if bits.child == double_word(case, 3) {
         return bits.index == double_word(case, 5);
     }
@@ -56,7 +56,7 @@ fn rules(case: &[u8]) -> bool {
     let mut space = [0xffu8; ROOM];
     let bytes: &mut [u8] = &mut space;
     copy_node(case, bytes, i);
-    rule::node_rule(bytes, i, m, n) as u32 == word(case, 23)
+    node_rule::node_rule(bytes, i, m, n) as u32 == word(case, 23)
 }
 
 // A node, a ray, an octant; the hit mask.
@@ -74,8 +74,8 @@ fn masks(case: &[u8]) -> bool {
         real(case, 26),
         real(case, 27),
     );
-    let e = slot::near_ends(r.direction);
-    slot::intersect_ray(case, 0, node::metas(case, 0), r, e, octant) == word(case, 29)
+    let e = node_slot::near_ends(r.direction);
+    node_slot::intersect_ray(case, 0, node::metas(case, 0), r, e, octant) == word(case, 29)
 }
 
 // The number of the node in a slot, for a ray of octant 0; all ones where its meta's low five bits are below 24.
@@ -85,7 +85,7 @@ fn child_number(case: &[u8], meta: u8) -> usize
     if meta % 32 < 24 {
         return 0xffff_ffff;
     }
-    slot::hit_child(
+    node_slot::hit_child(
         node::child_base_idx(case, 0),
         node::imask(case, 0) as u32,
         (meta % 32) as u32,
@@ -122,7 +122,7 @@ fn slots(case: &[u8]) -> bool {
     if case.len() != 220 {
         return false;
     }
-    let e = slot::compute_extent(node::ex(case, 0), node::ey(case, 0), node::ez(case, 0));
+    let e = node_slot::compute_extent(node::ex(case, 0), node::ey(case, 0), node::ez(case, 0));
     if !same_vector(case, 20, e) {
         return false;
     }

@@ -15,7 +15,8 @@ use Rattle.children.proofs.Steps.{left-tabled, right-tabled}
 use Rattle.replay_trees.proofs.Accepted.{tables-ready}
 
 -- the whole tree, once its tables are filled
-pub tabled : (ws ds after : List ℕ) (n limit : ℕ) → 0 < n → Accepted ws n → length ws ≤ length ds → after ≡ fill (wordOf limit) (treeAt ws 127 0) ds → Tabled ws after 127 0
+pub tabled : (ws ds after : List ℕ) (n limit : ℕ) → 0 < n → Accepted ws n → length ws ≤ length ds → after ≡ fill (wordOf limit) (treeAt ws 127 0) ds
+    → Tabled ws after 127 0
 tabled ws ds after n limit pos a l e = rw e (filled-tabled limit ds (tables-ready ws n (length ds) (length ds) pos a l l))
 
 -- a node's number

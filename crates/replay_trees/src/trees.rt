@@ -2,7 +2,7 @@
 ghost use mathlib.Core.Path.{_≡_};
 ghost use Prim.Native.Nat.{_≤_};
 ghost use Rattle.bvh2.specs.Causes.{Accepted};
-ghost use Rattle.bvh2.specs.Words.{nodeCount};
+ghost use Rattle.bvh2.specs.Words.{treeNodes};
 use bvh2_check::sizes;
 use bvh2_check::structure;
 use stored::all_are;
@@ -16,7 +16,7 @@ const NO_ANSWER: u32 = 0xffff_ffff;
 // The nodes of n leaves.
 pub fn node_count(n: usize) -> usize
     requires { ⌜ n ≤ 512 ⌝ }
-    ensures { λ r. ⌜ r ≡ nodeCount n ⌝ }
+    ensures { λ r. ⌜ r ≡ treeNodes n ⌝ }
 {
     if n == 0 {
         return 0;

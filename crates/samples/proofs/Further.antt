@@ -26,16 +26,16 @@ use Rattle.cost.specs.Table.{bestOf, decision, table}
 use Rattle.order.specs.Lists.{keep, some}
 use Rattle.order.specs.Assign.{partner, rowPairs, pairs, openPairs, leastPair, assigned}
 use Rattle.order.specs.Order as order
-use Rattle.wide.specs.Shape.{nodeAt}
-use Rattle.wide_tree.specs.WideTree.{slotsFrom, childrenOf, wideOf}
+use Rattle.wide_layout.specs.Shape.{layoutEntry}
+use Rattle.wide_tree.specs.WideTree.{slotsFrom, wideChildren, wideOf}
 use Rattle.faststack.specs.Stack.{pushed, topOf}
 use Rattle.node.specs.Node.{slotOffset, slotFrom, nodeFrom, childIndex, headBytes, putSlot, putSlots, nodeBytes}
-use Rattle.rule.specs.Rule.{pointOk, exponentOk, headOk, childrenOk, leafTop, slotOk, slotsOk, nodeRule}
-use Rattle.slot.specs.Slot.{nearLimit, adjustedInverse, adjustedOrigin, planeAt, nearOf, farOf, passes}
-use Rattle.slot.specs.Mask.{hitBits, slotHit, hitMask}
-use Rattle.record.specs.Record.{metas, innerMask, gridBox, gridBoxes, nodeOf, joined, recordBytes}
-use Rattle.tables.specs.Tables.{recordSize, hasRoom, prepareConditions}
-use Rattle.bvh2_to_cwbvh.specs.Conversion.{recordOf, nodesOf, levelOf, positionsOf, listOf, conversionConditions}
+use Rattle.node_rule.specs.Rule.{pointOk, exponentOk, headOk, childrenOk, leafTop, slotOk, slotsOk, nodeRule}
+use Rattle.node_slot.specs.Slot.{nearLimit, adjustedInverse, adjustedOrigin, planeAt, nearOf, farOf, passes}
+use Rattle.node_slot.specs.Mask.{hitBits, slotHit, hitMask}
+use Rattle.record.specs.Record.{metas, innerMask, gridBox, gridBoxes, nodeOf, joinedBelow, recordBytes}
+use Rattle.bvh2_tables.specs.Tables.{recordSize, slicesFit, prepareConditions}
+use Rattle.bvh2_to_cwbvh.specs.Conversion.{recordOf, nodesOf, levelOf, outputPositions, indexListOf, conversionConditions}
 use Rattle.walk.specs.WordStep.{stepWords, advanceWords, reportWords, visitWords, popWords}
 use Rattle.walk.specs.WordQueries.{queryWords}
 use Rattle.walk_record.specs.Walk.{queryAt}
@@ -45,7 +45,7 @@ use Rattle.closest.specs.Panes.{paneMet, paneOf, hitAt, noHit, refusedClosest, 
 use Rattle.closest.specs.Panes.{closestFound, missFound, closestWalk, missWalk, closestOf, missOf}
 use Rattle.text.specs.Text.{chars, digits, decimal, hexDigit, hex}
 use Rattle.show.specs.Input.{inputWords}
-use Rattle.show.specs.Show.{nodeLine, nodeLines, spaced, indicesLine, recordText, numbered}
+use Rattle.show.specs.Show.{nodeLine, nodeLines, spaced, indicesLine, recordText, numberedLine}
 use Rattle.show_text.specs.ShowText.{causeText, treeText, orderText, leavesText, showText}
 use Rattle.samples.specs.TreeT.{number, indicesT, panesT, bytesT, rayAlong}
 use Rattle.samples.specs.Samples.{ahead}
@@ -63,7 +63,8 @@ closest :
     × (closestOf bytesT indicesT (replicate 6 (number 0) ++ (number 1 ∷ replicate 5 (number 0))) ahead ≡ closestIs (refusedClosest 6) 0)
     × (closestOf bytesT indicesT (replicate 9 (number 0)) ahead ≡ closestIs (refusedClosest 1) 0)
     × (closestOf bytesT indicesT panesT (rayAlong (number 0) nan) ≡ closestIs (refusedClosest 9) 0)
-unfolding closestOf closestWalk closestFound walked entered entryConditions recordConditions firstCause paneOf paneMet counts boxIn vecIn queryAt queryWords
+unfolding closestOf closestWalk closestFound walked entered entryConditions recordConditions firstCause paneOf paneMet counts boxIn vecIn queryAt
+    queryWords
     stepWords advanceWords reportWords
     visitWords popWords rayOf octantOf hitMask slotHit hitBits orOf passes nearOf farOf maxOf minOf planeAt adjustedInverse adjustedOrigin nearLimit
     scaleOf nodeFrom leAt sumOf slotFrom slotOffset nodeRule headOk childrenOk slotsOk slotOk leafTop pointOk exponentOk inBounds onesBelow field
@@ -76,7 +77,8 @@ miss :
     × (missOf bytesT indicesT panesT (rayAlong (number 0) (number 1)) ≡ missIs missed 1)
     × (missOf [] [] [] ahead ≡ missIs missed 0)
     × (missOf bytesT (0 ∷ 2 ∷ []) panesT ahead ≡ missIs (refusedMiss 10) 0)
-unfolding missOf missWalk missFound walked entered entryConditions recordConditions firstCause paneOf paneMet counts boxIn vecIn queryAt queryWords stepWords
+unfolding missOf missWalk missFound walked entered entryConditions recordConditions firstCause paneOf paneMet counts boxIn vecIn queryAt queryWords
+    stepWords
     advanceWords reportWords
     visitWords popWords rayOf octantOf hitMask slotHit hitBits orOf passes nearOf farOf maxOf minOf planeAt adjustedInverse adjustedOrigin nearLimit
     scaleOf nodeFrom leAt sumOf slotFrom slotOffset nodeRule headOk childrenOk slotsOk slotOk leafTop pointOk exponentOk inBounds onesBelow field
@@ -86,11 +88,12 @@ miss = (refl, refl, refl, refl)
 
 printed : (showText (inputT 0) ≡ textT) × (showText (inputT 1) ≡ orderedTextT)
 unfolding showText leavesText orderText treeText causeText inputWords leAt sumOf conversionConditions firstCause prepareConditions sizeConditions
-    structureConditions hasRoom
-    recordSize levelOf recordOf nodesOf positionsOf listOf linkOf boxAt readLink isInside isPosition isWhole eachOnce isTree allBelow
-    same count labels positions boxOf leaves inBounds boundedVec inOrder acceptedBox halfArea centerOf bestOf decision table order.inOrder
+    structureConditions slicesFit
+    recordSize levelOf recordOf nodesOf outputPositions indexListOf linkOf boxAt readLink isInside isPosition isWhole eachOnce isTree allBelow
+    same count labels positions boxOf leaves inBounds boundedVec inOrder acceptedBox halfArea centerOf bestOf decision table order.gatheredOrder
     order.slotsOf order.signOf order.directionOf order.dotOf order.directionCost order.costTable rowPairs pairs partner openPairs leastPair assigned
-    keep some slotsFrom childrenOf wideOf recordBytes joined nodeAt nodeOf gridBox gridBoxes metas innerMask nodeBytes headBytes putSlots putSlot
+    keep some slotsFrom wideChildren wideOf recordBytes joinedBelow layoutEntry nodeOf gridBox gridBoxes metas innerMask nodeBytes headBytes
+    putSlots putSlot
     slotOffset childMin childMax clampedByte onGrid reciprocalOf scaleOf exponentOf extentScale nextPower maxOf ofInt ofBits toBits round add sub
     mul div lt le recordText nodeLines nodeLine indicesLine spaced chars decimal digits hex hexDigit
 printed = (refl, refl)
@@ -103,8 +106,8 @@ printed-else :
     × (showText (bytesOf (0 ∷ 4 ∷ 0 ∷ [])) ≡ chars "refused 3\n")
     × (showText (bytesOf (0 ∷ 3 ∷ 0 ∷ [])) ≡ chars "indices\n")
 unfolding showText leavesText orderText treeText causeText inputWords leAt sumOf conversionConditions firstCause prepareConditions sizeConditions
-    structureConditions hasRoom
-    recordSize levelOf recordOf nodesOf positionsOf listOf recordText nodeLines indicesLine spaced numbered chars decimal digits
+    structureConditions slicesFit
+    recordSize levelOf recordOf nodesOf outputPositions indexListOf recordText nodeLines indicesLine spaced numberedLine chars decimal digits
 printed-else = (refl, refl, refl, refl, refl, refl)
 
 pub further : Further

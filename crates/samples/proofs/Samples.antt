@@ -29,13 +29,13 @@ use Rattle.bvh2.specs.FirstCause.{sizeConditions, isInside, isPosition, isWhole
 use Rattle.cost.specs.Table.{bestOf, decision, table}
 use Rattle.order.specs.Lists.{keep, some}
 use Rattle.order.specs.Assign.{rowPairs, pairs, partner, openPairs, leastPair, assigned}
-use Rattle.order.specs.Order.{signOf, directionOf, dotOf, directionCost, costTable, inOrder, slotsOf}
-use Rattle.wide_tree.specs.WideTree.{slotsFrom, childrenOf, wideOf}
+use Rattle.order.specs.Order.{signOf, directionOf, dotOf, directionCost, costTable, gatheredOrder, slotsOf}
+use Rattle.wide_tree.specs.WideTree.{slotsFrom, wideChildren, wideOf}
 use Rattle.node.specs.Node.{slotOffset, slotFrom, nodeFrom, childIndex, headBytes, putSlot, putSlots, nodeBytes}
 use Rattle.faststack.specs.Stack.{pushed, topOf}
-use Rattle.rule.specs.Rule.{pointOk, exponentOk, headOk, childrenOk, leafTop, slotOk, slotsOk, nodeRule}
-use Rattle.slot.specs.Slot.{nearLimit, adjustedInverse, adjustedOrigin, planeAt, nearOf, farOf, passes}
-use Rattle.slot.specs.Mask.{hitBits, slotHit, hitMask}
+use Rattle.node_rule.specs.Rule.{pointOk, exponentOk, headOk, childrenOk, leafTop, slotOk, slotsOk, nodeRule}
+use Rattle.node_slot.specs.Slot.{nearLimit, adjustedInverse, adjustedOrigin, planeAt, nearOf, farOf, passes}
+use Rattle.node_slot.specs.Mask.{hitBits, slotHit, hitMask}
 use Rattle.walk.specs.WordStep.{stepWords, advanceWords, reportWords, visitWords, popWords}
 use Rattle.walk.specs.WordQueries.{queryWords}
 use Rattle.walk_record.specs.Walk.{queryAt, anyHitAt}
@@ -43,59 +43,64 @@ use Rattle.query.specs.Entry.{entryConditions}
 use Rattle.query.specs.Result.{walked, entered}
 use Rattle.closest.specs.Panes.{paneMet, paneOf, hitAt, noHit, closestFound, closestWalk, closestOf}
 use Rattle.any_hit.specs.AnyHit.{listed, fitted, walkOf, anyHitOf, listFor, listAfter}
-use Rattle.wide.specs.Shape.{nodeAt}
-use Rattle.record.specs.Record.{metas, innerMask, gridBox, gridBoxes, nodeOf, joined, recordBytes}
-use Rattle.tables.specs.Tables.{recordSize, hasRoom, prepareConditions}
-use Rattle.bvh2_to_cwbvh.specs.Conversion.{converted, refused, recordOf, nodesOf, levelOf, positionsOf, listOf}
+use Rattle.wide_layout.specs.Shape.{layoutEntry}
+use Rattle.record.specs.Record.{metas, innerMask, gridBox, gridBoxes, nodeOf, joinedBelow, recordBytes}
+use Rattle.bvh2_tables.specs.Tables.{recordSize, slicesFit, prepareConditions}
+use Rattle.bvh2_to_cwbvh.specs.Conversion.{converted, refused, recordOf, nodesOf, levelOf, outputPositions, indexListOf}
 use Rattle.bvh2_to_cwbvh.specs.Conversion.{conversionConditions, answerFor, outcomeFor, conversionOf}
 use Rattle.samples.specs.TreeT.{number, wordsT, indicesT, panesT, bytesT}
-use Rattle.samples.specs.Samples.{nextAbove, extentByte, convert, ahead, beside, rootWord, rootCost, Samples}
+use Rattle.samples.specs.Samples.{nextAbove, extentByte, convertSample, ahead, beside, rootWord, rootCost, Samples}
 
 record-of-T : recordOf wordsT 2 3 false ≡ bytesT
-unfolding recordOf linkOf boxAt readLink boxOf positions table decision bestOf leaves halfArea wideOf slotsFrom childrenOf slotsOf inOrder partner
-    ofBits ofInt add sub mul lt recordBytes joined nodeAt nodeOf gridBox gridBoxes metas innerMask nodeBytes headBytes putSlots putSlot slotOffset
+unfolding recordOf linkOf boxAt readLink boxOf positions table decision bestOf leaves halfArea wideOf slotsFrom wideChildren slotsOf gatheredOrder
+    partner
+    ofBits ofInt add sub mul lt recordBytes joinedBelow layoutEntry nodeOf gridBox gridBoxes metas innerMask nodeBytes headBytes putSlots putSlot
+    slotOffset
     childMin childMax clampedByte onGrid reciprocalOf scaleOf exponentOf extentScale nextPower maxOf toBits round div le
 record-of-T = refl
 
 exponents-of-T : take 3 (drop 12 (recordOf wordsT 2 3 false)) ≡ 121 ∷ 120 ∷ 120 ∷ []
 exponents-of-T = ap (λ (b : List ℕ). take 3 (drop 12 b)) record-of-T
 
-list-of-T : listOf wordsT indicesT 3 false ≡ 0 ∷ 1 ∷ []
-unfolding listOf positionsOf linkOf boxAt readLink boxOf positions table decision bestOf leaves halfArea wideOf slotsFrom childrenOf slotsOf inOrder
+list-of-T : indexListOf wordsT indicesT 3 false ≡ 0 ∷ 1 ∷ []
+unfolding indexListOf outputPositions linkOf boxAt readLink boxOf positions table decision bestOf leaves halfArea wideOf slotsFrom wideChildren
+    slotsOf gatheredOrder
     partner ofBits ofInt add sub mul lt
 list-of-T = refl
 
 ordered-T : take 8 (drop 24 (recordOf wordsT 2 3 true)) ≡ 0x20 ∷ 0 ∷ 0 ∷ 0 ∷ 0x21 ∷ 0 ∷ 0 ∷ 0 ∷ []
-unfolding recordOf linkOf boxAt readLink boxOf positions table decision bestOf leaves halfArea wideOf slotsFrom childrenOf slotsOf inOrder partner
+unfolding recordOf linkOf boxAt readLink boxOf positions table decision bestOf leaves halfArea wideOf slotsFrom wideChildren slotsOf gatheredOrder
+    partner
     ofBits ofInt add sub mul lt costTable directionCost dotOf directionOf signOf centerOf assigned leastPair openPairs pairs rowPairs keep some
-    recordBytes joined nodeAt nodeOf gridBox gridBoxes metas innerMask nodeBytes headBytes putSlots putSlot slotOffset childMin childMax clampedByte
+    recordBytes joinedBelow layoutEntry nodeOf gridBox gridBoxes metas innerMask nodeBytes headBytes putSlots putSlot slotOffset childMin childMax
+    clampedByte
     onGrid reciprocalOf scaleOf exponentOf extentScale nextPower maxOf toBits round div le
 ordered-T = refl
 
-nothing : convert [] [] 3 ≡ converted 0 0
-unfolding convert conversionOf outcomeFor conversionConditions answerFor levelOf nodesOf firstCause prepareConditions hasRoom recordSize
+nothing : convertSample [] [] 3 ≡ converted 0 0
+unfolding convertSample conversionOf outcomeFor conversionConditions answerFor levelOf nodesOf firstCause prepareConditions slicesFit recordSize
     sizeConditions
     structureConditions
     isInside isPosition isWhole eachOnce isTree same count labels allBelow inBounds boundedVec acceptedBox aabb.inOrder le
 nothing = refl
 
-limit-3 : convert wordsT indicesT 3 ≡ converted 1 0
-unfolding convert conversionOf outcomeFor conversionConditions answerFor levelOf nodesOf firstCause prepareConditions hasRoom recordSize
+limit-3 : convertSample wordsT indicesT 3 ≡ converted 1 0
+unfolding convertSample conversionOf outcomeFor conversionConditions answerFor levelOf nodesOf firstCause prepareConditions slicesFit recordSize
     sizeConditions
     structureConditions
     isInside isPosition isWhole eachOnce isTree same count labels allBelow inBounds boundedVec acceptedBox aabb.inOrder le linkOf boxAt readLink
-    boxOf positions table decision bestOf leaves halfArea wideOf slotsFrom childrenOf slotsOf inOrder partner ofBits ofInt add sub mul lt
+    boxOf positions table decision bestOf leaves halfArea wideOf slotsFrom wideChildren slotsOf gatheredOrder partner ofBits ofInt add sub mul lt
 limit-3 = refl
 
-limit-4 : convert wordsT indicesT 4 ≡ refused 3
-unfolding convert conversionOf outcomeFor conversionConditions answerFor levelOf nodesOf firstCause prepareConditions hasRoom recordSize
+limit-4 : convertSample wordsT indicesT 4 ≡ refused 3
+unfolding convertSample conversionOf outcomeFor conversionConditions answerFor levelOf nodesOf firstCause prepareConditions slicesFit recordSize
     sizeConditions
     structureConditions
     isInside isPosition isWhole eachOnce isTree same count labels allBelow inBounds boundedVec acceptedBox aabb.inOrder le
 limit-4 = refl
 
-limit-4-nothing : convert [] [] 4 ≡ refused 3
-unfolding convert conversionOf outcomeFor conversionConditions answerFor levelOf nodesOf firstCause prepareConditions hasRoom recordSize
+limit-4-nothing : convertSample [] [] 4 ≡ refused 3
+unfolding convertSample conversionOf outcomeFor conversionConditions answerFor levelOf nodesOf firstCause prepareConditions slicesFit recordSize
     sizeConditions
     structureConditions
     isInside isPosition isWhole eachOnce isTree same count labels allBelow inBounds boundedVec acceptedBox aabb.inOrder le
@@ -126,7 +131,8 @@ any-hits :
     × (listAfter bytesT 2 ahead (7 ∷ 7 ∷ 7 ∷ []) ≡ 1 ∷ 0 ∷ 7 ∷ [])
     × (anyHitOf bytesT 2 beside 2 ≡ record { answer = listed 0; tests = 1 })
     × (anyHitOf [] 0 ahead 0 ≡ record { answer = listed 0; tests = 0 })
-unfolding anyHitOf listAfter listFor splice entryConditions recordConditions firstCause entered walkOf walked fitted anyHitAt queryAt queryWords stepWords
+unfolding anyHitOf listAfter listFor splice entryConditions recordConditions firstCause entered walkOf walked fitted anyHitAt queryAt queryWords
+    stepWords
     advanceWords reportWords
     visitWords popWords rayOf octantOf hitMask slotHit hitBits orOf passes nearOf farOf maxOf minOf planeAt adjustedInverse adjustedOrigin nearLimit
     scaleOf nodeFrom leAt sumOf slotFrom slotOffset nodeRule headOk childrenOk slotsOk slotOk leafTop pointOk exponentOk inBounds onesBelow field

@@ -10,7 +10,7 @@ use Rattle.ray.specs.declared.Ray.{Ray}
 use Rattle.quantization.specs.Exponent.{exponentOf}
 use Rattle.bvh2.specs.Words.{treeOf}
 use Rattle.cost.specs.Table.{wordOf, costOf}
-use Rattle.bvh2_to_cwbvh.specs.Conversion.{Answer, converted, refused, recordOf, listOf, conversionOf}
+use Rattle.bvh2_to_cwbvh.specs.Conversion.{ConversionAnswer, converted, refused, recordOf, indexListOf, conversionOf}
 use Rattle.closest.specs.Panes.{hitAt, noHit, closestOf}
 use Rattle.any_hit.specs.AnyHit.{listed, anyHitOf, listAfter}
 use Rattle.samples.specs.TreeT.{number, minusZero, wordsT, indicesT, panesT, bytesT, rayAlong}
@@ -24,9 +24,9 @@ abbrev pub extentByte : Float → ℕ
 extentByte x = exponentOf (number 0) x
 
 -- a conversion's answer for a leaf limit, with room for two leaves
-unfoldable pub convert : List ℕ → List ℕ → ℕ → Answer
+unfoldable pub convertSample : List ℕ → List ℕ → ℕ → ConversionAnswer
 unfolding conversionOf
-convert ws indices limit = conversionOf (record {
+convertSample ws indices limit = conversionOf (record {
   words = ws;
   indices = indices;
   limit = limit;
@@ -54,7 +54,7 @@ rootCost limit = toBits binary32 (costOf limit (treeOf wordsT) 0)
 pub record Samples : Type 0 where
   -- T's record and index list
   pub record-of-T : recordOf wordsT 2 3 false ≡ bytesT
-  pub list-of-T : listOf wordsT indicesT 3 false ≡ 0 ∷ 1 ∷ []
+  pub list-of-T : indexListOf wordsT indicesT 3 false ≡ 0 ∷ 1 ∷ []
   -- the e bytes of T's node
   pub exponents-of-T : take 3 (drop 12 (recordOf wordsT 2 3 false)) ≡ 121 ∷ 120 ∷ 120 ∷ []
   -- an extent of 255 has the byte 127: its 255th part is a power of two and stays one
@@ -76,13 +76,13 @@ pub record Samples : Type 0 where
   pub any-hit-zero : anyHitOf bytesT 2 beside 2 ≡ record { answer = listed 0; tests = 1 }
   pub closest-zero : closestOf bytesT indicesT panesT beside ≡ record { answer = noHit; tests = 1 }
   -- without leaves there are no nodes, and neither meets anything, without a test
-  pub nothing : convert [] [] 3 ≡ converted 0 0
+  pub nothing : convertSample [] [] 3 ≡ converted 0 0
   pub any-hit-nothing : anyHitOf [] 0 ahead 0 ≡ record { answer = listed 0; tests = 0 }
   pub closest-nothing : closestOf [] [] [] ahead ≡ record { answer = noHit; tests = 0 }
   -- a leaf limit of 3 is accepted, 4 is refused 3, without leaves too
-  pub limit-3 : convert wordsT indicesT 3 ≡ converted 1 0
-  pub limit-4 : convert wordsT indicesT 4 ≡ refused 3
-  pub limit-4-nothing : convert [] [] 4 ≡ refused 3
+  pub limit-3 : convertSample wordsT indicesT 3 ≡ converted 1 0
+  pub limit-4 : convertSample wordsT indicesT 4 ≡ refused 3
+  pub limit-4-nothing : convertSample [] [] 4 ≡ refused 3
   -- T's root, half area 7, over leaves of half area 3. Both as one leaf cost (2 × 7) × 0.3, and a wide node over them 3 × 0.3 + 3 × 0.3 + 7, each
   -- step rounded: the leaf is cheaper where the limit lets it be one. The splits, 0 and 6, are kept.
   pub cost-at-3 : (rootWord 3 ≡ 0x0000_0006) × (rootCost 3 ≡ 0x4086_6667)

@@ -6,7 +6,7 @@ use native.Mathlib.Omega.{arith}
 use lib.ListN.{length, take, drop, getD, length-append, length-take}
 use Rattle.text.specs.Text.{chars, decimal}
 use Rattle.text.proofs.Decimal.{decimal-most, decimal-word}
-use Rattle.show.specs.Show.{nodeLine, nodeLines, spaced, indicesLine, recordText, numbered}
+use Rattle.show.specs.Show.{nodeLine, nodeLines, spaced, indicesLine, recordText, numberedLine}
 use Rattle.show.proofs.Lines.{length-node, length-indices}
 
 -- a line has at most five digits of an index, and 160 of 80 bytes
@@ -42,8 +42,8 @@ pub record-small : (bytes : List ℕ) (m : ℕ) (l : List ℕ) → m ≤ 255 →
     → length (recordText bytes m l) ≤ 64_000
 record-small bytes m l h g w = omega (arith, record-most bytes m l (omega arith) w)
 
-pub length-numbered : (word : List ℕ) (k : ℕ) → length (numbered word k) ≡ length word + (length (decimal k) + 1)
-unfolding numbered chars
+pub length-numbered : (word : List ℕ) (k : ℕ) → length (numberedLine word k) ≡ length word + (length (decimal k) + 1)
+unfolding numberedLine chars
 length-numbered word k = rw (length-append, length-append) refl
 
 -- a part of words is words

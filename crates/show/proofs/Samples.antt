@@ -5,7 +5,7 @@ use lib.ListN.{replicate}
 use Rattle.text.specs.Text.{chars, digits, decimal, hexDigit, hex}
 use Rattle.words.specs.Le.{leAt, sumOf}
 use Rattle.show.specs.Input.{inputWords}
-use Rattle.show.specs.Show.{nodeLine, nodeLines, spaced, indicesLine, recordText, numbered, refusalText, soundText}
+use Rattle.show.specs.Show.{nodeLine, nodeLines, spaced, indicesLine, recordText, numberedLine, refusalText, soundText}
 
 -- no nodes and no indices
 sample-empty : recordText [] 0 [] ≡ chars "indices\n"
@@ -19,11 +19,11 @@ unfolding nodeLines nodeLine chars decimal digits hex hexDigit
 sample-second = refl
 
 sample-refused : refusalText 10 ≡ chars "refused 10\n"
-unfolding numbered chars decimal digits
+unfolding numberedLine chars decimal digits
 sample-refused = refl
 
 sample-sound : soundText 31 ≡ chars "sound 31\n"
-unfolding numbered chars decimal digits
+unfolding numberedLine chars decimal digits
 sample-sound = refl
 
 sample-words : inputWords (9 ∷ 2 ∷ 0 ∷ 0 ∷ 0 ∷ 1 ∷ 2 ∷ 3 ∷ 4 ∷ []) 1 2 ≡ 2 ∷ 0x0403_0201 ∷ []

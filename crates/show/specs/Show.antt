@@ -30,16 +30,16 @@ unfolding nodeLines indicesLine
 recordText bytes m indices = nodeLines bytes 0 m ++ indicesLine indices
 
 -- an answer of one line: a word and a number
-unfoldable pub numbered : List ℕ → ℕ → List ℕ
-numbered word k = word ++ (decimal k ++ chars "\n")
+unfoldable pub numberedLine : List ℕ → ℕ → List ℕ
+numberedLine word k = word ++ (decimal k ++ chars "\n")
 
 -- a refusal, by its number
 abbrev pub refusalText : ℕ → List ℕ
-refusalText k = numbered (chars "refused ") k
+refusalText k = numberedLine (chars "refused ") k
 
 -- a sound record, with its deepest level
 abbrev pub soundText : ℕ → List ℕ
-soundText level = numbered (chars "sound ") level
+soundText level = numberedLine (chars "sound ") level
 
 -- any other record
 unfoldable pub unsoundText : List ℕ

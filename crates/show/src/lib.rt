@@ -7,7 +7,7 @@ ghost use Rattle.lists.specs.Splice.{splice};
 ghost use Rattle.text.specs.Put.{Put};
 ghost use Rattle.text.specs.Text.{chars, decimal};
 ghost use Rattle.show.specs.Input.{inputWords};
-ghost use Rattle.show.specs.Show.{nodeLine, nodeLines, spaced, indicesLine, recordText, numbered, refusalText, soundText, unsoundText};
+ghost use Rattle.show.specs.Show.{nodeLine, nodeLines, spaced, indicesLine, recordText, numberedLine, refusalText, soundText, unsoundText};
 
 // Reads words from a place of the input on.
 pub fn read_words(input: &[u8], from: usize, count: usize, words: &mut [u32])
@@ -90,8 +90,8 @@ pub fn print_record(record: &[u8], m: usize, indices: &[u32], n: usize, out: &mu
 // Prints a word and a number.
 fn print_numbered(word: &[u8], k: u32, out: &mut [u8]) -> usize
     requires { ⌜ length (now word) + 11 ≤ length (now out) ⌝ }
-    ensures { λ r. ⌜ r ≡ length (numbered (now (word .entry)) k) ⌝ }
-    ensures { λ _. ⌜ now (out .exit) ≡ splice (now (out .entry)) 0 (numbered (now (word .entry)) k) ⌝ }
+    ensures { λ r. ⌜ r ≡ length (numberedLine (now (word .entry)) k) ⌝ }
+    ensures { λ _. ⌜ now (out .exit) ≡ splice (now (out .entry)) 0 (numberedLine (now (word .entry)) k) ⌝ }
 {
     let p = text::put_bytes(out, 0, word);
     let q = text::put_decimal(out, p, k);

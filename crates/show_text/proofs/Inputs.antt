@@ -39,7 +39,8 @@ module _ (input : List ℕ) (n : ℕ) (word : 4 ≤ length input) (is : n ≡ le
       by : Bool → List ℕ
       by b = elim b [
         | false ↦ refusalText 2
-        | true ↦ elim (eqb (length input) (inputSize n)) [ false ↦ refusalText 1 | true ↦ orderText (treeWords input n) (indexWords input n) (leAt 4 input 4) (leAt 4 input 8) ]
+        | true ↦ elim (eqb (length input) (inputSize n))
+            [ false ↦ refusalText 1 | true ↦ orderText (treeWords input n) (indexWords input n) (leAt 4 input 4) (leAt 4 input 8) ]
       ]
 
   module _ (few : n ≤ mostLeaves) (k : ℕ) (size : k ≡ treeSize n) where
@@ -77,16 +78,19 @@ module _ (input : List ℕ) (n : ℕ) (word : 4 ≤ length input) (is : n ≡ le
           go (suc (suc o)) h = refl
 
       -- the words that were read
-      pub text-tree : order ≤ 1 → (ws is ws₁ is₁ : List ℕ) → ws₁ ≡ splice ws 0 (inputWords input 12 k) → is₁ ≡ splice is 0 (inputWords input (12 + 4 * k) n)
+      pub text-tree : order ≤ 1 → (ws is ws₁ is₁ : List ℕ) → ws₁ ≡ splice ws 0 (inputWords input 12 k) → is₁
+          ≡ splice is 0 (inputWords input (12 + 4 * k) n)
           → treeText (take k ws₁) (take n is₁) limit (eqb order 1) ≡ showText input
       unfolding orderText
       text-tree h ws is ws₁ is₁ a b =
           ap₂ (λ (x y : List ℕ). treeText x y limit (eqb order 1))
           (ap (take k) a ∙ splice-taken ws (inputWords input 12 k) k (length-words input 12 k) ∙ ap (inputWords input 12) size)
-          (ap (take n) b ∙ splice-taken is (inputWords input (12 + 4 * k) n) n (length-words input (12 + 4 * k) n) ∙ ap (λ (x : ℕ). inputWords input (12 + 4 * x) n) size)
+          (ap (take n) b ∙ splice-taken is (inputWords input (12 + 4 * k) n) n (length-words input (12 + 4 * k) n) ∙ ap
+          (λ (x : ℕ). inputWords input (12 + 4 * x) n) size)
           ∙ go order h ∙ text-order
         where
-          go : (o : ℕ) → o ≤ 1 → treeText (treeWords input n) (indexWords input n) limit (eqb o 1) ≡ orderText (treeWords input n) (indexWords input n) limit o
+          go : (o : ℕ) → o ≤ 1 → treeText (treeWords input n) (indexWords input n) limit (eqb o 1)
+              ≡ orderText (treeWords input n) (indexWords input n) limit o
           go zero h = refl
           go (suc zero) h = refl
           go (suc (suc o)) h = absurd (omega arith)

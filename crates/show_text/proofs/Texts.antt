@@ -9,13 +9,13 @@ use lib.Seq.{take-append-le, drop-append-le}
 use Rattle.lists.specs.Splice.{splice}
 use Rattle.lists.proofs.Splice.{splice-taken}
 use Rattle.show.specs.Show.{nodeLine, nodeLines, indicesLine, recordText, refusalText}
-use Rattle.tables.specs.Call.{Call, leafCount}
+use Rattle.bvh2_tables.specs.Call.{Call, leafCount}
 use Rattle.bvh2_to_cwbvh.specs.Conversion.{definedRecord, definedNodes, definedList, conversionOf}
 use Rattle.bvh2_to_cwbvh.specs.declared.Conversion.{Conversion}
 use Rattle.bvh2_to_cwbvh.specs.declared.Conversion.the-variants.{Refused}
 use Rattle.bvh2_to_cwbvh.specs.Answer.{outcomeOf}
 use Rattle.show_text.specs.ShowText.{mostLeaves, causeText, treeText}
-use Rattle.show_text.specs.Room.{Room}
+use Rattle.show_text.specs.Room.{TextRoom}
 use Rattle.show_text.proofs.Trees.{Converts, refuses}
 
 -- ---- what follows the nodes is not printed
@@ -34,7 +34,8 @@ lines-written : (s a : List ℕ) (m : ℕ) → length a ≡ 80 * m → nodeLines
 unfolding splice
 lines-written s a m e = lines-front a (drop (0 + length a) s) m 0 (omega arith)
 
-record-written : (s a t l : List ℕ) (m n : ℕ) → length a ≡ 80 * m → length l ≡ n → recordText (splice s 0 a) m (take n (splice t 0 l)) ≡ recordText a m l
+record-written : (s a t l : List ℕ) (m n : ℕ) → length a ≡ 80 * m → length l ≡ n → recordText (splice s 0 a) m (take n (splice t 0 l))
+    ≡ recordText a m l
 unfolding recordText
 record-written s a t l m n e f = ap₂ (λ (x y : List ℕ). x ++ indicesLine y) (lines-written s a m e) (splice-taken t l n f)
 
@@ -51,7 +52,7 @@ wrote-fits s text r t h =
     omega (arith, h .0, ap length e, length-take (length text) t)
 
 module _ (c : Call) (out : ℕ) (few : leafCount c ≤ mostLeaves)
-    (room : Room (length (c .decisions)) (length (c .costs)) (length (c .bytes)) (length (c .list)) out) where
+    (room : TextRoom (length (c .decisions)) (length (c .costs)) (length (c .bytes)) (length (c .list)) out) where
   -- the record and the list, as they are printed
   pub record-shown : (m : ℕ) (bytes₁ list₁ : List ℕ) → Converts c out few room m bytes₁ list₁
       → recordText bytes₁ m (take (leafCount c) list₁) ≡ treeText (c .words) (c .indices) (c .limit) (c .ordered)

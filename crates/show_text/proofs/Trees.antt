@@ -13,19 +13,19 @@ use Rattle.bvh2.specs.Causes.{Accepted}
 use Rattle.bvh2.specs.FirstCause.{sizeConditions, structureConditions}
 use Rattle.bvh2.proofs.Decoded.{accepted-decoded}
 use Rattle.wide_tree.proofs.Ordered.{node-count}
-use Rattle.tables.specs.Call.{Call, leafCount, Lengths, lengthsOf}
-use Rattle.tables.specs.Tables.{tableSize, recordSize, prepareConditions}
-use Rattle.tables.proofs.Room.{room-enough}
+use Rattle.bvh2_tables.specs.Call.{Call, leafCount, Lengths, lengthsOf}
+use Rattle.bvh2_tables.specs.Tables.{tableSize, recordSize, prepareConditions}
+use Rattle.bvh2_tables.proofs.Room.{room-enough}
 use Rattle.bvh2_to_cwbvh.specs.Conversion.{nodesOf, levelOf, definedRecord, definedNodes, definedList, Convertible}
 use Rattle.bvh2_to_cwbvh.specs.Conversion.{conversionConditions, conversionCause, Outcome, conversionOf}
 use Rattle.bvh2_to_cwbvh.specs.declared.Conversion.{Conversion}
 use Rattle.bvh2_to_cwbvh.specs.declared.Conversion.the-variants.{Converted, Refused}
-use Rattle.bvh2_to_cwbvh.specs.Answer.{answerOf, outcomeOf}
+use Rattle.bvh2_to_cwbvh.specs.Answer.{conversionAnswer, outcomeOf}
 use Rattle.bvh2_to_cwbvh.proofs.Endings.{cause-none}
 use Rattle.bvh2_to_cwbvh.proofs.Answers as A
 use Rattle.bvh2_to_cwbvh.proofs.Sizes.{bytes-length, list-length}
 use Rattle.show_text.specs.ShowText.{mostLeaves, needed, roomyCause}
-use Rattle.show_text.specs.Room.{Room}
+use Rattle.show_text.specs.Room.{TextRoom}
 
 -- ---- the cause
 
@@ -73,7 +73,7 @@ sizes c few h = record {
 -- ---- the outcome
 
 module _ (c : Call) (out : ℕ) (few : leafCount c ≤ mostLeaves)
-    (room : Room (length (c .decisions)) (length (c .costs)) (length (c .bytes)) (length (c .list)) out) where
+    (room : TextRoom (length (c .decisions)) (length (c .costs)) (length (c .bytes)) (length (c .list)) out) where
   -- the cause is that of slices as long as they have to be
   cause-roomy : conversionCause c ≡ roomyCause (c .words) (leafCount c) (c .limit) (c .ordered)
   cause-roomy =
@@ -92,13 +92,13 @@ module _ (c : Call) (out : ℕ) (few : leafCount c ≤ mostLeaves)
     pub sizes-are : Sizes c
 
   module _ (v : Conversion) (ds₁ : List ℕ) (cs₁ : List Float) (bytes₁ list₁ : List ℕ) (e : outcomeOf v ds₁ cs₁ bytes₁ list₁ ≡ conversionOf c) where
-    answer-is : answerOf v ≡ conversionOf c .answer
+    answer-is : conversionAnswer v ≡ conversionOf c .answer
     answer-is = ap (λ (o : Outcome). o .answer) e
 
     pub converts : (m level : ℕ) → v ≡ Converted m level → Converts m bytes₁ list₁
-    unfolding answerOf
+    unfolding conversionAnswer
     converts m level q =
-        let r = A.answered c m level (sym answer-is ∙ ap answerOf q) in
+        let r = A.answered c m level (sym answer-is ∙ ap conversionAnswer q) in
         record {
           none = sym cause-roomy ∙ cause-none c (A.convertible-none c (r .none)) (r .low);
           nodes-are = r .nodes;
@@ -109,8 +109,8 @@ module _ (c : Call) (out : ℕ) (few : leafCount c ≤ mostLeaves)
 
     -- the number of a refusal is that of the cause
     pub refuses : (k : ℕ) → v ≡ Refused k → (roomyCause (c .words) (leafCount c) (c .limit) (c .ordered) ≡ k) × (0 < k)
-    unfolding answerOf
-    refuses k q = let h = A.refused-cause c k .0 (sym answer-is ∙ ap answerOf q) in (sym cause-roomy ∙ h .0, h .1)
+    unfolding conversionAnswer
+    refuses k q = let h = A.refused-cause c k .0 (sym answer-is ∙ ap conversionAnswer q) in (sym cause-roomy ∙ h .0, h .1)
 
   -- what the printing of a record asks
   pub print-ready : (m : ℕ) (bytes₁ list₁ : List ℕ) → Converts m bytes₁ list₁ → length bytes₁ ≡ length (c .bytes) → length list₁ ≡ length (c .list)

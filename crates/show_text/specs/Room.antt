@@ -1,7 +1,7 @@
 -- Internal: the lent slices are long enough for any tree that `showrecord` takes: 256 leaves, so 511 tree nodes and a record of at most 255 nodes.
 use Prim.Native.Nat.{ℕ, _+_, _*_, _≤_}
 
-pub record Room (decisions costs bytes list out : ℕ) : Type 0 where
+pub record TextRoom (decisions costs bytes list out : ℕ) : Type 0 where
   pub decisions-room : 511 * 7 ≤ decisions
   pub costs-room : 511 * 7 ≤ costs
   pub record-room : 80 * 255 ≤ bytes

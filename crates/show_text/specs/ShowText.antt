@@ -1,15 +1,16 @@
--- What `showrecord` prints for what it reads (01, "Samples"): the little-endian words n, leaf limit and order, then the tree's words and n index words.
+-- What `showrecord` prints for what it reads (01, "Samples"): the little-endian words n, leaf limit and order, then the tree's words and n index
+-- words.
 use mathlib.Core.Bool.{Bool, true, false}
 use mathlib.Core.List.{List}
 use Prim.Native.Nat.{ℕ, zero, suc, _+_, _*_}
 use lib.Dec.{eqb, leb, ltb}
 use lib.ListN.{length}
 use Rattle.words.specs.Le.{leAt}
-use Rattle.bvh2.specs.Words.{nodeCount}
+use Rattle.bvh2.specs.Words.{treeNodes}
 use Rattle.causes.specs.Causes.{firstCause}
-use Rattle.tables.specs.Call.{Lengths}
-use Rattle.tables.specs.Tables.{tableSize, recordSize}
-use Rattle.bvh2_to_cwbvh.specs.Conversion.{recordOf, nodesOf, listOf, conversionConditions}
+use Rattle.bvh2_tables.specs.Call.{Lengths}
+use Rattle.bvh2_tables.specs.Tables.{tableSize, recordSize}
+use Rattle.bvh2_to_cwbvh.specs.Conversion.{recordOf, nodesOf, indexListOf, conversionConditions}
 use Rattle.show.specs.Input.{inputWords}
 use Rattle.show.specs.Show.{recordText, refusalText}
 
@@ -21,7 +22,7 @@ mostLeaves = 256
 
 -- how many words the tree of n leaves has
 abbrev pub treeSize : ℕ → ℕ
-treeSize n = nodeCount n * 7
+treeSize n = treeNodes n * 7
 
 -- how many bytes the input has for n leaves
 abbrev pub inputSize : ℕ → ℕ
@@ -48,7 +49,7 @@ roomyCause ws n limit ordered = firstCause (conversionConditions ws n limit orde
 unfoldable pub causeText : (ws indices : List ℕ) (limit : ℕ) → Bool → ℕ → List ℕ
 causeText ws indices limit ordered zero =
     let n = length indices in
-    recordText (recordOf ws n limit ordered) (nodesOf ws n limit ordered) (listOf ws indices limit ordered)
+    recordText (recordOf ws n limit ordered) (nodesOf ws n limit ordered) (indexListOf ws indices limit ordered)
 causeText ws indices limit ordered (suc k) = refusalText (suc k)
 
 unfoldable pub treeText : (ws indices : List ℕ) (limit : ℕ) → Bool → List ℕ
@@ -68,7 +69,8 @@ unfolding orderText
 leavesText input n =
     elim (leb n mostLeaves) [
       | false ↦ refusalText 2
-      | true ↦ elim (eqb (length input) (inputSize n)) [ false ↦ refusalText 1 | true ↦ orderText (treeWords input n) (indexWords input n) (leAt 4 input 4) (leAt 4 input 8) ]
+      | true ↦ elim (eqb (length input) (inputSize n))
+          [ false ↦ refusalText 1 | true ↦ orderText (treeWords input n) (indexWords input n) (leAt 4 input 4) (leAt 4 input 8) ]
     ]
 
 -- input that ends within the word n is short

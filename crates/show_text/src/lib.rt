@@ -5,7 +5,7 @@ ghost use Prim.Native.Nat.{_≤_};
 ghost use lib.ListN.{length};
 ghost use Rattle.lists.specs.Splice.{splice};
 ghost use Rattle.show_text.specs.ShowText.{mostLeaves, treeSize, treeText, showText};
-ghost use Rattle.show_text.specs.Room.{Room};
+ghost use Rattle.show_text.specs.Room.{TextRoom};
 
 // How many words the tree of n leaves has.
 fn tree_size(n: usize) -> usize
@@ -31,7 +31,7 @@ fn tree_text(
     out: &mut [u8],
 ) -> usize
     requires { ⌜ length (now indices) ≤ mostLeaves ⌝ }
-    requires { ⌜ Room (length (now decisions)) (length (now costs)) (length (now «record»)) (length (now list)) (length (now out)) ⌝ }
+    requires { ⌜ TextRoom (length (now decisions)) (length (now costs)) (length (now «record»)) (length (now list)) (length (now out)) ⌝ }
     ensures { λ r. ⌜ r ≡ length (treeText (now (words .entry)) (now (indices .entry)) limit ordered) ⌝ }
     ensures { λ _. ⌜ now (out .exit) ≡ splice (now (out .entry)) 0 (treeText (now (words .entry)) (now (indices .entry)) limit ordered) ⌝ }
 {
@@ -56,7 +56,8 @@ fn tree_text(
     }
 }
 
-// Reads n, leaf limit, order, a tree and its index words, and writes the tree's record and index list, or the number of the cause of refusal; the working
+// Reads n, leaf limit, order, a tree and its index words, and writes the tree's record and index list, or the number of the cause of refusal; the
+// working
 // slices are enough for any tree that is read.
 pub fn show_text(
     input: &[u8],
@@ -69,7 +70,7 @@ pub fn show_text(
     out: &mut [u8],
 ) -> usize
     requires { ⌜ (treeSize mostLeaves ≤ length (now words)) × (mostLeaves ≤ length (now indices)) ⌝ }
-    requires { ⌜ Room (length (now decisions)) (length (now costs)) (length (now «record»)) (length (now list)) (length (now out)) ⌝ }
+    requires { ⌜ TextRoom (length (now decisions)) (length (now costs)) (length (now «record»)) (length (now list)) (length (now out)) ⌝ }
     ensures { λ r. ⌜ r ≡ length (showText (now (input .entry))) ⌝ }
     ensures { λ _. ⌜ now (out .exit) ≡ splice (now (out .entry)) 0 (showText (now (input .entry))) ⌝ }
 {

@@ -52,8 +52,20 @@ range-split x a m n = go (decLt x a) (decLt x (a + m)) (decLt x (a + (m + n)))
     go : Dec (x < a) → Dec (x < a + m) → Dec (x < a + (m + n)) → inRange x a (m + n) ≡ inRange x a m + inRange x (a + m) n
     go (yes h) d e = omega (arith, before-range x a (m + n) h, before-range x a m h, before-range x (a + m) n (omega arith))
     go (no h) (yes k) e = omega (arith, in-range x a (m + n) (omega arith) (omega arith), in-range x a m (omega arith) k, before-range x (a + m) n k)
-    go (no h) (no k) (yes l) = omega (arith, in-range x a (m + n) (omega arith) l, after-range x a m (omega arith), in-range x (a + m) n (omega arith) (omega arith))
-    go (no h) (no k) (no l) = omega (arith, after-range x a (m + n) (omega arith), after-range x a m (omega arith), after-range x (a + m) n (omega arith))
+    go (no h) (no k) (yes l) = omega (
+      arith,
+      in-range x a (m + n) (omega arith) l,
+      after-range x a m (omega arith),
+      in-range x (a + m) n
+          (omega arith) (omega arith),
+    )
+    go (no h) (no k) (no l) = omega (
+      arith,
+      after-range x a (m + n) (omega arith),
+      after-range x a m (omega arith),
+      after-range x (a + m) n
+          (omega arith),
+    )
 
 pub range-first : (x a n : ℕ) → inRange x a (suc n) ≡ inRange x a 1 + inRange x (suc a) n
 range-first x a n =

@@ -3,12 +3,12 @@ use mathlib.Core.Path.{_≡_}
 use Prim.Native.Nat.{ℕ, zero, suc, _<_, _≤_}
 use native.Mathlib.Decide.{decLt}
 use native.Mathlib.Omega.{arith}
-use Rattle.soundness.specs.Shape.{Shape, Child, Holds, parents, Level, Placed}
+use Rattle.soundness.specs.Shape.{Shape, ChildOf, Holds, parents, Level, RangesPlaced}
 use Rattle.soundness.specs.Sound.{Sound, OneParent, OneHolder}
 use Rattle.soundness.proofs.Once.{one-parent, no-parent, one-holder, one-level}
 
-module _ (S : Shape) (Rule : ℕ → Type 0) (place : (i : ℕ) → i < S .nodes → Rule i → Placed S i) (sound : Sound S Rule) where
-  pub placed-at : (i : ℕ) → i < S .nodes → Placed S i
+module _ (S : Shape) (Rule : ℕ → Type 0) (place : (i : ℕ) → i < S .nodes → Rule i → RangesPlaced S i) (sound : Sound S Rule) where
+  pub placed-at : (i : ℕ) → i < S .nodes → RangesPlaced S i
   placed-at i l = place i l (sound .rule i l)
 
   pub parents-most : (v : ℕ) → v < S .nodes → parents S (S .nodes) v ≤ 1
@@ -19,14 +19,14 @@ module _ (S : Shape) (Rule : ℕ → Type 0) (place : (i : ℕ) → i < S .nodes
       go (no p) = let q : v ≡ 0 = omega arith in let e : parents S (S .nodes) v ≡ 0 = rw q (sound .first) in omega arith
 
   -- a child is a node, with a higher number than its parent's
-  pub child-node : (p c : ℕ) → Child S p c → (p < c) × (c < S .nodes)
+  pub child-node : (p c : ℕ) → ChildOf S p c → (p < c) × (c < S .nodes)
   child-node p c h =
       let k = placed-at p (h .parent) in
       let a = h .from in
       let b = h .before in
       (omega (arith, k .later (omega arith)), omega (arith, k .exist (omega arith)))
 
-  pub first-has-none : (p : ℕ) → Child S p 0 → ⊥
+  pub first-has-none : (p : ℕ) → ChildOf S p 0 → ⊥
   first-has-none = no-parent S 0 (sound .first)
 
   pub parent-of : (v : ℕ) → 0 < v → v < S .nodes → OneParent S v
@@ -47,7 +47,7 @@ module _ (S : Shape) (Rule : ℕ → Type 0) (place : (i : ℕ) → i < S .nodes
   pub same-level : (l k v : ℕ) → v < S .nodes → Level S l v → Level S k v → l ≡ k
   same-level = one-level S (sound .first) parents-most
 
-  pub child-level : (l k p c : ℕ) → Child S p c → Level S l p → Level S k c → k ≡ suc l
+  pub child-level : (l k p c : ℕ) → ChildOf S p c → Level S l p → Level S k c → k ≡ suc l
   unfolding Level
   child-level l k p c h a b = same-level k (suc l) c (child-node p c h .1) b (p, h, a)
 

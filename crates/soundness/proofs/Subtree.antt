@@ -2,13 +2,13 @@
 use mathlib.Core.Path.{_≡_, sym, _∙_, subst}
 use Prim.Native.Nat.{ℕ, zero, suc, _+_, _<_, _≤_}
 use native.Mathlib.Omega.{arith}
-use Rattle.soundness.specs.Shape.{Shape, Child, Holds, Level, Placed}
+use Rattle.soundness.specs.Shape.{Shape, ChildOf, Holds, Level, RangesPlaced}
 use Rattle.soundness.specs.Sound.{Sound}
 use Rattle.soundness.specs.Subtree.{Below, HeldBelow}
 use Rattle.soundness.proofs.Once.{same-parent, same-node}
 use Rattle.soundness.proofs.Sound.{parents-most, child-node, holds-position, same-level, has-level}
 
-module _ (S : Shape) (Rule : ℕ → Type 0) (place : (i : ℕ) → i < S .nodes → Rule i → Placed S i) (sound : Sound S Rule) where
+module _ (S : Shape) (Rule : ℕ → Type 0) (place : (i : ℕ) → i < S .nodes → Rule i → RangesPlaced S i) (sound : Sound S Rule) where
   -- ---- nodes below
 
   pub below-node : (k u v : ℕ) → u < S .nodes → Below S k u v → v < S .nodes
@@ -29,9 +29,9 @@ module _ (S : Shape) (Rule : ℕ → Type 0) (place : (i : ℕ) → i < S .nodes
   below-level (suc k) l u v a (p, c, d) = let z : suc k + l ≡ suc (k + l) = omega arith in rw z (p, c, below-level k l u p a d)
 
   -- a child's subtree is part of its parent's
-  pub below-parent : (k p c v : ℕ) → Child S p c → Below S k c v → Below S (suc k) p v
+  pub below-parent : (k p c v : ℕ) → ChildOf S p c → Below S k c v → Below S (suc k) p v
   unfolding Below
-  below-parent zero p c v h e = (p, subst (λ (x : ℕ). Child S p x) e h, p-self)
+  below-parent zero p c v h e = (p, subst (λ (x : ℕ). ChildOf S p x) e h, p-self)
     where
       p-self : p ≡ p
       p-self = omega arith
@@ -65,14 +65,14 @@ module _ (S : Shape) (Rule : ℕ → Type 0) (place : (i : ℕ) → i < S .nodes
       subtrees-apart l (g .levels) (h .levels) u w (g .node) n a b (g .below) (subst (λ (v : ℕ). Below S (h .levels) w v) e (h .below))
 
   -- so are two children of one node,
-  pub siblings-apart : (p u w x : ℕ) → Child S p u → Child S p w → HeldBelow S u x → HeldBelow S w x → u ≡ w
+  pub siblings-apart : (p u w x : ℕ) → ChildOf S p u → ChildOf S p w → HeldBelow S u x → HeldBelow S w x → u ≡ w
   unfolding Level
   siblings-apart p u w x c d g h =
       let r = has-level S Rule place sound p (c .parent) in
       positions-apart (suc (r .0)) u w x (child-node S Rule place sound p u c .1) (p, c, r .2) (p, d, r .2) g h
 
   -- and no position of a node's own leaf ranges is below a child of it
-  pub own-apart : (u c s x : ℕ) → Child S u c → Holds S u s x → HeldBelow S c x → ⊥
+  pub own-apart : (u c s x : ℕ) → ChildOf S u c → Holds S u s x → HeldBelow S c x → ⊥
   own-apart u c s x d a g =
       let e : g .node ≡ u = holder-one x (g .node) u (g .slot) s (g .holds) a in
       omega (arith, below-rises (g .levels) c (g .node) (g .below), child-node S Rule place sound u c d .0)

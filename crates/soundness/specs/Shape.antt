@@ -15,7 +15,7 @@ pub record Shape : Type 0 where
   pub count : ℕ → ℕ → ℕ
 
 -- node c stands in the child range of node p, its parent
-pub record Child (S : Shape) (p c : ℕ) : Type 0 where
+pub record ChildOf (S : Shape) (p c : ℕ) : Type 0 where
   pub parent : p < S .nodes
   pub from : S .base p ≤ c
   pub before : c < S .base p + S .children p
@@ -32,20 +32,20 @@ abbrev pub parents : Shape → ℕ → ℕ → ℕ
 parents S k x = sum (λ i. inRange x (S .base i) (S .children i)) k
 
 -- in how many of node i's eight leaf ranges position x stands
-abbrev pub held : Shape → ℕ → ℕ → ℕ
-held S i x = sum (λ s. inRange x (S .start i s) (S .count i s)) 8
+abbrev pub positionsHeld : Shape → ℕ → ℕ → ℕ
+positionsHeld S i x = sum (λ s. inRange x (S .start i s) (S .count i s)) 8
 
 -- in how many leaf ranges of the first k nodes position x stands
 abbrev pub holders : Shape → ℕ → ℕ → ℕ
-holders S k x = sum (λ i. held S i x) k
+holders S k x = sum (λ i. positionsHeld S i x) k
 
 -- level 0 is the first node's, and any other node's is its parent's plus 1
 unfoldable pub Level : Shape → ℕ → ℕ → Type 0
 Level S zero v = v ≡ 0
-Level S (suc l) v = (p : ℕ) × Child S p v × Level S l p
+Level S (suc l) v = (p : ℕ) × ChildOf S p v × Level S l p
 
 -- what the node rule says of node i's ranges: children come later and exist, positions exist
-pub record Placed (S : Shape) (i : ℕ) : Type 0 where
+pub record RangesPlaced (S : Shape) (i : ℕ) : Type 0 where
   pub later : 0 < S .children i → i < S .base i
   pub exist : 0 < S .children i → S .base i + S .children i ≤ S .nodes
   pub inside : (s : ℕ) → s < 8 → 0 < S .count i s → S .start i s + S .count i s ≤ S .positions

@@ -2,7 +2,7 @@
 use mathlib.Core.Logic.{_⊎_}
 use mathlib.Core.Path.{_≡_}
 use Prim.Native.Nat.{ℕ, _<_, _≤_}
-use Rattle.soundness.specs.Shape.{Shape, Child, Holds, parents, holders, Level}
+use Rattle.soundness.specs.Shape.{Shape, ChildOf, Holds, parents, holders, Level}
 
 -- Every node meets the rule; the first node stands in no child range and every other in exactly one; every position stands in exactly one
 -- leaf range; no level is over 31.
@@ -18,12 +18,13 @@ pub record Deepest (S : Shape) (d : ℕ) : Type 0 where
   pub most : (v l : ℕ) → v < S .nodes → Level S l v → l ≤ d
   pub some : ((S .nodes ≡ 0) × (d ≡ 0)) ⊎ ((v : ℕ) × (v < S .nodes) × Level S d v)
 
--- The same by naming the one range instead of counting: exactly one node is v's parent, and exactly one slot of one node holds position x. And exactly
+-- The same by naming the one range instead of counting: exactly one node is v's parent, and exactly one slot of one node holds position x. And
+-- exactly
 -- one level is v's.
 pub record OneParent (S : Shape) (v : ℕ) : Type 0 where
   pub parent : ℕ
-  pub child : Child S parent v
-  pub only : (p : ℕ) → Child S p v → p ≡ parent
+  pub child : ChildOf S parent v
+  pub only : (p : ℕ) → ChildOf S p v → p ≡ parent
 
 pub record OneHolder (S : Shape) (x : ℕ) : Type 0 where
   pub node : ℕ

@@ -1,12 +1,12 @@
 -- Internal: the nodes below a node, and the positions of its subtree (01, "Words, bytes and bounds": a child range's node is their parent).
 use mathlib.Core.Path.{_≡_}
 use Prim.Native.Nat.{ℕ, zero, suc}
-use Rattle.soundness.specs.Shape.{Shape, Child, Holds}
+use Rattle.soundness.specs.Shape.{Shape, ChildOf, Holds}
 
 -- node v lies k levels below node u: it is u itself, or its parent lies one level less below u
 unfoldable pub Below : Shape → ℕ → ℕ → ℕ → Type 0
 Below S zero u v = u ≡ v
-Below S (suc k) u v = (p : ℕ) × Child S p v × Below S k u p
+Below S (suc k) u v = (p : ℕ) × ChildOf S p v × Below S k u p
 
 -- position x stands in a leaf range of u or of a node below u
 pub record HeldBelow (S : Shape) (u x : ℕ) : Type 0 where

@@ -25,7 +25,8 @@ const MOST_TURNS: u32 = 1000000;
 // The most groups of a file.
 const MOST_GROUPS: u32 = 100;
 
-// Where a replay stands in a file: its group, how many of the group's cases were run, how many agreed, whether all did, and the turns left, 0 at the end.
+// Where a replay stands in a file: its group, how many of the group's cases were run, how many agreed, whether all did, and the turns left, 0 at the
+// end.
 pub struct Place {
     pub fd: i32,
     pub kind: u32,

@@ -11,7 +11,8 @@ unfoldable pub chars : String → List ℕ
 chars empty = []
 chars (c then s) = code c ∷ chars s
 
--- the decimal digits of a number, the highest first; the Boolean says whether it has one digit only, and the first number is fuel, of which the number itself is enough
+-- the decimal digits of a number, the highest first; the Boolean says whether it has one digit only, and the first number is fuel, of which the
+-- number itself is enough
 unfoldable pub digits : ℕ → Bool → ℕ → List ℕ
 digits zero b n = (48 + n % 10) ∷ []
 digits (suc k) true n = (48 + n % 10) ∷ []

@@ -11,30 +11,30 @@ use Rattle.ray.specs.Ray.{acceptedRay}
 use Rattle.walk.specs.Step as S
 use Rattle.walk.specs.Calls.{Op, step, tell}
 use Rattle.walk.specs.WordStep.{WalkerWords, SteppedWords, freshWords, runWords, stayWords}
-use Rattle.walk_record.specs.Beam.{Beam, beamOf, beams}
+use Rattle.walk_record.specs.WalkRay.{WalkRay, walkRay, byBoxes}
 use Rattle.walk_record.specs.Walk.{stepAt, runAt}
 use Rattle.traverse.specs.Walker.{started, stepBytes}
 use Rattle.traverse.specs.Calls.{runEach, runBytes}
 use Rattle.traverse.proofs.Begun.{starts-fresh}
 
 module _ (bytes : List ℕ) (whole : length bytes % 80 ≡ 0) where
-  pub step-whole : (n : ℕ) (w : WalkerWords Beam) → stepBytes bytes n w ≡ stepAt bytes beams n w
+  pub step-whole : (n : ℕ) (w : WalkerWords WalkRay) → stepBytes bytes n w ≡ stepAt bytes byBoxes n w
   unfolding stepBytes
   step-whole n w = ap by (eq-eqb (length bytes % 80) 0 whole)
     where
-      by : Bool → SteppedWords Beam
-      by a = elim a [ false ↦ stayWords w (S.refused 1) | true ↦ stepAt bytes beams n w ]
+      by : Bool → SteppedWords WalkRay
+      by a = elim a [ false ↦ stayWords w (S.refused 1) | true ↦ stepAt bytes byBoxes n w ]
 
-  pub run-whole : (l : List (Op Float)) (w : WalkerWords Beam) → runBytes bytes l w ≡ runAt bytes beams l w
+  pub run-whole : (l : List (Op Float)) (w : WalkerWords WalkRay) → runBytes bytes l w ≡ runAt bytes byBoxes l w
   unfolding runBytes runEach runAt runWords stepAt
   run-whole [] w = refl
   run-whole (step n ∷ l) w =
       let e = step-whole n w in
-      let r = run-whole l (stepBytes bytes n w .walker) ∙ ap (λ (x : SteppedWords Beam). runAt bytes beams l (x .walker)) e in
+      let r = run-whole l (stepBytes bytes n w .walker) ∙ ap (λ (x : SteppedWords WalkRay). runAt bytes byBoxes l (x .walker)) e in
       λ i. record { walker = r i .walker; answers = e i .answer ∷ r i .answers }
   run-whole (tell t ∷ l) w = run-whole l _
 
   -- from the walker that `Walker::new` begins with, for an accepted ray
   pub run-started : (r : Ray) → acceptedRay r ≡ true → (l : List (Op Float))
-      → runBytes bytes l (started r .walker) ≡ runAt bytes beams l (freshWords (beamOf r))
-  run-started r h l = ap (runBytes bytes l) (starts-fresh r h) ∙ run-whole l (freshWords (beamOf r))
+      → runBytes bytes l (started r .walker) ≡ runAt bytes byBoxes l (freshWords (walkRay r))
+  run-started r h l = ap (runBytes bytes l) (starts-fresh r h) ∙ run-whole l (freshWords (walkRay r))

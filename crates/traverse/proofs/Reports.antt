@@ -15,7 +15,10 @@ module _ {s : Type 0} (n : ℕ) (w : WalkerWords s) where
   report-past p e h = rw (← e, le-leb n p h)
 
   pub report-made : (p : ℕ) (g : Group) → p ≡ firstPosition (w .positions) → g ≡ restOf (w .positions) → p < n
-      → record { walker = record { ray = w .ray; tests = w .tests; positions = g; current = w .current; depth = w .depth; stack = w .stack }; answer = S.position p } ≡ reportWords n w
+      → record {
+        walker = record { ray = w .ray; tests = w .tests; positions = g; current = w .current; depth = w .depth; stack = w .stack };
+        answer = S.position p;
+      } ≡ reportWords n w
   unfolding reportWords
   report-made p g e f h = rw (← e, lt-leb n p h) (λ i. record {
     walker = record { ray = w .ray; tests = w .tests; positions = f i; current = w .current; depth = w .depth; stack = w .stack };

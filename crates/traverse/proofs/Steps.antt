@@ -13,21 +13,21 @@ use Rattle.lists.proofs.Tells.{tells-true, eqb-tells}
 use Rattle.causes.specs.Causes.{_unless_, firstCause}
 use Rattle.causes.specs.Sizes.{sizesFit, recordConditions, recordCause}
 use Rattle.causes.proofs.Sizes.{Fit, sizes-tell}
-use Rattle.slot.specs.declared.Ends.{Ends}
-use Rattle.slot.specs.Parts.{endsOf}
+use Rattle.node_slot.specs.declared.Ends.{Ends}
+use Rattle.node_slot.specs.Parts.{endsOf}
 use Rattle.record_shape.specs.Record.{nodeCount}
 use Rattle.walk.specs.Step as S
 use Rattle.walk.specs.WordStep.{WalkerWords, SteppedWords, stayWords, emptiedWords, advanceWords, stepWords}
-use Rattle.walk_record.specs.Beam.{Beam, forgedBeam, reaching, beams}
-use Rattle.walk_record.proofs.Beam.{beam-laws}
+use Rattle.walk_record.specs.WalkRay.{WalkRay, forgedRay, reaching, byBoxes}
+use Rattle.walk_record.proofs.WalkRay.{walk-ray-laws}
 use Rattle.walk_record.specs.Record.{nodeWordsAt}
 use Rattle.walk_record.specs.Walk.{stepAt}
 use Rattle.advance.specs.Turn.{Walkable}
 use Rattle.traverse.specs.Walker.{stepBytes, isForged, isOver, toldWalker}
 
 -- ---- telling
-module _ (w : WalkerWords Beam) (t : Float) where
-  abbrev told : Bool → WalkerWords Beam
+module _ (w : WalkerWords WalkRay) (t : Float) where
+  abbrev told : Bool → WalkerWords WalkRay
   told b = record {
     ray = record { ray = cond b (reaching t (w .ray .ray)) (w .ray .ray); octant = w .ray .octant };
     tests = w .tests;
@@ -44,17 +44,17 @@ module _ (w : WalkerWords Beam) (t : Float) where
   told-farther e = sym (ap told e)
 
 -- ---- a step
-module _ (bytes : List ℕ) (n : ℕ) (w : WalkerWords Beam) where
+module _ (bytes : List ℕ) (n : ℕ) (w : WalkerWords WalkRay) where
   abbrev m : ℕ
   m = nodeCount bytes
 
   -- by four tests: the length, the sizes, forged, and a record without nodes
-  abbrev by : Bool → Bool → Bool → Bool → SteppedWords Beam
+  abbrev by : Bool → Bool → Bool → Bool → SteppedWords WalkRay
   by a b c d =
       elim a [
         | false ↦ stayWords w (S.refused 1)
         | true ↦ cond b
-            (cond c (stayWords w (S.refused 10)) (cond d (emptiedWords w) (advanceWords m (nodeWordsAt bytes beams) n w)))
+            (cond c (stayWords w (S.refused 10)) (cond d (emptiedWords w) (advanceWords m (nodeWordsAt bytes byBoxes) n w)))
             (stayWords w (S.refused 2))
       ]
 
@@ -93,7 +93,7 @@ module _ (bytes : List ℕ) (n : ℕ) (w : WalkerWords Beam) where
       pub step-over : over ≡ true → emptiedWords w ≡ stepBytes bytes n w
       step-over e = sym (λ i. by (whole i) (fits i) (own i) (e i)) ∙ sym is
 
-      pub step-advances : over ≡ false → advanceWords m (nodeWordsAt bytes beams) n w ≡ stepBytes bytes n w
+      pub step-advances : over ≡ false → advanceWords m (nodeWordsAt bytes byBoxes) n w ≡ stepBytes bytes n w
       step-advances e = sym (λ i. by (whole i) (fits i) (own i) (e i)) ∙ sym is
 
     own-say : (a b c : Bool) → (a || b || c) ≡ false → (a ≡ false) × (b ≡ false) × (c ≡ false)
@@ -105,13 +105,13 @@ module _ (bytes : List ℕ) (n : ℕ) (w : WalkerWords Beam) where
     -- what the core asks, of a walker that is not forged
     pub walks : forged ≡ false → (e : Ends) → e ≡ endsOf (w .ray .ray .direction) → Walkable bytes n (w .ray .ray) e (w .ray .octant) (w .depth) 32
     walks h e q =
-        let o = own-say (forgedBeam (w .ray)) (ltb 32 (w .depth)) (ltb m (w .tests)) h in
+        let o = own-say (forgedRay (w .ray)) (ltb 32 (w .depth)) (ltb m (w .tests)) h in
         record {
           whole = f .whole;
           nodes = f .small;
           positions = f .few;
           ends = q;
-          eight = beam-laws .octant-lt (w .ray) (o .0);
+          eight = walk-ray-laws .octant-lt (w .ray) (o .0);
           deep = ltb-false 32 (w .depth) (o .1);
           stack = omega arith;
         }

@@ -9,7 +9,7 @@ use borrow.Author.Tests.{le-leb, lt-leb, lt-ltb, le-ltb, eq-eqb, ne-eqb}
 use Rattle.ray.specs.declared.Ray.{Ray}
 use Rattle.ray.specs.Ray.{safeInverse, octantOf, acceptedRay}
 use Rattle.walk.specs.Words as W
-use Rattle.walk_record.specs.Beam.{ownInverse, forgedBeam}
+use Rattle.walk_record.specs.WalkRay.{ownInverse, forgedRay}
 use Rattle.traverse.specs.Walker.{isForged, isOver}
 
 -- ---- a ray's own inverse and octant
@@ -23,7 +23,8 @@ module _ (a b c : Bool) where
   and-last : a ≡ true → b ≡ true → c ≡ (a && b && c)
   and-last e f = sym (λ i. e i && f i && c)
 
-module _ (r : Ray) (x y z : Float) (p : x ≡ safeInverse (r .direction .x)) (q : y ≡ safeInverse (r .direction .y)) (s : z ≡ safeInverse (r .direction .z)) where
+module _ (r : Ray) (x y z : Float) (p : x ≡ safeInverse (r .direction .x)) (q : y ≡ safeInverse (r .direction .y))
+    (s : z ≡ safeInverse (r .direction .z)) where
   abbrev ex : eq (r .inverse .x) x ≡ eq (r .inverse .x) (safeInverse (r .direction .x))
   ex = ap (eq (r .inverse .x)) p
 
@@ -43,23 +44,25 @@ module _ (r : Ray) (x y z : Float) (p : x ≡ safeInverse (r .direction .x)) (q 
   inverse-z e f = ez ∙ and-last _ _ _ (sym ex ∙ e) (sym ey ∙ f)
 
 module _ (r : Ray) (octant : ℕ) where
-  pub forged-nine : acceptedRay r ≡ false → true ≡ forgedBeam (record { ray = r; octant = octant })
+  pub forged-nine : acceptedRay r ≡ false → true ≡ forgedRay (record { ray = r; octant = octant })
   forged-nine e = ap not (and-first (acceptedRay r) (ownInverse r) (eqb octant (octantOf (r .direction))) e)
 
-  pub forged-inverse : acceptedRay r ≡ true → ownInverse r ≡ false → true ≡ forgedBeam (record { ray = r; octant = octant })
+  pub forged-inverse : acceptedRay r ≡ true → ownInverse r ≡ false → true ≡ forgedRay (record { ray = r; octant = octant })
   forged-inverse e f = ap not (and-second (acceptedRay r) (ownInverse r) (eqb octant (octantOf (r .direction))) e f)
 
-  pub forged-octant : acceptedRay r ≡ true → ownInverse r ≡ true → (o : ℕ) → o ≡ octantOf (r .direction) → not (eqb octant o) ≡ forgedBeam (record { ray = r; octant = octant })
-  forged-octant e f o g = ap (λ (k : ℕ). not (eqb octant k)) g ∙ ap not (and-last (acceptedRay r) (ownInverse r) (eqb octant (octantOf (r .direction))) e f)
+  pub forged-octant : acceptedRay r ≡ true → ownInverse r ≡ true → (o : ℕ) → o ≡ octantOf (r .direction) → not (eqb octant o)
+      ≡ forgedRay (record { ray = r; octant = octant })
+  forged-octant e f o g = ap (λ (k : ℕ). not (eqb octant k)) g ∙ ap not
+      (and-last (acceptedRay r) (ownInverse r) (eqb octant (octantOf (r .direction))) e f)
 
   module _ (depth tests m : ℕ) where
-    pub forged-ray : forgedBeam (record { ray = r; octant = octant }) ≡ true → true ≡ isForged r octant depth tests m
+    pub forged-ray : forgedRay (record { ray = r; octant = octant }) ≡ true → true ≡ isForged r octant depth tests m
     forged-ray e = sym (λ i. e i || ltb 32 depth || ltb m tests)
 
-    pub forged-depth : forgedBeam (record { ray = r; octant = octant }) ≡ false → 32 < depth → true ≡ isForged r octant depth tests m
+    pub forged-depth : forgedRay (record { ray = r; octant = octant }) ≡ false → 32 < depth → true ≡ isForged r octant depth tests m
     forged-depth e h = let f = lt-ltb 32 depth h in sym (λ i. e i || f i || ltb m tests)
 
-    pub forged-tests : forgedBeam (record { ray = r; octant = octant }) ≡ false → depth ≤ 32 → ltb m tests ≡ isForged r octant depth tests m
+    pub forged-tests : forgedRay (record { ray = r; octant = octant }) ≡ false → depth ≤ 32 → ltb m tests ≡ isForged r octant depth tests m
     forged-tests e h = let f = le-ltb 32 depth h in sym (λ i. e i || f i || ltb m tests)
 
 -- ---- a record without nodes
@@ -68,7 +71,8 @@ module _ (m : ℕ) (positions current : W.Group) (depth octant : ℕ) where
   chain x a b c d = x && (a && b && c && not d && eqb depth 0)
 
   pub over-nodes : (m ≡ 0 → ⊥) → false ≡ isOver m positions current depth octant
-  over-nodes h = let x = lt-leb m 0 (omega arith) in sym (λ i. chain (x i) (eqb (positions .bits) 0) (W.hasChild current) (eqb (W.firstChild octant current) 0) (W.hasChild (W.restOf current)))
+  over-nodes h = let x = lt-leb m 0 (omega arith) in sym
+      (λ i. chain (x i) (eqb (positions .bits) 0) (W.hasChild current) (eqb (W.firstChild octant current) 0) (W.hasChild (W.restOf current)))
 
   module _ (z : m ≡ 0) where
     pub over-positions : (positions .bits ≡ 0 → ⊥) → false ≡ isOver m positions current depth octant

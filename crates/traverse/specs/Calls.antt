@@ -4,7 +4,7 @@ use lib.Ieee.{Float}
 use Prim.Native.Nat.{ℕ}
 use Rattle.walk.specs.Calls.{Op, step, tell}
 use Rattle.walk.specs.WordStep.{WalkerWords, RunWords}
-use Rattle.walk_record.specs.Beam.{Beam}
+use Rattle.walk_record.specs.WalkRay.{WalkRay}
 use Rattle.traverse.specs.Walker.{stepBytes, toldWalker}
 
 -- one call: a step that brings a record with its count of positions, or a distance told
@@ -13,7 +13,7 @@ pub data RecordOp : Type 0 where
   tells : Float → RecordOp
 
 -- Each call takes the walker that the last returned. A refused step returns the walker that it took, so the next takes that one.
-unfoldable pub runEach : List RecordOp → WalkerWords Beam → RunWords Beam
+unfoldable pub runEach : List RecordOp → WalkerWords WalkRay → RunWords WalkRay
 unfolding stepBytes
 runEach [] w = record { walker = w; answers = [] }
 runEach (stepOn bytes n ∷ l) w =
@@ -28,6 +28,6 @@ onRecord bytes (step n ∷ l) = stepOn bytes n ∷ onRecord bytes l
 onRecord bytes (tell t ∷ l) = tells t ∷ onRecord bytes l
 
 -- demand 3's list: steps and tellings on one record
-unfoldable pub runBytes : List ℕ → List (Op Float) → WalkerWords Beam → RunWords Beam
+unfoldable pub runBytes : List ℕ → List (Op Float) → WalkerWords WalkRay → RunWords WalkRay
 unfolding runEach
 runBytes bytes l w = runEach (onRecord bytes l) w

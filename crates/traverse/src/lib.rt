@@ -7,15 +7,15 @@ ghost use mathlib.Core.List.{List};
 ghost use Prim.Native.Nat.{ℕ, _≤_, _<_};
 ghost use lib.Ieee.{eq};
 ghost use Rattle.ray.specs.Ray.{rayOf};
-ghost use Rattle.walk_record.specs.Beam.{ownInverse, forgedBeam, beams};
+ghost use Rattle.walk_record.specs.WalkRay.{ownInverse, forgedRay, byBoxes};
 ghost use Rattle.record_shape.specs.Record.{nodeCount};
 ghost use Rattle.walk.specs.WordStep.{emptiedWords, reportWords, advanceWords};
 ghost use Rattle.walk_record.specs.Record.{nodeWordsAt};
 ghost use Rattle.ray.specs.declared.Ray as declared;
-ghost use Rattle.slot.specs.declared.Ends as slots;
-ghost use Rattle.slot.specs.Parts.{endsOf};
+ghost use Rattle.node_slot.specs.declared.Ends as slots;
+ghost use Rattle.node_slot.specs.Parts.{endsOf};
 ghost use Rattle.advance.specs.Turn.{groupOf, walkerOf, turned, Walkable};
-ghost use Rattle.traverse.specs.Walker.{wordsOf, steppedOf, startedOf, started, toldWalker, stepBytes, isForged, isOver};
+ghost use Rattle.traverse.specs.Walker.{walkerWords, steppedOf, startedOf, started, toldWalker, stepBytes, isForged, isOver};
 use advance::Turn;
 use ray::Ray;
 use ray::Vec3;
@@ -65,7 +65,7 @@ fn own_inverse(ray: Ray) -> bool
 
 // Whether a ray with an octant is none that a walker just begun holds.
 fn is_forged_ray(ray: Ray, octant: u32) -> bool
-    ensures { λ r. ⌜ r ≡ forgedBeam (record { ray = ray; octant = octant }) ⌝ }
+    ensures { λ r. ⌜ r ≡ forgedRay (record { ray = ray; octant = octant }) ⌝ }
 {
     if !ray.accepted() {
         return true;
@@ -116,7 +116,7 @@ fn is_over(m: usize, walk: Walk, octant: u32) -> bool
 
 // The walker with nothing in hand, done.
 fn emptied(w: Walker) -> Stepped
-    ensures { λ r. ⌜ steppedOf r ≡ emptiedWords (wordsOf w) ⌝ }
+    ensures { λ r. ⌜ steppedOf r ≡ emptiedWords (walkerWords w) ⌝ }
 {
     let hand = Group { base: 0, bits: 0 };
     let walk = w.walk;
@@ -134,7 +134,8 @@ fn emptied(w: Walker) -> Stepped
 // Reports the highest of the positions in hand, on a record taken to have n positions.
 fn report(walk: Walk, n: usize) -> Turn
     requires { ⌜ (0 < walk .positions .bits) × (n ≤ 65536) ⌝ }
-    ensures { λ r. ⌜ ((ray : declared.Ray) (octant : ℕ) (stack : List ℕ) → turned ray octant r stack ≡ reportWords n (walkerOf ray octant walk stack)) ⌝ }
+    ensures { λ r. ⌜ ((ray : declared.Ray) (octant : ℕ) (stack : List ℕ) → turned ray octant r stack
+        ≡ reportWords n (walkerOf ray octant walk stack)) ⌝ }
 {
     let held = walk.positions;
     let p = advance::first_position(held);
@@ -155,12 +156,14 @@ fn report(walk: Walk, n: usize) -> Turn
 // One turn of a walk whose stack is an array: a report where positions are in hand, else one test.
 fn turn(walk: Walk, ray: Ray, octant: u32, stack: &mut [u64; 32], record: &[u8], n: usize) -> Turn
     requires { ⌜ ((e : slots.Ends) → e ≡ endsOf (ray .direction) → Walkable (now «record») n ray e octant (walk .depth) 32) ⌝ }
-    ensures { λ r. ⌜ turned ray octant r (now (stack .exit)) ≡ advanceWords (nodeCount (now («record» .entry))) (nodeWordsAt (now («record» .entry)) beams) n (walkerOf ray octant walk (now (stack .entry))) ⌝ }
+    ensures { λ r. ⌜ turned ray octant r (now (stack .exit))
+        ≡ advanceWords (nodeCount (now («record» .entry))) (nodeWordsAt (now («record» .entry)) byBoxes) n
+        (walkerOf ray octant walk (now (stack .entry))) ⌝ }
 {
     if walk.positions.bits > 0 {
         return report(walk, n);
     }
-    let e = slot::near_ends(ray.direction);
+    let e = node_slot::near_ends(ray.direction);
     let tests = walk.tests;
     let held = walk.positions.base;
     let current = walk.current;
@@ -227,7 +230,7 @@ impl Walker {
 
     // Tests one node, reports one position, or is done; the record is taken to have n positions. A refused step gives the walker back.
     pub fn step(self, record: &[u8], n: usize) -> Stepped
-        ensures { λ r. ⌜ steppedOf r ≡ stepBytes (now («record» .entry)) n (wordsOf self) ⌝ }
+        ensures { λ r. ⌜ steppedOf r ≡ stepBytes (now («record» .entry)) n (walkerWords self) ⌝ }
     {
         let cause = causes::record_cause(record.len(), n);
         if cause != 0 {
@@ -261,7 +264,7 @@ impl Walker {
 
     // Tells the walker a distance: one that counts for its ray becomes the reach, any other does nothing, NaN too.
     pub fn tell(self, distance: f32) -> Walker
-        ensures { λ r. ⌜ wordsOf r ≡ toldWalker distance (wordsOf self) ⌝ }
+        ensures { λ r. ⌜ walkerWords r ≡ toldWalker distance (walkerWords self) ⌝ }
     {
         let ray = self.ray;
         if ray.counts(distance) {

@@ -10,29 +10,29 @@ use native.Mathlib.Omega.{arith}
 use lib.ListN.{length, getD, set, take, drop, length-set, replicate, length-replicate}
 use lib.Seq.{getD-set-same, getD-set-other, length-take-le}
 use Rattle.lists.proofs.Tells.{clash, told, denied}
-use Rattle.soundness.specs.Shape.{Shape, Placed}
+use Rattle.soundness.specs.Shape.{Shape, RangesPlaced}
 use Rattle.soundness.proofs.Once.{empty-sound, empty-unsound}
 use Rattle.node.specs.Node.{nodeAt}
-use Rattle.rule.specs.Rule.{nodeRule}
+use Rattle.node_rule.specs.Rule.{nodeRule}
 use Rattle.record_shape.specs.Record.{nodeCount, nodesAt, shapeIn, shapeAt, RuleAt, SoundRecord, DeepestLevel}
-use Rattle.record_shape.specs.Check.{Answer, refused, causeOf, soundnessOf, checkOf, wordsAfter}
+use Rattle.record_shape.specs.Check.{Verdict, refused, causeOf, soundnessOf, checkOf, wordsAfter}
 use Rattle.record_shape.proofs.Placed.{placed}
 use Rattle.record_shape.proofs.Record.{node-tells}
 use Rattle.record_shape.proofs.Check.{Fits, fits, answers-sound, answers-unsound, check-refuses, check-answers, words-kept, words-zero}
 use Rattle.validate.specs.declared.Validity.the-variants.{Sound, Unsound, Refused}
-use Rattle.validate.specs.Validity.{answerOf}
-use Rattle.validate.specs.Marks.{Sized, Ruled, Start, NodeMarked, WordTwice, MarksNode, allMarked}
+use Rattle.validate.specs.Validity.{verdictOf}
+use Rattle.validate.specs.Marks.{WorkSized, Ruled, Start, NodeMarked, WordTwice, MarksNode, allMarked}
 use Rattle.validate.proofs.Filling.{marked-tells, zero-at}
 use Rattle.validate.proofs.Passing.{Passed, begins, passes-next, ends-sound, ends-deepest, not-filled, no-parent, too-deep, marked-twice}
 
 -- ---- answers as cases
 
-pub says-sound : (bytes : List ℕ) (n d : ℕ) → SoundRecord bytes n → DeepestLevel bytes n d → answerOf (Sound d) ≡ soundnessOf bytes n
-unfolding answerOf
+pub says-sound : (bytes : List ℕ) (n d : ℕ) → SoundRecord bytes n → DeepestLevel bytes n d → verdictOf (Sound d) ≡ soundnessOf bytes n
+unfolding verdictOf
 says-sound bytes n d s h = sym (answers-sound bytes n s d h)
 
-pub says-unsound : (bytes : List ℕ) (n : ℕ) → (SoundRecord bytes n → ⊥) → answerOf Unsound ≡ soundnessOf bytes n
-unfolding answerOf
+pub says-unsound : (bytes : List ℕ) (n : ℕ) → (SoundRecord bytes n → ⊥) → verdictOf Unsound ≡ soundnessOf bytes n
+unfolding verdictOf
 says-unsound bytes n s = sym (answers-unsound bytes n s)
 
 passed-test : (b : Bool) → not b ≡ false → b ≡ true
@@ -77,7 +77,7 @@ module _ (bytes : List ℕ) (n m : ℕ) (z : List ℕ) (start : Start bytes n m 
             (getD-set-same z 0 1 0 (omega arith)) (λ k h. getD-set-other z 0 k 1 0 (λ e. omega arith) ∙ start .zeros k);
       }
 
-  place : (j : ℕ) → j < shapeAt bytes n .nodes → RuleAt bytes n j → Placed (shapeAt bytes n) j
+  place : (j : ℕ) → j < shapeAt bytes n .nodes → RuleAt bytes n j → RangesPlaced (shapeAt bytes n) j
   place j l r = placed (nodesAt bytes) n j r
 
   rule-holds : (i : ℕ) (b : Bool) → b ≡ nodeRule (nodeAt bytes i) m n i → not b ≡ false → RuleAt bytes n i
@@ -87,17 +87,17 @@ module _ (bytes : List ℕ) (n m : ℕ) (z : List ℕ) (start : Start bytes n m 
     counted : i < nodeCount bytes
     counted = let c = start .sized .nodes in omega arith
 
-    pub rule-fails : (b : Bool) → b ≡ nodeRule (nodeAt bytes i) m n i → not b ≡ true → answerOf Unsound ≡ soundnessOf bytes n
+    pub rule-fails : (b : Bool) → b ≡ nodeRule (nodeAt bytes i) m n i → not b ≡ true → verdictOf Unsound ≡ soundnessOf bytes n
     unfolding shapeIn
     rule-fails b e h =
         says-unsound bytes n
         (λ s. denied (node-tells (nodeAt bytes i) m n i) (sym e ∙ failed-test b h) (rw (start .sized .nodes) (s .rule i counted)))
 
-    pub parent-missing : getD o i 0 ≡ 0 → answerOf Unsound ≡ soundnessOf bytes n
+    pub parent-missing : getD o i 0 ≡ 0 → verdictOf Unsound ≡ soundnessOf bytes n
     unfolding shapeIn
     parent-missing e = says-unsound bytes n (no-parent (shapeAt bytes n) (RuleAt bytes n) place i d o (p .known) counted e)
 
-    pub level-over : 32 < getD o i 0 → answerOf Unsound ≡ soundnessOf bytes n
+    pub level-over : 32 < getD o i 0 → verdictOf Unsound ≡ soundnessOf bytes n
     unfolding shapeIn
     level-over e = says-unsound bytes n (too-deep (shapeAt bytes n) (RuleAt bytes n) place i d o (p .known) counted e)
 
@@ -109,7 +109,7 @@ module _ (bytes : List ℕ) (n m : ℕ) (z : List ℕ) (start : Start bytes n m 
     }
 
     module _ (q : List ℕ) (f : Bool) (marks : MarksNode f (shapeAt bytes n) i o q) where
-      pub word-twice : not f ≡ true → answerOf Unsound ≡ soundnessOf bytes n
+      pub word-twice : not f ≡ true → verdictOf Unsound ≡ soundnessOf bytes n
       unfolding shapeIn
       word-twice e =
           says-unsound bytes n
@@ -143,7 +143,7 @@ module _ (bytes : List ℕ) (n m : ℕ) (z : List ℕ) (start : Start bytes n m 
         let u = p .most in
         subst (λ (k : ℕ). Passed (shapeAt bytes n) (RuleAt bytes n) k o d) (omega arith) (p .known)
 
-    pub not-all : not b ≡ true → answerOf Unsound ≡ soundnessOf bytes n
+    pub not-all : not b ≡ true → verdictOf Unsound ≡ soundnessOf bytes n
     unfolding shapeIn
     not-all e = says-unsound bytes n (λ s. denied (marked-tells o m n) (sym full ∙ failed-test b e) (λ x u. go s x u (decLt 0 (getD o (m + x) 0))))
       where
@@ -153,7 +153,7 @@ module _ (bytes : List ℕ) (n m : ℕ) (z : List ℕ) (start : Start bytes n m 
             absurd (not-filled (shapeAt bytes n) (RuleAt bytes n) place d o ended x u
             (let k : getD o (m + x) 0 ≡ 0 = omega arith in rw (← start .sized .nodes) k) s)
 
-    pub all-passed : not b ≡ false → answerOf (Sound d) ≡ soundnessOf bytes n
+    pub all-passed : not b ≡ false → verdictOf (Sound d) ≡ soundnessOf bytes n
     unfolding shapeIn
     all-passed e =
         says-sound bytes n d
@@ -163,7 +163,7 @@ module _ (bytes : List ℕ) (n m : ℕ) (z : List ℕ) (start : Start bytes n m 
 
 -- ---- between two clearings
 
-module _ (bytes : List ℕ) (n m long : ℕ) (sized : Sized bytes n m long) where
+module _ (bytes : List ℕ) (n m long : ℕ) (sized : WorkSized bytes n m long) where
   pub starts : (o : List ℕ) → (m ≡ 0 → ⊥) → o ≡ replicate long 0 → Start bytes n m o
   starts o z e = record {
     sized = (let l : length o ≡ long = rw e (length-replicate {A = ℕ} long 0) in rw l sized);
@@ -181,13 +181,13 @@ module _ (bytes : List ℕ) (n m long : ℕ) (sized : Sized bytes n m long) wher
 
   -- ---- no nodes
 
-  pub none-sound : m ≡ 0 → n ≡ 0 → answerOf (Sound 0) ≡ soundnessOf bytes n
+  pub none-sound : m ≡ 0 → n ≡ 0 → verdictOf (Sound 0) ≡ soundnessOf bytes n
   unfolding shapeIn
   none-sound z e =
       let s = empty-sound (shapeAt bytes n) (RuleAt bytes n) (sym (sized .nodes) ∙ z) e in
       says-sound bytes n 0 (s .0) (s .1)
 
-  pub none-unsound : m ≡ 0 → (n ≡ 0 → ⊥) → answerOf Unsound ≡ soundnessOf bytes n
+  pub none-unsound : m ≡ 0 → (n ≡ 0 → ⊥) → verdictOf Unsound ≡ soundnessOf bytes n
   unfolding shapeIn
   none-unsound z e = says-unsound bytes n (empty-unsound (shapeAt bytes n) (RuleAt bytes n) (sym (sized .nodes) ∙ z) (omega (arith, e)))
 
@@ -195,8 +195,8 @@ module _ (bytes : List ℕ) (n m long : ℕ) (sized : Sized bytes n m long) wher
 
 module _ (bytes : List ℕ) (n : ℕ) (o : List ℕ) (c : ℕ) (e : c ≡ causeOf (length bytes) n (length o)) where
   -- a cause refuses and leaves the words
-  pub refuses : (c ≡ 0 → ⊥) → answerOf (Refused c) ≡ checkOf bytes n (length o)
-  unfolding answerOf
+  pub refuses : (c ≡ 0 → ⊥) → verdictOf (Refused c) ≡ checkOf bytes n (length o)
+  unfolding verdictOf
   refuses z = ap refused e ∙ sym (check-refuses bytes n (length o) (let p : 0 < c = omega (arith, z) in omega arith))
 
   pub words-left : (c ≡ 0 → ⊥) → o ≡ wordsAfter bytes n o
@@ -213,13 +213,13 @@ module _ (bytes : List ℕ) (n : ℕ) (o : List ℕ) (c : ℕ) (e : c ≡ causeO
     pub part-length : length (take (nodeCount bytes + n) o) ≡ nodeCount bytes + n
     part-length = length-take-le (nodeCount bytes + n) o room
 
-    pub part-sized : Sized bytes n (nodeCount bytes) (length (take (nodeCount bytes + n) o))
+    pub part-sized : WorkSized bytes n (nodeCount bytes) (length (take (nodeCount bytes + n) o))
     part-sized = record { few = fitting .sizes .small; small = fitting .sizes .few; nodes = refl; words = part-length }
 
     pub sum-fits : nodeCount bytes + n < 2 ^ 64
     sum-fits = let s = fitting .sizes in omega arith
 
-    pub answers : (a : Answer) → a ≡ soundnessOf bytes n → a ≡ checkOf bytes n (length o)
+    pub answers : (a : Verdict) → a ≡ soundnessOf bytes n → a ≡ checkOf bytes n (length o)
     answers a h = h ∙ sym (check-answers bytes n (length o) (sym e ∙ z))
 
     pub words-cleared : (p : List ℕ) → p ≡ replicate (nodeCount bytes + n) 0 → p ++ drop (nodeCount bytes + n) o ≡ wordsAfter bytes n o

@@ -14,7 +14,7 @@ use Rattle.lists.proofs.Counts.{Same, equal, apart, same?}
 use Rattle.lists.proofs.Tells.{Tells, clash, tells-true, tells-false, ltb-tells, below-tells, one-fails}
 use Rattle.soundness.specs.Range.{inRange}
 use Rattle.soundness.proofs.Range.{in-range, before-range, after-range}
-use Rattle.validate.specs.Marks.{Room, seen, Filled, Blocked, Fill, allMarked}
+use Rattle.validate.specs.Marks.{MarkRoom, seen, Filled, Blocked, Fill, allMarked}
 
 -- ---- filling
 
@@ -33,7 +33,7 @@ filling-none o a k v = record {
 
 module _ (o : List ℕ) (a k v : ℕ) (q : List ℕ) (j : ℕ) (f : Filling o a k v q j) where
   -- the next word lies in the slice
-  pub filling-room : Room a k (length o) → j < k → a + j < length q
+  pub filling-room : MarkRoom a k (length o) → j < k → a + j < length q
   filling-room r l = let z = r .inside (omega arith) in let e = f .long in omega arith
 
   pub filling-next : j < k → a + j < length q → getD q (a + j) 0 ≡ 0 → Filling o a k v (set q (a + j) v) (j + 1)

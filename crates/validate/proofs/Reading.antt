@@ -9,23 +9,23 @@ use lib.Dec.{eqb}
 use lib.ListN.{length, getD}
 use Rattle.lists.proofs.Tells.{told, clash, eqb-tells}
 use Rattle.words.specs.Ones.{onesBelow}
-use Rattle.soundness.specs.Shape.{Placed}
+use Rattle.soundness.specs.Shape.{RangesPlaced}
 use Rattle.node.specs.Node.{nodeAt, innerBit, codeCount}
-use Rattle.record_shape.specs.Record.{nodeCount, nodesAt, metaAt, leafCount, shapeIn, shapeAt}
+use Rattle.record_shape.specs.Record.{nodeCount, nodesAt, metaAt, slotPositions, shapeIn, shapeAt}
 use Rattle.record_shape.proofs.Placed.{placed}
-use Rattle.validate.specs.Marks.{Room, Ruled, Filled, Fill, MarksSlot, PositionsMarked, MarksPositions, MarksNode}
+use Rattle.validate.specs.Marks.{MarkRoom, Ruled, Filled, Fill, MarksSlot, PositionsMarked, MarksPositions, MarksNode}
 use Rattle.validate.proofs.Filling.{was-filled, was-blocked}
 use Rattle.validate.proofs.Marking.{positions-none, positions-next, positions-blocked, node-marked, children-blocked, position-word}
 
 -- ---- how many positions a slot has
 
-pub inner-none : (bit meta : ℕ) (b : Bool) → b ≡ eqb bit 0 → not b ≡ true → 0 ≡ leafCount bit meta
-unfolding leafCount
+pub inner-none : (bit meta : ℕ) (b : Bool) → b ≡ eqb bit 0 → not b ≡ true → 0 ≡ slotPositions bit meta
+unfolding slotPositions
 inner-none zero meta b e h = clash (ap not (sym e) ∙ h)
 inner-none (suc bit) meta b e h = refl
 
-pub leaf-code : (bit meta count : ℕ) (b : Bool) → b ≡ eqb bit 0 → not b ≡ false → count ≡ codeCount meta → count ≡ leafCount bit meta
-unfolding leafCount
+pub leaf-code : (bit meta count : ℕ) (b : Bool) → b ≡ eqb bit 0 → not b ≡ false → count ≡ codeCount meta → count ≡ slotPositions bit meta
+unfolding slotPositions
 leaf-code zero meta count b e h c = c
 leaf-code (suc bit) meta count true e h c = absurd (let z = told (eqb-tells (suc bit) 0) (sym e) in omega arith)
 leaf-code (suc bit) meta count false e h c = clash (sym h)
@@ -37,12 +37,14 @@ pub record SlotRead (bytes : List ℕ) (n i s a k : ℕ) : Type 0 where
   pub place : a ≡ shapeAt bytes n .nodes + shapeAt bytes n .start i s
   pub count : k ≡ shapeAt bytes n .count i s
 
-pub slot-read : (bytes : List ℕ) (n i m s imask base meta start k : ℕ) → m ≡ nodeCount bytes → imask ≡ nodeAt bytes i .imask → base ≡ nodeAt bytes i .«primitive_base_idx»
-    → meta ≡ metaAt (nodeAt bytes i) s → start ≡ base + meta % 32 → k ≡ leafCount (innerBit imask s) meta → SlotRead bytes n i s (m + start) k
+pub slot-read : (bytes : List ℕ) (n i m s imask base meta start k : ℕ) → m ≡ nodeCount bytes → imask ≡ nodeAt bytes i .imask → base
+    ≡ nodeAt bytes i .«primitive_base_idx»
+    → meta ≡ metaAt (nodeAt bytes i) s → start ≡ base + meta % 32 → k ≡ slotPositions (innerBit imask s) meta → SlotRead bytes n i s (m + start) k
 unfolding shapeIn
 slot-read bytes n i m s imask base meta start k em ei eb et es ek = record { place = rw (em, es, eb, et); count = rw (ek, ei, et) }
 
-pub slot-marked : (bytes : List ℕ) (n i s a k : ℕ) (o q : List ℕ) (f : Bool) → SlotRead bytes n i s a k → Fill f o a k 1 q → MarksSlot f (shapeAt bytes n) i s o q
+pub slot-marked : (bytes : List ℕ) (n i s a k : ℕ) (o q : List ℕ) (f : Bool) → SlotRead bytes n i s a k → Fill f o a k 1 q
+    → MarksSlot f (shapeAt bytes n) i s o q
 slot-marked bytes n i s a k o q f t h = rw (← t .place, ← t .count) h
 
 -- ---- a node's leaf ranges, slot by slot
@@ -61,14 +63,14 @@ unfolding MarksPositions
 marking-done bytes n i s o q l d = let e : s ≡ 8 = (let u = d .most in omega arith) in rw (← e) (d .done)
 
 module _ (bytes : List ℕ) (n i m long : ℕ) (ready : Ruled bytes n i m long) where
-  node-placed : Placed (shapeAt bytes n) i
+  node-placed : RangesPlaced (shapeAt bytes n) i
   node-placed = placed (nodesAt bytes) n i (ready .rule)
 
   -- the working words may have been written meanwhile
   pub still-ruled : (words : ℕ) → words ≡ long → Ruled bytes n i m words
   still-ruled words e = rw e ready
 
-  pub slot-room : (s a k : ℕ) → s < 8 → SlotRead bytes n i s a k → Room a k long
+  pub slot-room : (s a k : ℕ) → s < 8 → SlotRead bytes n i s a k → MarkRoom a k long
   unfolding shapeIn
   slot-room s a k l t = record {
     inside = λ h.
@@ -95,7 +97,7 @@ module _ (bytes : List ℕ) (n i m long : ℕ) (ready : Ruled bytes n i m long) 
   -- ---- the whole node
 
   module _ (base k : ℕ) (eb : base ≡ nodeAt bytes i .«child_base_idx») (ek : k ≡ onesBelow 8 (nodeAt bytes i .imask)) where
-    pub children-room : Room base k long
+    pub children-room : MarkRoom base k long
     unfolding shapeIn
     children-room = record {
       inside = λ h.
@@ -114,6 +116,8 @@ module _ (bytes : List ℕ) (n i m long : ℕ) (ready : Ruled bytes n i m long) 
       unfolding MarksNode MarksPositions shapeIn
       node-ends t e y = go t y (rw (← eb, ← ek, ← add-one (getD o i 0)) (was-filled f o base k (getD o i 0 + 1) p h e))
         where
-          go : (t : Bool) → MarksPositions t (shapeAt bytes n) i p q → Filled o (nodeAt bytes i .«child_base_idx») (onesBelow 8 (nodeAt bytes i .imask)) (suc (getD o i 0)) p → MarksNode t (shapeAt bytes n) i o q
+          go : (t : Bool) → MarksPositions t (shapeAt bytes n) i p q
+              → Filled o (nodeAt bytes i .«child_base_idx») (onesBelow 8 (nodeAt bytes i .imask)) (suc (getD o i 0)) p
+              → MarksNode t (shapeAt bytes n) i o q
           go true y w = node-marked (shapeAt bytes n) i o p q (let l = ready .below in let u = ready .sized .nodes in omega arith) w y
           go false y w = position-word (shapeAt bytes n) i (suc (getD o i 0)) o p (omega arith) w y

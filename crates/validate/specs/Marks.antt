@@ -10,17 +10,17 @@ use lib.ListN.{length, getD}
 use Rattle.lists.specs.Below.{allBelow}
 use Rattle.lists.specs.Sums.{sum}
 use Rattle.soundness.specs.Range.{inRange}
-use Rattle.soundness.specs.Shape.{Shape, Child}
+use Rattle.soundness.specs.Shape.{Shape, ChildOf}
 use Rattle.record_shape.specs.Record.{nodeCount, RuleAt}
 
 -- ---- what the parts are given
 
 -- k words from a on lie in a slice of this length, if k is not 0
-pub record Room (a k long : ℕ) : Type 0 where
+pub record MarkRoom (a k long : ℕ) : Type 0 where
   pub inside : 0 < k → a + k ≤ long
 
 -- as many working words as the record has nodes and positions together
-pub record Sized (bytes : List ℕ) (n m long : ℕ) : Type 0 where
+pub record WorkSized (bytes : List ℕ) (n m long : ℕ) : Type 0 where
   pub few : m ≤ 65535
   pub small : n ≤ 65536
   pub nodes : m ≡ nodeCount bytes
@@ -28,13 +28,13 @@ pub record Sized (bytes : List ℕ) (n m long : ℕ) : Type 0 where
 
 -- and node i meets the rule
 pub record Ruled (bytes : List ℕ) (n i m long : ℕ) : Type 0 where
-  pub sized : Sized bytes n m long
+  pub sized : WorkSized bytes n m long
   pub below : i < m
   pub rule : RuleAt bytes n i
 
 -- the words before the pass: there is a node, and all are zero
 pub record Start (bytes : List ℕ) (n m : ℕ) (o : List ℕ) : Type 0 where
-  pub sized : Sized bytes n m (length o)
+  pub sized : WorkSized bytes n m (length o)
   pub some : 0 < m
   pub zeros : (k : ℕ) → getD o k 0 ≡ 0
 
@@ -91,7 +91,7 @@ MarksPositions false S i o q = PositionTwice S i o
 -- all words of node i's ranges are marked, its children's by its own word plus 1
 pub record NodeMarked (S : Shape) (i : ℕ) (o q : List ℕ) : Type 0 where
   pub adds : (k : ℕ) → seen q k ≡ seen o k + nodeMarks S i k
-  pub sets : (x : ℕ) → x < S .nodes → (getD q x 0 ≡ getD o x 0) ⊎ (Child S i x × (getD q x 0 ≡ suc (getD o i 0)))
+  pub sets : (x : ℕ) → x < S .nodes → (getD q x 0 ≡ getD o x 0) ⊎ (ChildOf S i x × (getD q x 0 ≡ suc (getD o i 0)))
 
 -- node i would mark some word twice
 pub record WordTwice (S : Shape) (i : ℕ) (o : List ℕ) : Type 0 where

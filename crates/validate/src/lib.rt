@@ -4,10 +4,10 @@ ghost use mathlib.Core.Path.{_≡_};
 ghost use Prim.Native.Nat.{_+_, _≤_, _<_};
 ghost use lib.ListN.{length, getD, replicate};
 ghost use Rattle.node.specs.Node.{innerBit};
-ghost use Rattle.record_shape.specs.Record.{leafCount, shapeAt};
+ghost use Rattle.record_shape.specs.Record.{slotPositions, shapeAt};
 ghost use Rattle.record_shape.specs.Check.{causeOf, soundnessOf, checkOf, wordsAfter};
-ghost use Rattle.validate.specs.Validity.{answerOf};
-ghost use Rattle.validate.specs.Marks.{Room, Sized, Ruled, Start, Fill, MarksSlot, MarksPositions, MarksNode, allMarked};
+ghost use Rattle.validate.specs.Validity.{verdictOf};
+ghost use Rattle.validate.specs.Marks.{MarkRoom, WorkSized, Ruled, Start, Fill, MarksSlot, MarksPositions, MarksNode, allMarked};
 
 // What a record is: sound with its deepest level, or unsound; or the number of the cause for which the check is refused.
 pub enum Validity {
@@ -18,7 +18,7 @@ pub enum Validity {
 
 // Set k words from a on to v, unless one of them is not zero.
 fn fill(work: &mut [u32], a: usize, k: usize, v: u32) -> bool
-    requires { ⌜ Room a k (length (now work)) ⌝ }
+    requires { ⌜ MarkRoom a k (length (now work)) ⌝ }
     ensures { λ r. ⌜ Fill r (now (work .entry)) a k v (now (work .exit)) ⌝ }
 {
     let mut j: usize = 0;
@@ -35,7 +35,7 @@ fn fill(work: &mut [u32], a: usize, k: usize, v: u32) -> bool
 // How many positions a slot has, by the mask and its meta byte.
 fn leaf_count(imask: u8, slot: u32, meta: u8) -> u32
     requires { ⌜ slot < 8 ⌝ }
-    ensures { λ r. ⌜ r ≡ leafCount (innerBit imask slot) meta ⌝ }
+    ensures { λ r. ⌜ r ≡ slotPositions (innerBit imask slot) meta ⌝ }
 {
     if !node::is_leaf(imask, slot) {
         return 0;
@@ -78,7 +78,7 @@ fn mark_node(record: &[u8], i: usize, m: usize, n: usize, work: &mut [u32]) -> b
     let v = work[i];
     let o = node::BYTES * i;
     let base = node::child_base_idx(record, o);
-    let count = rule::child_count(node::imask(record, o));
+    let count = node_rule::child_count(node::imask(record, o));
     if !fill(work, base as usize, count as usize, v + 1) {
         return false;
     }
@@ -117,13 +117,13 @@ fn cause(long: usize, n: usize, words: usize) -> u32
 // One pass over the m nodes in rising order.
 fn pass(record: &[u8], m: usize, n: usize, work: &mut [u32]) -> Validity
     requires { ⌜ Start (now «record») n m (now work) ⌝ }
-    ensures { λ r. ⌜ answerOf r ≡ soundnessOf (now («record» .entry)) n ⌝ }
+    ensures { λ r. ⌜ verdictOf r ≡ soundnessOf (now («record» .entry)) n ⌝ }
 {
     work[0] = 1;
     let mut i: usize = 0;
     let mut deepest: u32 = 0;
     while i < m {
-        if !rule::node_rule(record, i, m, n) {
+        if !node_rule::node_rule(record, i, m, n) {
             return Validity::Unsound;
         }
         let v = work[i];
@@ -147,8 +147,8 @@ fn pass(record: &[u8], m: usize, n: usize, work: &mut [u32]) -> Validity
 
 // The pass, with the working words zero before and after.
 fn run(record: &[u8], m: usize, n: usize, work: &mut [u32]) -> Validity
-    requires { ⌜ Sized (now «record») n m (length (now work)) ⌝ }
-    ensures { λ r. ⌜ answerOf r ≡ soundnessOf (now («record» .entry)) n ⌝ }
+    requires { ⌜ WorkSized (now «record») n m (length (now work)) ⌝ }
+    ensures { λ r. ⌜ verdictOf r ≡ soundnessOf (now («record» .entry)) n ⌝ }
     ensures { λ _. ⌜ now (work .exit) ≡ replicate (m + n) 0 ⌝ }
 {
     words::clear(work);
@@ -166,7 +166,7 @@ fn run(record: &[u8], m: usize, n: usize, work: &mut [u32]) -> Validity
 // The record check: whether the bytes are a sound record of n positions. It needs a working word for each node and each position; these are zero
 // afterwards, and untouched if it refuses.
 pub fn validate(record: &[u8], n: usize, work: &mut [u32]) -> Validity
-    ensures { λ r. ⌜ answerOf r ≡ checkOf (now («record» .entry)) n (length (now (work .entry))) ⌝ }
+    ensures { λ r. ⌜ verdictOf r ≡ checkOf (now («record» .entry)) n (length (now (work .entry))) ⌝ }
     ensures { λ _. ⌜ now (work .exit) ≡ wordsAfter (now («record» .entry)) n (now (work .entry)) ⌝ }
 {
     let c = cause(record.len(), n, work.len());

@@ -14,8 +14,8 @@ use Rattle.lists.proofs.Perms.{no-duplicates}
 use Rattle.soundness.specs.Shape.{Shape}
 use Rattle.walk.specs.Tests.{Tests}
 use Rattle.walk.specs.Step.{Walker, Answer, tested, position, done, nothing, refused, fresh, Stepped, afterTest, stepOf}
-use Rattle.walk.specs.Listing.{In, flat, Reached, Passed, listing, reachedFrom}
-use Rattle.walk.specs.Queries.{Outcome, follow, query, stepsFor, append, anyHitOf, Going}
+use Rattle.walk.specs.Listing.{In, flat, ReachedIn, PassedIn, listing, reachedFrom}
+use Rattle.walk.specs.Queries.{QueryOutcome, follow, query, stepsFor, append, anyHitRun, Going}
 use Rattle.walk.specs.Lawful.{SoundTests, Unrefused}
 use Rattle.walk.proofs.Dues.{flats, push-flats, report-hand, test-hand, none-hand, test-flat, none-flat}
 use Rattle.walk.proofs.Cases.{due, Visits, step-cases}
@@ -26,19 +26,19 @@ use Rattle.walk.proofs.Ends.{stepsLeft, step-falls}
 
 -- What any-hit meets over a record of n positions: it ends with done, its list is the listing, which has each passed position once and no other, and
 -- its tests are the nodes reached, as many as a list has that holds each of them once and no other.
-pub record Meets {s : Type 0} (n : ℕ) (listing : List ℕ) (Reached Passed : ℕ → Type 0) (o : Outcome s (List ℕ)) : Type 0 where
+pub record Meets {s : Type 0} (n : ℕ) (listing : List ℕ) (ReachedIn PassedIn : ℕ → Type 0) (o : QueryOutcome s (List ℕ)) : Type 0 where
   pub ends : o .ended ≡ done
-  pub lists : o .noted ≡ listing
-  pub exact : (p : ℕ) → In p (o .noted) ↔ Passed p
-  pub once : (p : ℕ) → count p (o .noted) ≤ 1
-  pub most : length (o .noted) ≤ n
+  pub lists : o .accumulator ≡ listing
+  pub exact : (p : ℕ) → In p (o .accumulator) ↔ PassedIn p
+  pub once : (p : ℕ) → count p (o .accumulator) ≤ 1
+  pub most : length (o .accumulator) ≤ n
   pub reached : List ℕ
   pub reached-once : List·Nodup reached
-  pub reached-all : (v : ℕ) → In v reached ↔ Reached v
+  pub reached-all : (v : ℕ) → In v reached ↔ ReachedIn v
   pub tests : o .walker .tests ≡ length reached
 
 -- the same by other words for what is reached and passed
-pub meets-as : {s : Type 0} {n : ℕ} {list : List ℕ} {A B C D : ℕ → Type 0} {o : Outcome s (List ℕ)}
+pub meets-as : {s : Type 0} {n : ℕ} {list : List ℕ} {A B C D : ℕ → Type 0} {o : QueryOutcome s (List ℕ)}
     → ((v : ℕ) → A v ↔ C v) → ((p : ℕ) → B p ↔ D p) → Meets n list A B o → Meets n list C D o
 meets-as f g m = record {
   ends = m .ends;
@@ -53,16 +53,16 @@ meets-as f g m = record {
 }
 
 -- a query ended with done, having noted ps after x, with t tests in all
-record Ran {s : Type 0} (x ps : List ℕ) (t : ℕ) (o : Outcome s (List ℕ)) : Type 0 where
-  pub noted : o .noted ≡ x ++ ps
+record Ran {s : Type 0} (x ps : List ℕ) (t : ℕ) (o : QueryOutcome s (List ℕ)) : Type 0 where
+  pub accumulator : o .accumulator ≡ x ++ ps
   pub ended : o .ended ≡ done
   pub tests : o .walker .tests ≡ t
 
 -- without nodes it is done at once
 empty-ran : {s d : Type 0} (T : Tests s d) (n : ℕ) (ray : s) → n ≤ 65536 → T .forged ray ≡ false
-    → Ran [] (listing 0 T ray 0) (length (reachedFrom 0 T ray 0)) (anyHitOf 0 T n ray)
+    → Ran [] (listing 0 T ray 0) (length (reachedFrom 0 T ray 0)) (anyHitRun 0 T n ray)
 unfolding query
-empty-ran T n ray h f = rw (empty-step T n ray h f, gather-none, gather-none) (record { noted = refl; ended = refl; tests = refl })
+empty-ran T n ray h f = rw (empty-step T n ray h f, gather-none, gather-none) (record { accumulator = refl; ended = refl; tests = refl })
 
 module _ {s d : Type 0} {S : Shape} {Rule : ℕ → Type 0} {T : Tests s d} (K : SoundTests S Rule T) (U : Unrefused S T) (ray : s)
     (accepted : T .forged ray ≡ false) where
@@ -123,7 +123,11 @@ module _ {s d : Type 0} {S : Shape} {Rule : ℕ → Type 0} {T : Tests s d} (K :
         reports = λ p ps q. record {
           valid = report-valid K (S .positions) w p ps v q;
           same-ray = e;
-          takes = (ap (λ (l : List ℕ). l ++ ahead (listing (S .nodes) T ray) w) (report-hand (w .positions) (w .group) (w .stack) p ps (q .is-due)), refl, refl);
+          takes = (
+            ap (λ (l : List ℕ). l ++ ahead (listing (S .nodes) T ray) w) (report-hand (w .positions) (w .group) (w .stack) p ps (q .is-due)),
+            refl,
+            refl,
+          );
         };
         visits = λ c r st q. record {
           valid = test-valid K (S .positions) w c r st v q;
@@ -147,63 +151,65 @@ module _ {s d : Type 0} {S : Shape} {Rule : ℕ → Type 0} {T : Tests s d} (K :
       a = step-takes h w v e
 
       go : (b : Answer) (u : Walker s) → Takes w b u → (Going b → stepsLeft (S .nodes) u < stepsLeft (S .nodes) w)
-          → ((y : List ℕ) → stepsLeft (S .nodes) u < f → Ran y (toReport u) (u .tests + length (toTest u)) (query (S .nodes) T append f (S .positions) u y))
+          → ((y : List ℕ) → stepsLeft (S .nodes) u < f
+          → Ran y (toReport u) (u .tests + length (toTest u)) (query (S .nodes) T append f (S .positions) u y))
           → Ran x (toReport w) (w .tests + length (toTest w)) (follow (S .nodes) T append b u x (query (S .nodes) T append f (S .positions)))
       go (tested c) u q k g =
           let z = g x (omega (arith, k tt)) in
           let n : length (toTest w) ≡ suc (length (toTest u)) = ap length (q .1) in
-          record { noted = z .noted ∙ ap (λ (l : List ℕ). x ++ l) (sym (q .0)); ended = z .ended; tests = omega (arith, z .tests, q .2) }
+          record { accumulator = z .accumulator ∙ ap (λ (l : List ℕ). x ++ l) (sym (q .0)); ended = z .ended; tests = omega (arith, z .tests, q .2) }
       go (position p) u q k g =
           let z = g (x ++ (p ∷ [])) (omega (arith, k tt)) in
           let n : length (toTest w) ≡ length (toTest u) = ap length (q .1) in
           record {
-            noted = z .noted ∙ append-assoc x (p ∷ []) (toReport u) ∙ ap (λ (l : List ℕ). x ++ l) (sym (q .0));
+            accumulator = z .accumulator ∙ append-assoc x (p ∷ []) (toReport u) ∙ ap (λ (l : List ℕ). x ++ l) (sym (q .0));
             ended = z .ended;
             tests = omega (arith, z .tests, q .2);
           }
       go done u q k g =
           let n : length (toTest w) ≡ 0 = ap length (q .1) in
-          record { noted = sym (ap (λ (l : List ℕ). x ++ l) (q .0) ∙ append-nil x); ended = refl; tests = omega (arith, q .2) }
+          record { accumulator = sym (ap (λ (l : List ℕ). x ++ l) (q .0) ∙ append-nil x); ended = refl; tests = omega (arith, q .2) }
       go (refused c) u q k g = absurd q
 
-  any-hit : Ran [] (listing (S .nodes) T ray 0) (length (reachedFrom (S .nodes) T ray 0)) (anyHitOf (S .nodes) T (S .positions) ray)
+  any-hit : Ran [] (listing (S .nodes) T ray 0) (length (reachedFrom (S .nodes) T ray 0)) (anyHitRun (S .nodes) T (S .positions) ray)
   unfolding query
   any-hit = go (decLt 0 (S .nodes))
     where
-      go : Dec (0 < S .nodes) → Ran [] (listing (S .nodes) T ray 0) (length (reachedFrom (S .nodes) T ray 0)) (anyHitOf (S .nodes) T (S .positions) ray)
+      go : Dec (0 < S .nodes) → Ran [] (listing (S .nodes) T ray 0) (length (reachedFrom (S .nodes) T ray 0))
+          (anyHitRun (S .nodes) T (S .positions) ray)
       go (yes h) =
           let p : toReport (fresh ray) ≡ listing (S .nodes) T ray 0 = simp append-nil in
           let q : toTest (fresh ray) ≡ reachedFrom (S .nodes) T ray 0 = simp append-nil in
           let n : length (toTest (fresh ray)) ≡ length (reachedFrom (S .nodes) T ray 0) = ap length q in
           let r = runs h (stepsFor (S .nodes)) (fresh ray) [] (fresh-valid K h ray accepted) refl (omega arith) in
-          record { noted = r .noted ∙ p; ended = r .ended; tests = omega (arith, r .tests) }
+          record { accumulator = r .accumulator ∙ p; ended = r .ended; tests = omega (arith, r .tests) }
       go (no h) =
           let e : S .nodes ≡ 0 = omega arith in
-          subst (λ (m : ℕ). Ran [] (listing m T ray 0) (length (reachedFrom m T ray 0)) (anyHitOf m T (S .positions) ray)) (sym e)
+          subst (λ (m : ℕ). Ran [] (listing m T ray 0) (length (reachedFrom m T ray 0)) (anyHitRun m T (S .positions) ray)) (sym e)
           (empty-ran T (S .positions) ray (U .positions) accepted)
 
   -- ---- what it lists and counts
 
   -- a position is listed exactly if the ray passes it,
-  exact : (p : ℕ) → In p (anyHitOf (S .nodes) T (S .positions) ray .noted) ↔ Passed (S .nodes) T ray p
-  exact p = subst (λ (l : List ℕ). In p l ↔ Passed (S .nodes) T ray p) (sym (any-hit .noted)) (listed K ray accepted p)
+  exact : (p : ℕ) → In p (anyHitRun (S .nodes) T (S .positions) ray .accumulator) ↔ PassedIn (S .nodes) T ray p
+  exact p = subst (λ (l : List ℕ). In p l ↔ PassedIn (S .nodes) T ray p) (sym (any-hit .accumulator)) (listed K ray accepted p)
 
   -- once,
-  once : (p : ℕ) → count p (anyHitOf (S .nodes) T (S .positions) ray .noted) ≤ 1
-  once p = rw (any-hit .noted) (listed-once K ray accepted p)
+  once : (p : ℕ) → count p (anyHitRun (S .nodes) T (S .positions) ray .accumulator) ≤ 1
+  once p = rw (any-hit .accumulator) (listed-once K ray accepted p)
 
   -- and none from n on
-  none-past : (p : ℕ) → S .positions ≤ p → Some (count p (anyHitOf (S .nodes) T (S .positions) ray .noted))
-      → count p (anyHitOf (S .nodes) T (S .positions) ray .noted) ≡ 0
+  none-past : (p : ℕ) → S .positions ≤ p → Some (count p (anyHitRun (S .nodes) T (S .positions) ray .accumulator))
+      → count p (anyHitRun (S .nodes) T (S .positions) ray .accumulator) ≡ 0
   none-past p l (none e) = e
   none-past p l (some e) = absurd (omega (arith, passed-position K ray accepted p (exact p .0 e)))
 
   pub any-hit-meets :
-      Meets (S .positions) (listing (S .nodes) T ray 0) (Reached (S .nodes) T ray) (Passed (S .nodes) T ray)
-      (anyHitOf (S .nodes) T (S .positions) ray)
+      Meets (S .positions) (listing (S .nodes) T ray 0) (ReachedIn (S .nodes) T ray) (PassedIn (S .nodes) T ray)
+      (anyHitRun (S .nodes) T (S .positions) ray)
   any-hit-meets = record {
     ends = any-hit .ended;
-    lists = any-hit .noted;
+    lists = any-hit .accumulator;
     exact = exact;
     once = once;
     most = distinct-length (S .positions) _ once (λ p l. none-past p l (some? _));

@@ -88,12 +88,14 @@ module _ {s d : Type 0} (m : ℕ) (T : Tests s d) (n : ℕ) (w : Walker s) where
     pub reports : (p : ℕ) (ps : List ℕ) → Reports p ps → P (afterReport w p ps)
     pub visits : (c : ℕ) (r : List ℕ) (st : List (List ℕ)) → Visits c r st → P (afterTest T w c r st)
 
-  visits-if : (c : ℕ) (r : List ℕ) (st : List (List ℕ)) → forgedWalker m T w ≡ false → due ≡ test c r st → badNode m T n (w .tests) c r st ≡ false → Visits c r st
+  visits-if : (c : ℕ) (r : List ℕ) (st : List (List ℕ)) → forgedWalker m T w ≡ false → due ≡ test c r st → badNode m T n (w .tests) c r st ≡ false
+      → Visits c r st
   visits-if c r st f e b =
       let a = or-false (noRoom r st || leb m c || leb m (w .tests)) (not (T .rule n c)) b in
       let a2 = or-false (noRoom r st || leb m c) (leb m (w .tests)) (a .0) in
       let a3 = or-false (noRoom r st) (leb m c) (a2 .0) in
-      let g = or-false (T .forged (w .ray)) (ltb 32 (length (w .stack))) (or-false (T .forged (w .ray) || ltb 32 (length (w .stack))) (ltb m (w .tests)) f .0) in
+      let g = or-false (T .forged (w .ray)) (ltb 32 (length (w .stack)))
+      (or-false (T .forged (w .ray) || ltb 32 (length (w .stack))) (ltb m (w .tests)) f .0) in
       record {
         is-due = e;
         accepted = g .0;

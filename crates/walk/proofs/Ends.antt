@@ -10,7 +10,8 @@ use Rattle.soundness.specs.Shape.{Shape}
 use Rattle.walk.specs.Tests.{Tests}
 use Rattle.walk.specs.Step.{Walker, Answer, tested, position, done, refused, fresh, Stepped, stepOf, tellOf}
 use Rattle.walk.specs.Calls.{Op, runOps, reportOf, reported, Answered}
-use Rattle.walk.specs.Queries.{Reaction, Outcome, toldAll, follow, query, tellings, callsAfter, calls, stepsFor, append, Going, Halted, Ended}
+use Rattle.walk.specs.Queries.{Reaction, QueryOutcome, toldAll, follow, query, tellings, callsAfter, queryCalls, stepsFor, append, Going}
+use Rattle.walk.specs.Queries.{Halted, Ended}
 use Rattle.walk.specs.Lawful.{SoundTests, Unrefused, Narrow}
 use Rattle.walk.proofs.Dues.{report-hand}
 use Rattle.walk.proofs.Cases.{cond-elim, step-cases}
@@ -18,17 +19,17 @@ use Rattle.walk.proofs.Valid.{Valid, step-valid, step-answered, tell-va
 
 -- ---- what follows an answer
 
-module _ {s d a : Type 0} (m : ℕ) (T : Tests s d) (react : ℕ → s → a → Reaction d a) (P : Outcome s a → Type 0) where
-  pub follow-cases : (b : Answer) (u : Walker s) (x : a) (go : Walker s → a → Outcome s a)
+module _ {s d a : Type 0} (m : ℕ) (T : Tests s d) (react : ℕ → s → a → Reaction d a) (P : QueryOutcome s a → Type 0) where
+  pub follow-cases : (b : Answer) (u : Walker s) (x : a) (go : Walker s → a → QueryOutcome s a)
       → (Going b → (l : List d) (y : a) → P (go (toldAll T l u) y))
-      → ((p : ℕ) (l : List d) (y : a) → P (record { walker = toldAll T l u; noted = y; ended = position p }))
-      → P (record { walker = u; noted = x; ended = done })
-      → ((e : ℕ) → b ≡ refused e → P (record { walker = u; noted = x; ended = refused e }))
+      → ((p : ℕ) (l : List d) (y : a) → P (record { walker = toldAll T l u; accumulator = y; ended = position p }))
+      → P (record { walker = u; accumulator = x; ended = done })
+      → ((e : ℕ) → b ≡ refused e → P (record { walker = u; accumulator = x; ended = refused e }))
       → P (follow m T react b u x go)
   follow-cases (tested c) u x go on stopped over refusal = on tt [] x
   follow-cases (position p) u x go on stopped over refusal =
       let r : Reaction d a = react p (u .ray) x in
-      cond-elim P (r .stop) _ _ (λ _. stopped p (r .tells) (r .noted)) (λ _. on tt (r .tells) (r .noted))
+      cond-elim P (r .stop) _ _ (λ _. stopped p (r .tells) (r .accumulator)) (λ _. on tt (r .tells) (r .accumulator))
   follow-cases done u x go on stopped over refusal = over
   follow-cases (refused e) u x go on stopped over refusal = refusal e refl
 
@@ -46,7 +47,8 @@ module _ {s d : Type 0} (m : ℕ) (T : Tests s d) (narrow : Narrow m T) where
         refuses = λ e c g. absurd g;
         ends = λ f e g. absurd g;
         empties = λ f z o g. absurd g;
-        reports = λ p ps h g. let e : length (w .positions) ≡ suc (length ps) = ap length (report-hand (w .positions) (w .group) (w .stack) p ps (h .is-due)) in omega arith;
+        reports = λ p ps h g. let e : length (w .positions)
+            ≡ suc (length ps) = ap length (report-hand (w .positions) (w .group) (w .stack) p ps (h .is-due)) in omega arith;
         visits = λ c r st v g. omega (arith, v .untested, narrow (w .ray) n c (v .accepted) (v .node) (v .rule));
       })
 
@@ -61,7 +63,7 @@ module _ {s d : Type 0} (m : ℕ) (T : Tests s d) (narrow : Narrow m T) where
     unfolding query
     halts zero n w x h = absurd (omega arith)
     halts (suc f) n w x h =
-        follow-cases m T react (λ (o : Outcome s a). Halted (o .ended)) (stepOf m T n w .answer) (stepOf m T n w .walker) x (query m T react f n)
+        follow-cases m T react (λ (o : QueryOutcome s a). Halted (o .ended)) (stepOf m T n w .answer) (stepOf m T n w .walker) x (query m T react f n)
         (λ g l y. halts f n (toldAll T l (stepOf m T n w .walker)) y (omega (arith, step-falls n w g, told-left l (stepOf m T n w .walker))))
         (λ p l y. tt) tt (λ e z. tt)
 
@@ -83,8 +85,9 @@ module _ {s d : Type 0} (m : ℕ) (T : Tests s d) (narrow : Narrow m T) where
         go (position p) u l i =
             let r : Reaction d a = react p (u .ray) x in
             let z = told-left (r .tells) u in
-            ap (λ (o : Outcome s a). cond (r .stop) (record { walker = toldAll T (r .tells) u; noted = r .noted; ended = position p }) o)
-            (i (toldAll T (r .tells) u) (r .noted) (omega (arith, l tt)) (omega (arith, l tt)))
+            ap (λ (o : QueryOutcome s a). cond (r .stop)
+            (record { walker = toldAll T (r .tells) u; accumulator = r .accumulator; ended = position p }) o)
+            (i (toldAll T (r .tells) u) (r .accumulator) (omega (arith, l tt)) (omega (arith, l tt)))
         go done u l i = refl
         go (refused e) u l i = refl
 
@@ -97,40 +100,43 @@ module _ {s d a : Type 0} (m : ℕ) (T : Tests s d) (react : ℕ → s → a →
   tell-run (x ∷ l) k w = tell-run l k (tellOf T x w)
 
   -- the walker that a query ends with is the one that its calls lead to
-  pub query-run : (f n : ℕ) (w : Walker s) (x : a) → runOps m T (calls m T react f n w x) w .walker ≡ query m T react f n w x .walker
-  unfolding runOps query calls
+  pub query-run : (f n : ℕ) (w : Walker s) (x : a) → runOps m T (queryCalls m T react f n w x) w .walker ≡ query m T react f n w x .walker
+  unfolding runOps query queryCalls
   query-run zero n w x = refl
   query-run (suc f) n w x = go (stepOf m T n w .answer) (stepOf m T n w .walker) (query-run f n)
     where
-      go : (b : Answer) (v : Walker s) → ((u : Walker s) (y : a) → runOps m T (calls m T react f n u y) u .walker ≡ query m T react f n u y .walker)
-          → runOps m T (callsAfter m T react b v x (calls m T react f n)) v .walker ≡ follow m T react b v x (query m T react f n) .walker
+      go : (b : Answer) (v : Walker s) → ((u : Walker s) (y : a) → runOps m T (queryCalls m T react f n u y) u .walker
+          ≡ query m T react f n u y .walker)
+          → runOps m T (callsAfter m T react b v x (queryCalls m T react f n)) v .walker ≡ follow m T react b v x (query m T react f n) .walker
       go (tested c) v h = h v x
       go (position p) v h = rw tell-run (stopped (react p (v .ray) x))
         where
           stopped : (r : Reaction d a)
-              → runOps m T (cond (r .stop) [] (calls m T react f n (toldAll T (r .tells) v) (r .noted))) (toldAll T (r .tells) v) .walker
-              ≡ cond (r .stop) (record { walker = toldAll T (r .tells) v; noted = r .noted; ended = position p })
-              (query m T react f n (toldAll T (r .tells) v) (r .noted)) .walker
+              → runOps m T (cond (r .stop) [] (queryCalls m T react f n (toldAll T (r .tells) v) (r .accumulator))) (toldAll T (r .tells) v) .walker
+              ≡ cond (r .stop) (record { walker = toldAll T (r .tells) v; accumulator = r .accumulator; ended = position p })
+              (query m T react f n (toldAll T (r .tells) v) (r .accumulator)) .walker
           stopped r = by (r .stop)
             where
               by : (t : Bool)
-                  → runOps m T (cond t [] (calls m T react f n (toldAll T (r .tells) v) (r .noted))) (toldAll T (r .tells) v) .walker
-                  ≡ cond t (record { walker = toldAll T (r .tells) v; noted = r .noted; ended = position p })
-                  (query m T react f n (toldAll T (r .tells) v) (r .noted)) .walker
+                  → runOps m T (cond t [] (queryCalls m T react f n (toldAll T (r .tells) v) (r .accumulator))) (toldAll T (r .tells) v) .walker
+                  ≡ cond t (record { walker = toldAll T (r .tells) v; accumulator = r .accumulator; ended = position p })
+                  (query m T react f n (toldAll T (r .tells) v) (r .accumulator)) .walker
               by true = refl
-              by false = h (toldAll T (r .tells) v) (r .noted)
+              by false = h (toldAll T (r .tells) v) (r .accumulator)
       go done v h = refl
       go (refused e) v h = refl
 
 -- any-hit has noted what its calls reported
 pub any-hit-run : {s d : Type 0} (m : ℕ) (T : Tests s d) (f n : ℕ) (w : Walker s) (x : List ℕ)
-    → query m T append f n w x .noted ≡ x ++ reported (runOps m T (calls m T append f n w x) w .answers)
-unfolding runOps query calls
+    → query m T append f n w x .accumulator ≡ x ++ reported (runOps m T (queryCalls m T append f n w x) w .answers)
+unfolding runOps query queryCalls
 any-hit-run m T zero n w x = sym (append-nil x)
 any-hit-run {s} m T (suc f) n w x = go (stepOf m T n w .answer) (stepOf m T n w .walker) (any-hit-run m T f n)
   where
-    go : (b : Answer) (v : Walker s) → ((u : Walker s) (y : List ℕ) → query m T append f n u y .noted ≡ y ++ reported (runOps m T (calls m T append f n u y) u .answers))
-        → follow m T append b v x (query m T append f n) .noted ≡ x ++ (reportOf b ++ reported (runOps m T (callsAfter m T append b v x (calls m T append f n)) v .answers))
+    go : (b : Answer) (v : Walker s) → ((u : Walker s) (y : List ℕ) → query m T append f n u y .accumulator
+        ≡ y ++ reported (runOps m T (queryCalls m T append f n u y) u .answers))
+        → follow m T append b v x (query m T append f n) .accumulator
+        ≡ x ++ (reportOf b ++ reported (runOps m T (callsAfter m T append b v x (queryCalls m T append f n)) v .answers))
     go (tested c) v h = h v x
     go (position p) v h = h v (x ++ (p ∷ [])) ∙ append-assoc x (p ∷ []) _
     go done v h = sym (append-nil x)
@@ -150,7 +156,7 @@ module _ {s d a : Type 0} {S : Shape} {Rule : ℕ → Type 0} {T : Tests s d} (K
   unfolding query
   ends zero w x v = λ h. h
   ends (suc f) w x v =
-      follow-cases (S .nodes) T react (λ (o : Outcome s a). Halted (o .ended) → Ended (o .ended))
+      follow-cases (S .nodes) T react (λ (o : QueryOutcome s a). Halted (o .ended) → Ended (o .ended))
       (stepOf (S .nodes) T (S .positions) w .answer) (stepOf (S .nodes) T (S .positions) w .walker) x (query (S .nodes) T react f (S .positions))
       (λ g l y. ends f (toldAll T l (stepOf (S .nodes) T (S .positions) w .walker)) y
       (told-valid l (stepOf (S .nodes) T (S .positions) w .walker) (step-valid K (S .positions) w v)))

@@ -88,7 +88,8 @@ falling-cut f b t (suc w) h n = go (same? t (suc w)) (falling-cut f b t w)
     go (apart k m) r = rw (n w (omega arith) (omega arith)) (r (omega arith) (λ i x y. n i x (omega arith)))
 
 -- the highest that passes comes first, then those below it
-pub falling-top : (f : ℕ → ℕ) (b : ℕ → Bool) (w t : ℕ) → t < w → b t ≡ true → ((i : ℕ) → t < i → i < w → b i ≡ false) → falling f b w ≡ f t ∷ falling f b t
+pub falling-top : (f : ℕ → ℕ) (b : ℕ → Bool) (w t : ℕ) → t < w → b t ≡ true → ((i : ℕ) → t < i → i < w → b i ≡ false) → falling f b w
+    ≡ f t ∷ falling f b t
 falling-top f b w t h e n = falling-cut f b (suc t) w h (λ i x y. n i x y) ∙ first
   where
     first : falling f b (suc t) ≡ f t ∷ falling f b t

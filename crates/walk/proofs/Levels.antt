@@ -76,7 +76,8 @@ module _ {s d : Type 0} {S : Shape} {Rule : ℕ → Type 0} {T : Tests s d} (K :
   group-ready (c ∷ r) st i h = record { this = i .0; rest = i .1; below = h }
   group-ready [] st i h = stack-ready st h
 
-  pub at-node : (w : Walker s) (c : ℕ) (r : List ℕ) (st : List (List ℕ)) → Levels w → dueOf (w .positions) (w .group) (w .stack) ≡ test c r st → AtNode c r st
+  pub at-node : (w : Walker s) (c : ℕ) (r : List ℕ) (st : List (List ℕ)) → Levels w → dueOf (w .positions) (w .group) (w .stack) ≡ test c r st
+      → AtNode c r st
   at-node w c r st l e =
       subst Ready (no-hand (w .positions) (w .group) (w .stack) (test c r st) (test-hand (w .positions) (w .group) (w .stack) c r st e) e)
       (group-ready (w .group) (w .stack) (l .in-hand) (l .waiting))
@@ -95,7 +96,11 @@ module _ {s d : Type 0} {S : Shape} {Rule : ℕ → Type 0} {T : Tests s d} (K :
 
   hand-of : (l : List ℕ) (st : List (List ℕ)) → AllDeep (suc (length st)) l → InHand l st
   hand-of [] st f = tt
-  hand-of (c ∷ r) st f = (λ _. less-deep (length (push r st)) (suc (length st)) c (push-length r st) (f c (in-head c r)), λ x i. f x (in-tail x c r i))
+  hand-of (c ∷ r) st f = (
+    λ _. less-deep (length (push r st)) (suc (length st)) c (push-length r st) (f c (in-head c r)),
+    λ x i. f x
+        (in-tail x c r i),
+  )
 
   push-waiting : (r : List ℕ) (st : List (List ℕ)) → AllDeep (suc (length st)) r → Waiting st → Waiting (push r st)
   push-waiting [] st f w = w
@@ -141,4 +146,5 @@ module _ {s d : Type 0} {S : Shape} {Rule : ℕ → Type 0} {T : Tests s d} (K :
 
   -- the waiting groups do not outnumber the deepest level
   pub calls-wait-few : (e : ℕ) → Deepest S e → (l : List (Op d)) (ray : s) → length (runOps (S .nodes) T l (fresh ray) .walker .stack) ≤ e
-  calls-wait-few e deepest l ray = waiting-few e (deepest .most) (runOps (S .nodes) T l (fresh ray) .walker .stack) (run-levels l (fresh ray) (fresh-levels ray) .waiting)
+  calls-wait-few e deepest l ray = waiting-few e (deepest .most) (runOps (S .nodes) T l (fresh ray) .walker .stack)
+      (run-levels l (fresh ray) (fresh-levels ray) .waiting)

@@ -103,7 +103,8 @@ unfolding sum
 sum-le f g zero h = omega arith
 sum-le f g (suc k) h = omega (arith, sum-le f g k h, h k)
 
-pub sum-over-part : (n : ℕ) (f : ℕ → ℕ) (a b : List ℕ) → ((x : ℕ) → count x a ≤ count x b) → ((x : ℕ) → n ≤ x → count x b ≡ 0) → sumOver f a ≤ sumOver f b
+pub sum-over-part : (n : ℕ) (f : ℕ → ℕ) (a b : List ℕ) → ((x : ℕ) → count x a ≤ count x b) → ((x : ℕ) → n ≤ x → count x b ≡ 0)
+    → sumOver f a ≤ sumOver f b
 sum-over-part n f a b h z =
     let p = sum-counted n f a (λ x l. omega (arith, h x, z x l)) in
     let q = sum-counted n f b z in

@@ -10,10 +10,10 @@ use Rattle.words.specs.Ones.{onesBelow}
 use Rattle.words.specs.Fields.{field}
 use Rattle.words.proofs.Ranks.{bit-is}
 use Rattle.node.specs.Node.{childIndex}
-use Rattle.walk.specs.Slots.{Slots, childAt, passedChild, inPassedSlot, passedPosition, positionsOf, childrenOf}
+use Rattle.walk.specs.Slots.{WalkRecord, childNumber, passedChild, inPassedSlot, passedPosition, positionsPassed, childrenPassed}
 use Rattle.walk.specs.Words.{isSet, positionsIn, childrenIn}
 use Rattle.walk.specs.WordStep.{passedPositions, passedChildren, Decodes}
-use Rattle.walk.specs.Masks.{wordsOf, MaskLaws}
+use Rattle.walk.specs.Masks.{fieldsOf, MaskLaws}
 use Rattle.walk.proofs.Cases.{and-false}
 use Rattle.walk.proofs.Falling.{falling-same, falling-cut}
 use Rattle.walk.proofs.Words.{past-clear, cut-set, cut-rank}
@@ -32,9 +32,9 @@ not-not true false = refl
 not-not false true = refl
 not-not false false = refl
 
-module _ {s d : Type 0} (W : Slots s d) (mask : s → ℕ → ℕ) (H : MaskLaws W mask) where
+module _ {s d : Type 0} (W : WalkRecord s d) (mask : s → ℕ → ℕ) (H : MaskLaws W mask) where
   positions-are : (ray : s) (n v : ℕ) → W .forged ray ≡ false → v < W .shape .nodes → W .rule n v ≡ true
-      → positionsIn (λ p. not (W .admits ray p)) (passedPositions (wordsOf W mask) ray v) ≡ positionsOf W ray v
+      → positionsIn (λ p. not (W .admits ray p)) (passedPositions (fieldsOf W mask) ray v) ≡ positionsPassed W ray v
   positions-are ray n v f h r =
       falling-cut (λ b. W .positionBase v + b) held 24 32 (omega arith)
       (λ i x y. ap (λ (c : Bool). admitted i && c) (past-clear 24 i (mask ray v % 0x100_0000) (omega arith) x) ∙ and-false (admitted i))
@@ -49,10 +49,10 @@ module _ {s d : Type 0} (W : Slots s d) (mask : s → ℕ → ℕ) (H : MaskLaws
       held b = admitted b && isSet b (mask ray v % 0x100_0000)
 
   children-are : (ray : s) (n v : ℕ) → W .forged ray ≡ false → v < W .shape .nodes → W .rule n v ≡ true
-      → childrenIn (W .octant ray) (passedChildren (wordsOf W mask) ray v) ≡ childrenOf W ray v
+      → childrenIn (W .octant ray) (passedChildren (fieldsOf W mask) ray v) ≡ childrenPassed W ray v
   unfolding childIndex
   children-are ray n v f h r =
-      falling-same (λ k. childIndex (W .shape .base v) (bits) (bitXor k (W .octant ray))) (λ k. childAt W v (bitXor k (W .octant ray)))
+      falling-same (λ k. childIndex (W .shape .base v) (bits) (bitXor k (W .octant ray))) (λ k. childNumber W v (bitXor k (W .octant ray)))
       (λ k. isSet (24 + k) bits) (λ k. passedChild W ray v (bitXor k (W .octant ray))) 8
       (λ k l. high-set k bits (mask ray v) (omega (arith, H .imask-lt v h)) ∙ H .child-bit ray n v k f h r l)
       (λ k l e. ap (λ (x : ℕ). W .shape .base v + x) (rank (bitXor k (W .octant ray)) (xor-lt 3 k (W .octant ray) l (H .octant-lt ray f))))
@@ -65,7 +65,7 @@ module _ {s d : Type 0} (W : Slots s d) (mask : s → ℕ → ℕ) (H : MaskLaws
           let e : (mask ray v / 0x100_0000 * 0x100_0000 + W .imask v) % 2 ^ 24 ≡ W .imask v = omega (arith, H .imask-lt v h) in
           sym (cut-rank 24 j (mask ray v / 0x100_0000 * 0x100_0000 + W .imask v) (omega arith)) ∙ ap (onesBelow j) e
 
-  pub masks-decode : Decodes (W .shape .nodes) (wordsOf W mask) (positionsOf W) (childrenOf W)
+  pub masks-decode : Decodes (W .shape .nodes) (fieldsOf W mask) (positionsPassed W) (childrenPassed W)
   masks-decode =
       record {
         octant-lt = H .octant-lt;

@@ -45,8 +45,8 @@ module _ {s d : Type 0} (m : ℕ) (T : Tests s d) (pane : ℕ → s → Pane d) 
   -- the notes of the positions after a reaction
   abbrev After : (ℕ → s → Found d → React) → s → List ℕ → Found d → React → Type 0
   After react r l y k = elim (k .stop) as (λ (b : Bool). Type 0) [
-    | true ↦ (l ≡ []) × (y ≡ k .noted)
-    | false ↦ Notes m T react (toldRay T (k .tells) r) (k .noted) l y
+    | true ↦ (l ≡ []) × (y ≡ k .accumulator)
+    | false ↦ Notes m T react (toldRay T (k .tells) r) (k .accumulator) l y
   ]
 
   -- ---- closest
@@ -89,7 +89,7 @@ module _ {s d : Type 0} (m : ℕ) (T : Tests s d) (pane : ℕ → s → Pane d) 
   -- ---- miss
 
   abbrev blockedBy : Bool → ℕ → Found d → React
-  blockedBy c p x = record { noted = cond c (hit p (distanceOf p)) x; tells = []; stop = c }
+  blockedBy c p x = record { accumulator = cond c (hit p (distanceOf p)) x; tells = []; stop = c }
 
   miss-is : (p : ℕ) (r : s) (x : Found d) → Sees r p → miss pane nearer p r x ≡ blockedBy (less (distanceOf p) (reach r)) p x
   miss-is p r x h = ap (λ (q : Pane d). blockAt pane nearer q p r x) (h .pane-is) ∙ ap (λ (c : Bool). blockedBy c p x) (R .nearer-is (distanceOf p) r)

@@ -8,7 +8,7 @@ use Rattle.lists.specs.Counts.{same, count}
 use Rattle.lists.specs.Sums.{sumOver}
 use Rattle.lists.proofs.Counts.{count-append}
 use Rattle.lists.proofs.Perms.{no-duplicates}
-use Rattle.soundness.specs.Shape.{Shape, held}
+use Rattle.soundness.specs.Shape.{Shape, positionsHeld}
 use Rattle.soundness.proofs.Range.{count-range}
 use Rattle.walk.specs.Tests.{Tests}
 use Rattle.walk.specs.Step.{Walker, fresh, Stepped, afterTest, stepOf, tellOf}
@@ -43,9 +43,10 @@ module _ {s d : Type 0} {S : Shape} {Rule : ℕ → Type 0} {T : Tests s d} (K :
 
   -- how often x is in hand, or held by a node that is left to test or lies below one
   abbrev pub remaining : ℕ → Walker s → ℕ
-  remaining x w = count x (w .positions) + left (total S (λ v. held S v x)) w
+  remaining x w = count x (w .positions) + left (total S (λ v. positionsHeld S v x)) w
 
-  step-remaining : (x n : ℕ) (w : Walker s) → count x (reportOf (stepOf (S .nodes) T n w .answer)) + remaining x (stepOf (S .nodes) T n w .walker) ≤ remaining x w
+  step-remaining : (x n : ℕ) (w : Walker s) → count x (reportOf (stepOf (S .nodes) T n w .answer)) + remaining x (stepOf (S .nodes) T n w .walker) ≤
+      remaining x w
   unfolding count sumOver
   step-remaining x n w =
       step-cases (S .nodes) T n w (λ (r : Stepped s). count x (reportOf (r .answer)) + remaining x (r .walker) ≤ remaining x w)
@@ -53,11 +54,12 @@ module _ {s d : Type 0} {S : Shape} {Rule : ℕ → Type 0} {T : Tests s d} (K :
         refuses = λ e c. omega arith;
         ends = λ f e. omega arith;
         empties = λ f z o. omega arith;
-        reports = λ p ps h. let e : count x (w .positions) ≡ same x p + count x ps = ap (count x) (report-hand (w .positions) (w .group) (w .stack) p ps (h .is-due)) in omega arith;
+        reports = λ p ps h. let e : count x (w .positions)
+            ≡ same x p + count x ps = ap (count x) (report-hand (w .positions) (w .group) (w .stack) p ps (h .is-due)) in omega arith;
         visits = λ c r st v.
             let e : count x (w .positions) ≡ 0 = ap (count x) (test-hand (w .positions) (w .group) (w .stack) c r st (v .is-due)) in
             let own = K .lawful .own-positions (w .ray) c x (v .accepted) (v .node) (K .sound .rule c (v .node)) in
-            omega (arith, left-falls (λ u. held S u x) n w c r st v, own);
+            omega (arith, left-falls (λ u. positionsHeld S u x) n w c r st v, own);
       })
 
   run-remaining : (x : ℕ) (l : List (Op d)) (w : Walker s)

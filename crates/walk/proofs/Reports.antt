@@ -8,9 +8,9 @@ use lib.ListN.{length, length-append}
 use Rattle.walk.specs.Tests.{Tests}
 use Rattle.walk.specs.Step.{Walker, Answer, tested, position, done, refused, Stepped, stepOf, tellOf}
 use Rattle.walk.specs.Calls.{All, Op, step, tell, Run, runOps, reportOf, reported}
-use Rattle.walk.specs.Queries.{Reaction, toldAll, follow, query, callsAfter, calls}
+use Rattle.walk.specs.Queries.{Reaction, toldAll, follow, query, callsAfter, queryCalls}
 use Rattle.walk.specs.Queries.{Pane, distance, faulty, Found, none, hit, closest, miss, lower, lowerAt, blockAt}
-use Rattle.walk.specs.Reports.{testOf, testedNodes, toldRay, reports, Notes, upTo}
+use Rattle.walk.specs.Reports.{testOf, testedNodes, toldRay, queryReports, Notes, upTo}
 use Rattle.walk.proofs.Cases.{step-cases}
 use Rattle.walk.proofs.Ends.{tell-run}
 
@@ -61,10 +61,11 @@ module _ {s d : Type 0} (m : ℕ) (T : Tests s d) where
     -- ---- what a query reports from an answer on, and from a reaction on
 
     abbrev fromAnswer : ℕ → ℕ → Answer → Walker s → a → List ℕ
-    fromAnswer f n b v x = reportOf b ++ reported (runOps m T (callsAfter m T react b v x (calls m T react f n)) v .answers)
+    fromAnswer f n b v x = reportOf b ++ reported (runOps m T (callsAfter m T react b v x (queryCalls m T react f n)) v .answers)
 
     abbrev fromReaction : ℕ → ℕ → Walker s → Reaction d a → List ℕ
-    fromReaction f n v r = let u = toldAll T (r .tells) v in reported (runOps m T (cond (r .stop) [] (calls m T react f n u (r .noted))) u .answers)
+    fromReaction f n v r = let u = toldAll T (r .tells) v in reported
+        (runOps m T (cond (r .stop) [] (queryCalls m T react f n u (r .accumulator))) u .answers)
 
     from-position : (f n p : ℕ) (v : Walker s) (x : a) → fromAnswer f n (position p) v x ≡ p ∷ fromReaction f n v (react p (v .ray) x)
     from-position f n p v x = ap (λ (r : Run s). p ∷ reported (r .answers)) (tell-run m T react (react p (v .ray) x .tells) _ v)
@@ -72,55 +73,58 @@ module _ {s d : Type 0} (m : ℕ) (T : Tests s d) where
     -- ---- what it notes
 
     abbrev NotesOn : ℕ → ℕ → Type 0
-    NotesOn f n = (u : Walker s) (y : a) → Notes m T react (u .ray) y (reports m T react f n u y) (query m T react f n u y .noted)
+    NotesOn f n = (u : Walker s) (y : a) → Notes m T react (u .ray) y (queryReports m T react f n u y) (query m T react f n u y .accumulator)
 
     stops-or-notes : (f n p : ℕ) (v : Walker s) → NotesOn f n → (r : Reaction d a) (t : Bool) →
         let u = toldAll T (r .tells) v in
-        let rest : List ℕ = reported (runOps m T (cond t [] (calls m T react f n u (r .noted))) u .answers) in
-        let y : a = cond t (record { walker = u; noted = r .noted; ended = position p }) (query m T react f n u (r .noted)) .noted in
+        let rest : List ℕ = reported (runOps m T (cond t [] (queryCalls m T react f n u (r .accumulator))) u .answers) in
+        let y : a = cond t (record { walker = u; accumulator = r .accumulator; ended = position p })
+        (query m T react f n u (r .accumulator)) .accumulator in
         elim t as (λ (b : Bool). Type 0) [
-          | true ↦ (rest ≡ []) × (y ≡ r .noted)
-          | false ↦ Notes m T react (toldRay T (r .tells) (v .ray)) (r .noted) rest y
+          | true ↦ (rest ≡ []) × (y ≡ r .accumulator)
+          | false ↦ Notes m T react (toldRay T (r .tells) (v .ray)) (r .accumulator) rest y
         ]
     unfolding runOps
     stops-or-notes f n p v h r true = (refl, refl)
     stops-or-notes f n p v h r false =
         let u = toldAll T (r .tells) v in
-        subst (λ (q : s). Notes m T react q (r .noted) (reports m T react f n u (r .noted)) (query m T react f n u (r .noted) .noted))
-        (told-ray (r .tells) v) (h u (r .noted))
+        subst (λ (q : s). Notes m T react q (r .accumulator) (queryReports m T react f n u (r .accumulator))
+        (query m T react f n u (r .accumulator) .accumulator))
+        (told-ray (r .tells) v) (h u (r .accumulator))
 
-    pub query-notes : (f n : ℕ) (w : Walker s) (x : a) → Notes m T react (w .ray) x (reports m T react f n w x) (query m T react f n w x .noted)
-    unfolding runOps query calls
+    pub query-notes : (f n : ℕ) (w : Walker s) (x : a)
+        → Notes m T react (w .ray) x (queryReports m T react f n w x) (query m T react f n w x .accumulator)
+    unfolding runOps query queryCalls
     query-notes zero n w x = refl
     query-notes (suc f) n w x =
         let v = stepOf m T n w .walker in
         let b = stepOf m T n w .answer in
-        subst (λ (r : s). Notes m T react r x (fromAnswer f n b v x) (follow m T react b v x (query m T react f n) .noted)) (step-ray n w)
+        subst (λ (r : s). Notes m T react r x (fromAnswer f n b v x) (follow m T react b v x (query m T react f n) .accumulator)) (step-ray n w)
         (go b v (query-notes f n))
       where
         go : (b : Answer) (v : Walker s) → NotesOn f n
-            → Notes m T react (v .ray) x (fromAnswer f n b v x) (follow m T react b v x (query m T react f n) .noted)
+            → Notes m T react (v .ray) x (fromAnswer f n b v x) (follow m T react b v x (query m T react f n) .accumulator)
         go (tested c) v h = h v x
         go (position p) v h =
             let r : Reaction d a = react p (v .ray) x in
-            subst (λ (l : List ℕ). Notes m T react (v .ray) x l (follow m T react (position p) v x (query m T react f n) .noted))
+            subst (λ (l : List ℕ). Notes m T react (v .ray) x l (follow m T react (position p) v x (query m T react f n) .accumulator))
             (sym (from-position f n p v x)) (stops-or-notes f n p v h r (r .stop))
         go done v h = refl
         go (refused k) v h = refl
 
     -- ---- every position reported exists
 
-    pub reports-exist : (f n : ℕ) (w : Walker s) (x : a) → All (λ p. p < n) (reports m T react f n w x)
-    unfolding runOps calls
+    pub reports-exist : (f n : ℕ) (w : Walker s) (x : a) → All (λ p. p < n) (queryReports m T react f n w x)
+    unfolding runOps queryCalls
     reports-exist zero n w x = tt
     reports-exist (suc f) n w x = go (stepOf m T n w .answer) (stepOf m T n w .walker) (step-exists n w) (reports-exist f n)
       where
-        by : ((u : Walker s) (y : a) → All (λ p. p < n) (reports m T react f n u y)) → (r : Reaction d a) (t : Bool) (u : Walker s)
-            → All (λ q. q < n) (reported (runOps m T (cond t [] (calls m T react f n u (r .noted))) u .answers))
+        by : ((u : Walker s) (y : a) → All (λ p. p < n) (queryReports m T react f n u y)) → (r : Reaction d a) (t : Bool) (u : Walker s)
+            → All (λ q. q < n) (reported (runOps m T (cond t [] (queryCalls m T react f n u (r .accumulator))) u .answers))
         by h r true u = tt
-        by h r false u = h u (r .noted)
+        by h r false u = h u (r .accumulator)
 
-        go : (b : Answer) (v : Walker s) → Exists n b → ((u : Walker s) (y : a) → All (λ p. p < n) (reports m T react f n u y))
+        go : (b : Answer) (v : Walker s) → Exists n b → ((u : Walker s) (y : a) → All (λ p. p < n) (queryReports m T react f n u y))
             → All (λ p. p < n) (fromAnswer f n b v x)
         go (tested c) v e h = h v x
         go (position p) v e h =
@@ -142,11 +146,11 @@ module _ {s d : Type 0} (m : ℕ) (T : Tests s d) where
     cut r = upTo (λ p. block p r none .stop)
 
     abbrev Cuts : ℕ → ℕ → Type 0
-    Cuts f n = (u : Walker s) (x : Found d) → reports m T block f n u none ≡ cut (u .ray) (reports m T near f n u x)
+    Cuts f n = (u : Walker s) (x : Found d) → queryReports m T block f n u none ≡ cut (u .ray) (queryReports m T near f n u x)
 
     -- after a position whose pane is at a distance, nearer or not; and after any
     cuts-at : (f n p : ℕ) (v : Walker s) (x : Found d) → Cuts f n → (t : d) (c : Bool)
-        → fromReaction block f n v (record { noted = cond c (hit p t) none; tells = []; stop = c })
+        → fromReaction block f n v (record { accumulator = cond c (hit p t) none; tells = []; stop = c })
         ≡ cond c [] (cut (v .ray) (fromReaction near f n v (lower pane nearer c p t x)))
     unfolding runOps
     cuts-at f n p v x h t true = refl
@@ -160,8 +164,8 @@ module _ {s d : Type 0} (m : ℕ) (T : Tests s d) where
     cuts-pane f n p v x h (faulty k) = refl
 
     pub miss-reports : (f n : ℕ) (w : Walker s) (x : Found d)
-        → reports m T block f n w none ≡ upTo (λ p. block p (w .ray) none .stop) (reports m T near f n w x)
-    unfolding runOps calls
+        → queryReports m T block f n w none ≡ upTo (λ p. block p (w .ray) none .stop) (queryReports m T near f n w x)
+    unfolding runOps queryCalls
     miss-reports zero n w x = refl
     miss-reports (suc f) n w x =
         let v = stepOf m T n w .walker in

@@ -11,14 +11,14 @@ use Rattle.lists.proofs.Sums.{sum-term}
 use Rattle.lists.proofs.Tells.{Tells, told, tells-true, eqb-tells, true-tells, and-tells}
 use Rattle.words.proofs.Ranks.{bit-is, rank-lt, rank-inj}
 use Rattle.soundness.specs.Range.{inRange}
-use Rattle.soundness.specs.Shape.{held}
+use Rattle.soundness.specs.Shape.{positionsHeld}
 use Rattle.soundness.specs.Sound.{Sound}
 use Rattle.soundness.proofs.Range.{in-range, range-stands}
 use Rattle.node.specs.Node.{innerBit, childIndex}
-use Rattle.decode.proofs.Decode.{slot-back}
-use Rattle.walk.specs.Listing.{In, ReachedBy, first, child, Reached, Passed}
+use Rattle.node_meta.proofs.Decode.{slot-back}
+use Rattle.walk.specs.Listing.{In, ReachedBy, first, child, ReachedIn, PassedIn}
 use Rattle.walk.specs.Lawful.{Lawful, SoundTests, Narrow}
-use Rattle.walk.specs.Slots.{Slots, childAt, passedChild, inPassedSlot, passedPosition, positionsOf, childrenOf, testsOf}
+use Rattle.walk.specs.Slots.{WalkRecord, childNumber, passedChild, inPassedSlot, passedPosition, positionsPassed, childrenPassed, testsOf}
 use Rattle.walk.specs.Slots.{PassesChild, PassesPosition, ReachedBySlots, PassedBySlots, SlotLaws}
 use Rattle.walk.proofs.Falling.{falling-length, in-falling, falling-in, falling-once, some-tells}
 use Rattle.walk.proofs.Listing.{reached-node}
@@ -36,12 +36,12 @@ counted n k h f = go (some? n)
     go (none e) = omega arith
     go (some e) = omega (arith, f e)
 
-pub slots-narrow : {s d : Type 0} (W : Slots s d) (m : ℕ) → Narrow m (testsOf W)
+pub slots-narrow : {s d : Type 0} (W : WalkRecord s d) (m : ℕ) → Narrow m (testsOf W)
 slots-narrow W m ray n v f h r = falling-length (λ b. W .positionBase v + b) (λ b. passedPosition W ray v (W .positionBase v + b)) 24
 
 -- ---- what the tests of a slot tell
 
-module _ {s d : Type 0} (W : Slots s d) where
+module _ {s d : Type 0} (W : WalkRecord s d) where
   pub child-tells : (ray : s) (v j : ℕ) → Tells ((innerBit (W .imask v) j ≡ 1) × (W .passes ray v j ≡ true)) (passedChild W ray v j)
   child-tells ray v j = and-tells (eqb-tells (innerBit (W .imask v) j) 1) (true-tells (W .passes ray v j))
 
@@ -57,17 +57,17 @@ module _ {s d : Type 0} (W : Slots s d) where
   pub position-tells : (ray : s) (v x : ℕ) → Tells (PassedSlot ray v x × (W .admits ray x ≡ true)) (passedPosition W ray v x)
   position-tells ray v x = and-tells (slot-tells ray v x) (true-tells (W .admits ray x))
 
-module _ {s d : Type 0} (W : Slots s d) (Rule : ℕ → Type 0) (laws : SlotLaws W Rule) where
+module _ {s d : Type 0} (W : WalkRecord s d) (Rule : ℕ → Type 0) (laws : SlotLaws W Rule) where
   -- ---- children
 
   -- a child is found exactly if it stands at a slot of imask that the ray passes
   pub children-iff : (ray : s) (v c : ℕ) → W .forged ray ≡ false
-      → In c (childrenOf W ray v) ↔ PassesChild W ray v c
+      → In c (childrenPassed W ray v) ↔ PassesChild W ray v c
   children-iff ray v c f = (to, from)
     where
-      to : In c (childrenOf W ray v) → PassesChild W ray v c
+      to : In c (childrenPassed W ray v) → PassesChild W ray v c
       to i =
-          let q = in-falling c (λ k. childAt W v (bitXor k (W .octant ray))) (λ k. passedChild W ray v (bitXor k (W .octant ray))) 8 i in
+          let q = in-falling c (λ k. childNumber W v (bitXor k (W .octant ray))) (λ k. passedChild W ray v (bitXor k (W .octant ray))) 8 i in
           let t = told (child-tells W ray v (bitXor (q .0) (W .octant ray))) (q .2) in
           record {
             slot = bitXor (q .0) (W .octant ray);
@@ -77,19 +77,20 @@ module _ {s d : Type 0} (W : Slots s d) (Rule : ℕ → Type 0) (laws : SlotLaws
             is-child = q .3;
           }
 
-      from : PassesChild W ray v c → In c (childrenOf W ray v)
+      from : PassesChild W ray v c → In c (childrenPassed W ray v)
       from q =
           let j = q .slot in
           let o = laws .octant-lt ray f in
           let e : bitXor (bitXor j (W .octant ray)) (W .octant ray) ≡ j = slot-back j (W .octant ray) (q .of-eight) o in
           let t : passedChild W ray v (bitXor (bitXor j (W .octant ray)) (W .octant ray)) ≡ true =
           rw e (tells-true (child-tells W ray v j) (q .inner, q .passes)) in
-          subst (λ (x : ℕ). In x (childrenOf W ray v)) (ap (childAt W v) e ∙ sym (q .is-child))
-          (falling-in (λ k. childAt W v (bitXor k (W .octant ray))) (λ k. passedChild W ray v (bitXor k (W .octant ray))) 8
+          subst (λ (x : ℕ). In x (childrenPassed W ray v)) (ap (childNumber W v) e ∙ sym (q .is-child))
+          (falling-in (λ k. childNumber W v (bitXor k (W .octant ray))) (λ k. passedChild W ray v (bitXor k (W .octant ray))) 8
           (bitXor j (W .octant ray)) (xor-lt 3 j (W .octant ray) (q .of-eight) o) t)
 
-  slots-apart : (ray : s) (v i j : ℕ) → W .forged ray ≡ false → i < 8 → j < 8 → passedChild W ray v (bitXor i (W .octant ray)) ≡ true → passedChild W ray v (bitXor j (W .octant ray)) ≡ true
-      → childAt W v (bitXor i (W .octant ray)) ≡ childAt W v (bitXor j (W .octant ray)) → i ≡ j
+  slots-apart : (ray : s) (v i j : ℕ) → W .forged ray ≡ false → i < 8 → j < 8 → passedChild W ray v (bitXor i (W .octant ray)) ≡ true
+      → passedChild W ray v (bitXor j (W .octant ray)) ≡ true
+      → childNumber W v (bitXor i (W .octant ray)) ≡ childNumber W v (bitXor j (W .octant ray)) → i ≡ j
   unfolding childIndex
   slots-apart ray v i j f h k a b e =
       let o = laws .octant-lt ray f in
@@ -100,11 +101,13 @@ module _ {s d : Type 0} (W : Slots s d) (Rule : ℕ → Type 0) (laws : SlotLaws
       let z : x ≡ y = rank-inj x y (W .imask v) p q (omega arith) in
       sym (slot-back i (W .octant ray) h o) ∙ ap (λ (u : ℕ). bitXor u (W .octant ray)) z ∙ slot-back j (W .octant ray) k o
 
-  own-children : (ray : s) (v c : ℕ) → W .forged ray ≡ false → v < W .shape .nodes → count c (childrenOf W ray v) ≤ inRange c (W .shape .base v) (W .shape .children v)
+  own-children : (ray : s) (v c : ℕ) → W .forged ray ≡ false → v < W .shape .nodes
+      → count c (childrenPassed W ray v) ≤ inRange c (W .shape .base v) (W .shape .children v)
   unfolding childIndex
   own-children ray v c f h =
-      counted (count c (childrenOf W ray v)) (inRange c (W .shape .base v) (W .shape .children v))
-      (falling-once c (λ k. childAt W v (bitXor k (W .octant ray))) (λ k. passedChild W ray v (bitXor k (W .octant ray))) 8 (λ i j k l a b e. slots-apart ray v i j f k l a b e))
+      counted (count c (childrenPassed W ray v)) (inRange c (W .shape .base v) (W .shape .children v))
+      (falling-once c (λ k. childNumber W v (bitXor k (W .octant ray))) (λ k. passedChild W ray v (bitXor k (W .octant ray))) 8
+      (λ i j k l a b e. slots-apart ray v i j f k l a b e))
       (λ i.
       let q = children-iff ray v c f .0 i in
       let r = rank-lt (q .slot) 8 (W .imask v) (q .of-eight) (bit-is (q .slot) (W .imask v) ∙ q .inner) in
@@ -114,10 +117,10 @@ module _ {s d : Type 0} (W : Slots s d) (Rule : ℕ → Type 0) (laws : SlotLaws
 
   -- a position is found exactly if it stands in the leaf range of a slot that the ray passes, and passes itself
   pub positions-iff : (ray : s) (v x : ℕ) → v < W .shape .nodes → Rule v
-      → In x (positionsOf W ray v) ↔ PassesPosition W ray v x
+      → In x (positionsPassed W ray v) ↔ PassesPosition W ray v x
   positions-iff ray v x h rule = (to, from)
     where
-      to : In x (positionsOf W ray v) → PassesPosition W ray v x
+      to : In x (positionsPassed W ray v) → PassesPosition W ray v x
       to i =
           let q = in-falling x (λ b. W .positionBase v + b) (λ b. passedPosition W ray v (W .positionBase v + b)) 24 i in
           let t = told (position-tells W ray v (W .positionBase v + q .0)) (q .2) in
@@ -130,7 +133,7 @@ module _ {s d : Type 0} (W : Slots s d) (Rule : ℕ → Type 0) (laws : SlotLaws
             admitted = subst (λ (y : ℕ). W .admits ray y ≡ true) (sym (q .3)) (t .1);
           }
 
-      from : PassesPosition W ray v x → In x (positionsOf W ray v)
+      from : PassesPosition W ray v x → In x (positionsPassed W ray v)
       from q =
           let j = q .slot in
           let g = q .holds in
@@ -141,12 +144,13 @@ module _ {s d : Type 0} (W : Slots s d) (Rule : ℕ → Type 0) (laws : SlotLaws
           let i = in-range x (W .shape .start v j) (W .shape .count v j) a b in
           let t : passedPosition W ray v (W .positionBase v + (x - W .positionBase v)) ≡ true =
           rw e (tells-true (position-tells W ray v x) ((j, g .slot, (i, q .passes)), q .admitted)) in
-          subst (λ (y : ℕ). In y (positionsOf W ray v)) e
-          (falling-in (λ b. W .positionBase v + b) (λ b. passedPosition W ray v (W .positionBase v + b)) 24 (x - W .positionBase v) (omega (arith, u .0, u .1)) t)
+          subst (λ (y : ℕ). In y (positionsPassed W ray v)) e
+          (falling-in (λ b. W .positionBase v + b) (λ b. passedPosition W ray v (W .positionBase v + b)) 24 (x - W .positionBase v)
+          (omega (arith, u .0, u .1)) t)
 
-  own-positions : (ray : s) (v x : ℕ) → v < W .shape .nodes → Rule v → count x (positionsOf W ray v) ≤ held (W .shape) v x
+  own-positions : (ray : s) (v x : ℕ) → v < W .shape .nodes → Rule v → count x (positionsPassed W ray v) ≤ positionsHeld (W .shape) v x
   own-positions ray v x h rule =
-      counted (count x (positionsOf W ray v)) (held (W .shape) v x)
+      counted (count x (positionsPassed W ray v)) (positionsHeld (W .shape) v x)
       (falling-once x (λ b. W .positionBase v + b) (λ b. passedPosition W ray v (W .positionBase v + b)) 24 (λ i j k l a b e. omega arith))
       (λ i.
       let q = positions-iff ray v x h rule .0 i in
@@ -175,13 +179,13 @@ module _ {s d : Type 0} (W : Slots s d) (Rule : ℕ → Type 0) (laws : SlotLaws
     -- ---- reached and passed
 
     module _ (ray : s) (accepted : W .forged ray ≡ false) where
-      pub reached-iff : (v : ℕ) → Reached (W .shape .nodes) (testsOf W) ray v ↔ ReachedBySlots W ray v
+      pub reached-iff : (v : ℕ) → ReachedIn (W .shape .nodes) (testsOf W) ray v ↔ ReachedBySlots W ray v
       reached-iff v = (
         reached-map (W .shape .nodes) (λ u c r i. children-iff ray u c accepted .0 i) v,
         reached-map (W .shape .nodes) (λ u c r q. children-iff ray u c accepted .1 q) v,
       )
 
-      pub passed-iff : (p : ℕ) → Passed (W .shape .nodes) (testsOf W) ray p ↔ PassedBySlots W ray p
+      pub passed-iff : (p : ℕ) → PassedIn (W .shape .nodes) (testsOf W) ray p ↔ PassedBySlots W ray p
       passed-iff p = (
         λ q. let h = reached-node slots-sound ray accepted (q .0) (q .1) in
             (q .0, reached-iff (q .0) .0 (q .1), positions-iff ray (q .0) p h (sound .rule (q .0) h) .0 (q .2)),
@@ -190,7 +194,7 @@ module _ {s d : Type 0} (W : Slots s d) (Rule : ℕ → Type 0) (laws : SlotLaws
 
 -- ---- a ray that passes no more slots and admits no more positions than another
 
-module _ {s d : Type 0} (W : Slots s d) (a b : s) (fewer : (v j : ℕ) → W .passes a v j ≡ true → W .passes b v j ≡ true) where
+module _ {s d : Type 0} (W : WalkRecord s d) (a b : s) (fewer : (v j : ℕ) → W .passes a v j ≡ true → W .passes b v j ≡ true) where
   pub fewer-reached : (v : ℕ) → ReachedBySlots W a v → ReachedBySlots W b v
   fewer-reached =
       reached-map (W .shape .nodes)

@@ -45,20 +45,24 @@ pub due-stack : (octant : ℕ) (stack : List ℕ) (d : ℕ) → octant < 8 → (
 due-stack octant stack zero o h = refl
 due-stack octant stack (suc d) o h = go (hasChild (unpacked (topOf stack (suc d)))) refl (due-stack octant stack d o h)
   where
-    go : (b : Bool) → hasChild (unpacked (topOf stack (suc d))) ≡ b → dueOnStack (groupsIn octant stack d) ≡ dueWords octant stack (waitingDepth stack d)
-        → dueOnStack (childrenIn octant (unpacked (topOf stack (suc d))) ∷ groupsIn octant stack d) ≡ dueWords octant stack (cond b (suc d) (waitingDepth stack d))
+    go : (b : Bool) → hasChild (unpacked (topOf stack (suc d))) ≡ b → dueOnStack (groupsIn octant stack d)
+        ≡ dueWords octant stack (waitingDepth stack d)
+        → dueOnStack (childrenIn octant (unpacked (topOf stack (suc d))) ∷ groupsIn octant stack d)
+        ≡ dueWords octant stack (cond b (suc d) (waitingDepth stack d))
     go true e r =
         ap (λ (l : List ℕ). dueOnStack (l ∷ groupsIn octant stack d))
         (children-first octant (unpacked (topOf stack (suc d))) o (leb-true 0x100_0000 _ e) (top-bits stack (suc d) h))
     go false e r =
-        ap (λ (l : List ℕ). dueOnStack (l ∷ groupsIn octant stack d)) (children-none octant (unpacked (topOf stack (suc d))) (leb-false 0x100_0000 _ e)) ∙ r
+        ap (λ (l : List ℕ). dueOnStack (l ∷ groupsIn octant stack d))
+        (children-none octant (unpacked (topOf stack (suc d))) (leb-false 0x100_0000 _ e)) ∙ r
 
 -- a group that is due holds a child
 pub waiting-child : (stack : List ℕ) (d : ℕ) → 0 < waitingDepth stack d → hasChild (unpacked (topOf stack (waitingDepth stack d))) ≡ true
 waiting-child stack zero = λ h. absurd (omega arith)
 waiting-child stack (suc d) = go (hasChild (unpacked (topOf stack (suc d)))) refl (waiting-child stack d)
   where
-    go : (b : Bool) → hasChild (unpacked (topOf stack (suc d))) ≡ b → (0 < waitingDepth stack d → hasChild (unpacked (topOf stack (waitingDepth stack d))) ≡ true)
+    go : (b : Bool) → hasChild (unpacked (topOf stack (suc d))) ≡ b
+        → (0 < waitingDepth stack d → hasChild (unpacked (topOf stack (waitingDepth stack d))) ≡ true)
         → 0 < cond b (suc d) (waitingDepth stack d) → hasChild (unpacked (topOf stack (cond b (suc d) (waitingDepth stack d)))) ≡ true
     go true e r h = e
     go false e r h = r h
@@ -90,7 +94,8 @@ module _ (stack : List ℕ) (d : ℕ) (long : capacity ≤ length stack) where
 
   -- the rest of a group waits above the others, if it holds a child
   pub groups-pushed : (octant : ℕ) (g : Group) → octant < 8 → g .base < 2 ^ 32 → g .bits < 2 ^ 32 → (hasChild g ≡ true → d < capacity)
-      → groupsIn octant (cond (hasChild g) (pushed stack d (packed g)) stack) (cond (hasChild g) (suc d) d) ≡ push (childrenIn octant g) (groupsIn octant stack d)
+      → groupsIn octant (cond (hasChild g) (pushed stack d (packed g)) stack) (cond (hasChild g) (suc d) d)
+      ≡ push (childrenIn octant g) (groupsIn octant stack d)
   groups-pushed octant g o b w room = go (hasChild g) refl
     where
       pushes : (r : List ℕ) (x : ℕ) (t : List ℕ) (u : List (List ℕ)) → r ≡ x ∷ t → r ∷ u ≡ push r u
@@ -105,7 +110,8 @@ module _ (stack : List ℕ) (d : ℕ) (long : capacity ≤ length stack) where
           subst (λ (x : ℕ). topOf (pushed stack d (packed g)) x ≡ packed g) (add-one d) (top-pushed stack d (packed g) h long) in
           ap₂ (λ (u : Group) (l : List (List ℕ)). childrenIn octant u ∷ l) (ap unpacked t ∙ unpack-pack g b)
           (ap (λ (l : List ℕ). groupsIn octant l d) (pushed-set h (packed g)) ∙ groups-other octant stack d d (packed g) (omega arith))
-          ∙ pushes (childrenIn octant g) (firstChild octant g) (childrenIn octant (restOf g)) (groupsIn octant stack d) (children-first octant g o (leb-true 0x100_0000 _ e) w)
+          ∙ pushes (childrenIn octant g) (firstChild octant g) (childrenIn octant (restOf g)) (groupsIn octant stack d)
+          (children-first octant g o (leb-true 0x100_0000 _ e) w)
 
   -- it stays a stack of words of 64 bits
   pub pushed-length : (c : Bool) (v : ℕ) → length (cond c (pushed stack d v) stack) ≡ length stack
@@ -117,7 +123,8 @@ module _ (stack : List ℕ) (d : ℕ) (long : capacity ≤ length stack) where
       go true = length-set stack d v
       go false = refl
 
-  pub pushed-words : (c : Bool) (v : ℕ) → v < 2 ^ 64 → ((i : ℕ) → getD stack i 0 < 2 ^ 64) → (i : ℕ) → getD (cond c (pushed stack d v) stack) i 0 < 2 ^ 64
+  pub pushed-words : (c : Bool) (v : ℕ) → v < 2 ^ 64 → ((i : ℕ) → getD stack i 0 < 2 ^ 64) → (i : ℕ)
+      → getD (cond c (pushed stack d v) stack) i 0 < 2 ^ 64
   unfolding pushed
   pushed-words false v h w i = w i
   pushed-words true v h w i = go (hasRoom d) (same? i d) refl

@@ -11,8 +11,8 @@ use Rattle.lists.proofs.Tells.{told, tells-true}
 use Rattle.walk.specs.Tests.{Tests}
 use Rattle.walk.specs.Step.{Walker, Answer, tested, position, done, refused, fresh, Stepped, push, stepOf, tellOf}
 use Rattle.walk.specs.Calls.{All, Op, step, tell, runOps, reportOf, reported}
-use Rattle.walk.specs.Listing.{In, flat, Reached, first, child, Passed}
-use Rattle.walk.specs.Slots.{falling, Slots, childAt, passedChild, passedPosition, testsOf}
+use Rattle.walk.specs.Listing.{In, flat, ReachedIn, first, child, PassedIn}
+use Rattle.walk.specs.Slots.{falling, WalkRecord, childNumber, passedChild, passedPosition, testsOf}
 use Rattle.walk.proofs.Lists.{in-head, in-tail, in-none, in-one, in-right, in-append}
 use Rattle.walk.proofs.Dues.{flats, push-flats, report-hand, test-flat}
 use Rattle.walk.proofs.Cases.{step-cases}
@@ -40,12 +40,12 @@ module _ {s d : Type 0} (m : ℕ) (T : Tests s d) where
     -- what a walker that began with the ray holds, the ray passes and reaches
     record Came (w : Walker s) : Type 0 where
       pub held : Fewer ray (w .ray)
-      pub positions : (p : ℕ) → In p (w .positions) → Passed m T ray p
-      pub nodes : (c : ℕ) → In c (untested w) → c < m → Reached m T ray c
+      pub positions : (p : ℕ) → In p (w .positions) → PassedIn m T ray p
+      pub nodes : (c : ℕ) → In c (untested w) → c < m → ReachedIn m T ray c
 
     abbrev ReportsPassed : Answer → Type 0
     ReportsPassed (tested v) = Unit {0}
-    ReportsPassed (position p) = Passed m T ray p
+    ReportsPassed (position p) = PassedIn m T ray p
     ReportsPassed done = Unit {0}
     ReportsPassed (refused e) = Unit {0}
 
@@ -80,8 +80,8 @@ module _ {s d : Type 0} (m : ℕ) (T : Tests s d) where
               };
         })
       where
-        below : (x c : ℕ) (r : List ℕ) (st : List (List ℕ)) → Reached m T ray c → untested w ≡ c ∷ (flat single r ++ flats single st)
-            → In x (flat single (T .children (w .ray) c)) ⊎ In x (flats single (push r st)) → x < m → Reached m T ray x
+        below : (x c : ℕ) (r : List ℕ) (st : List (List ℕ)) → ReachedIn m T ray c → untested w ≡ c ∷ (flat single r ++ flats single st)
+            → In x (flat single (T .children (w .ray) c)) ⊎ In x (flats single (push r st)) → x < m → ReachedIn m T ray x
         below x c r st here e (inl i) l = child here (h .held .children c x (subst (In x) (flat-single (T .children (w .ray) c)) i))
         below x c r st here e (inr i) l = h .nodes x (subst (In x) (sym e) (in-tail x c _ (subst (In x) (push-flats single r st) i))) l
 
@@ -95,13 +95,13 @@ module _ {s d : Type 0} (m : ℕ) (T : Tests s d) where
       nodes = h .nodes;
     }
 
-    run-passes : (l : List (Op d)) (w : Walker s) → Came w → All (Passed m T ray) (reported (runOps m T l w .answers))
+    run-passes : (l : List (Op d)) (w : Walker s) → Came w → All (PassedIn m T ray) (reported (runOps m T l w .answers))
     unfolding runOps
     run-passes [] w h = tt
     run-passes (step n ∷ l) w h =
         let c = step-comes n w h in with (stepOf m T n w .answer) _ (c .passed) (run-passes l (stepOf m T n w .walker) (c .came))
       where
-        with : (b : Answer) (k : List ℕ) → ReportsPassed b → All (Passed m T ray) k → All (Passed m T ray) (reportOf b ++ k)
+        with : (b : Answer) (k : List ℕ) → ReportsPassed b → All (PassedIn m T ray) k → All (PassedIn m T ray) (reportOf b ++ k)
         with (tested v) k p a = a
         with (position x) k p a = (p, a)
         with done k p a = a
@@ -109,7 +109,7 @@ module _ {s d : Type 0} (m : ℕ) (T : Tests s d) where
     run-passes (tell x ∷ l) w h = run-passes l (tellOf T x w) (tell-came x w h)
 
     -- from a walker just begun
-    pub calls-pass : (l : List (Op d)) → All (Passed m T ray) (reported (runOps m T l (fresh ray) .answers))
+    pub calls-pass : (l : List (Op d)) → All (PassedIn m T ray) (reported (runOps m T l (fresh ray) .answers))
     calls-pass l =
         run-passes l (fresh ray)
         (record {
@@ -124,7 +124,7 @@ falling-more : (f : ℕ → ℕ) (b c : ℕ → Bool) (w : ℕ) → ((i : ℕ) �
 falling-more f b c w h x i =
     let q = in-falling x f b w i in subst (λ (y : ℕ). In y (falling f c w)) (sym (q .3)) (falling-in f c w (q .0) (q .1) (h (q .0) (q .2)))
 
-module _ {s d : Type 0} (W : Slots s d) where
+module _ {s d : Type 0} (W : WalkRecord s d) where
   -- a ray that was told something passes no more slots and admits no more positions, and has its octant
   pub record Lowers : Type 0 where
     pub passes : (x : d) (r : s) (v j : ℕ) → W .passes (W .told x r) v j ≡ true → W .passes r v j ≡ true
@@ -146,7 +146,7 @@ module _ {s d : Type 0} (W : Slots s d) where
     slots-fewer x r = record {
       positions = λ v p i. falling-more (λ b. W .positionBase v + b) _ _ 24 (λ b e. position-more x r v (W .positionBase v + b) e) p i;
       children = λ v c i.
-          falling-more (λ k. childAt W v (bitXor k (W .octant r))) _ _ 8 (λ k e. child-more x r v (bitXor k (W .octant r)) e) c
-          (subst (λ (o : ℕ). In c (falling (λ k. childAt W v (bitXor k o)) (λ k. passedChild W (W .told x r) v (bitXor k o)) 8))
+          falling-more (λ k. childNumber W v (bitXor k (W .octant r))) _ _ 8 (λ k e. child-more x r v (bitXor k (W .octant r)) e) c
+          (subst (λ (o : ℕ). In c (falling (λ k. childNumber W v (bitXor k o)) (λ k. passedChild W (W .told x r) v (bitXor k o)) 8))
           (lowers .octant x r) i);
     }

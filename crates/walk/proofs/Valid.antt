@@ -15,7 +15,7 @@ use Rattle.walk.specs.Tests.{Tests}
 use Rattle.causes.specs.Sizes.{sizesFit}
 use Rattle.walk.specs.Step.{Walker, done, fresh, Stepped, Due, report, test, nothing, dueOnStack, dueOf, forgedWalker, noRoom, badPosition}
 use Rattle.walk.specs.Step.{badNode, stay, emptied, afterReport, afterTest, stepOf, tellOf}
-use Rattle.walk.specs.Calls.{All, Op, step, tell, runOps, Answered, Brings}
+use Rattle.walk.specs.Calls.{All, Op, step, tell, runOps, Answered, StepsWith}
 use Rattle.walk.specs.Listing.{In}
 use Rattle.walk.specs.Lawful.{SoundTests, Unrefused}
 use Rattle.walk.proofs.Lists.{in-head, in-tail, in-none, in-one}
@@ -59,7 +59,8 @@ module _ {s d : Type 0} {S : Shape} {Rule : ℕ → Type 0} {T : Tests s d} (K :
   group-exists (c ∷ r) st i h = i c (in-head c r)
   group-exists [] st i h = stack-exists st h
 
-  node-exists : (w : Walker s) → Valid w → (c : ℕ) (r : List ℕ) (st : List (List ℕ)) → dueOf (w .positions) (w .group) (w .stack) ≡ test c r st → c < S .nodes
+  node-exists : (w : Walker s) → Valid w → (c : ℕ) (r : List ℕ) (st : List (List ℕ)) → dueOf (w .positions) (w .group) (w .stack) ≡ test c r st
+      → c < S .nodes
   node-exists w v c r st e =
       subst Exists (no-hand (w .positions) (w .group) (w .stack) (test c r st) (test-hand (w .positions) (w .group) (w .stack) c r st e) e)
       (group-exists (w .group) (w .stack) (v .nodes) (v .levels .waiting))
@@ -102,7 +103,8 @@ module _ {s d : Type 0} {S : Shape} {Rule : ℕ → Type 0} {T : Tests s d} (K :
 
   -- ---- validity is kept
 
-  pub test-valid : (n : ℕ) (w : Walker s) (c : ℕ) (r : List ℕ) (st : List (List ℕ)) → Valid w → Visits (S .nodes) T n w c r st → Valid (afterTest T w c r st .walker)
+  pub test-valid : (n : ℕ) (w : Walker s) (c : ℕ) (r : List ℕ) (st : List (List ℕ)) → Valid w → Visits (S .nodes) T n w c r st
+      → Valid (afterTest T w c r st .walker)
   test-valid n w c r st v h =
       record {
         accepted = v .accepted;
@@ -125,7 +127,8 @@ module _ {s d : Type 0} {S : Shape} {Rule : ℕ → Type 0} {T : Tests s d} (K :
       record {
         accepted = v .accepted;
         levels = record { in-hand = v .levels .in-hand; waiting = v .levels .waiting };
-        positions = λ q i. v .positions q (subst (λ (l : List ℕ). In q l) (sym (report-hand (w .positions) (w .group) (w .stack) p ps (h .is-due))) (in-tail q p ps i));
+        positions = λ q i. v .positions q (subst (λ (l : List ℕ). In q l) (sym (report-hand (w .positions) (w .group) (w .stack) p ps (h .is-due)))
+            (in-tail q p ps i));
         nodes = v .nodes;
         few = v .few;
       }
@@ -187,7 +190,7 @@ module _ {s d : Type 0} {S : Shape} {Rule : ℕ → Type 0} {T : Tests s d} (K :
 
   -- ---- lists of calls
 
-  run-answered : Unrefused S T → (l : List (Op d)) (w : Walker s) → All (Brings (S .positions)) l
+  run-answered : Unrefused S T → (l : List (Op d)) (w : Walker s) → All (StepsWith (S .positions)) l
       → Valid w → All Answered (runOps (S .nodes) T l w .answers)
   unfolding runOps
   run-answered U [] w a v = tt
@@ -204,17 +207,18 @@ empty-step T n ray h f = rw (le-leb n 65536 h, f)
 
 module _ {s d : Type 0} {S : Shape} {Rule : ℕ → Type 0} {T : Tests s d} (K : SoundTests S Rule T) where
   -- a walker that holds nothing is done at every step
-  over-answered : S .nodes ≡ 0 → S .positions ≤ 65536 → (l : List (Op d)) (ray : s) → T .forged ray ≡ false → All (Brings (S .positions)) l
+  over-answered : S .nodes ≡ 0 → S .positions ≤ 65536 → (l : List (Op d)) (ray : s) → T .forged ray ≡ false → All (StepsWith (S .positions)) l
       → All Answered (runOps (S .nodes) T l (emptied (fresh ray) .walker) .answers)
   unfolding runOps
   over-answered e h [] ray f a = tt
   over-answered e h (step n ∷ l) ray f a =
       let z : stepOf (S .nodes) T n (emptied (fresh ray) .walker) ≡ stay (emptied (fresh ray) .walker) done =
-      nothing-due-done (S .nodes) T n (emptied (fresh ray) .walker) refl (fits (S .nodes) n (omega (arith, a .0)) (omega arith)) (rw (f, le-ltb (S .nodes) 0 (omega arith))) in
+      nothing-due-done (S .nodes) T n (emptied (fresh ray) .walker) refl (fits (S .nodes) n (omega (arith, a .0)) (omega arith))
+      (rw (f, le-ltb (S .nodes) 0 (omega arith))) in
       rw z (tt, over-answered e h l ray f (a .1))
   over-answered e h (tell x ∷ l) ray f a = over-answered e h l (T .told x ray) (K .lawful .told-accepted x ray f) (a .1)
 
-  empty-answered : S .nodes ≡ 0 → S .positions ≤ 65536 → (l : List (Op d)) (ray : s) → T .forged ray ≡ false → All (Brings (S .positions)) l
+  empty-answered : S .nodes ≡ 0 → S .positions ≤ 65536 → (l : List (Op d)) (ray : s) → T .forged ray ≡ false → All (StepsWith (S .positions)) l
       → All Answered (runOps (S .nodes) T l (fresh ray) .answers)
   unfolding runOps
   empty-answered e h [] ray f a = tt
@@ -226,7 +230,7 @@ module _ {s d : Type 0} {S : Shape} {Rule : ℕ → Type 0} {T : Tests s d} (K :
 
   -- no step of any list that brings the record's own count is refused
   pub calls-answered : Unrefused S T → (l : List (Op d)) (ray : s) → T .forged ray ≡ false
-      → All (Brings (S .positions)) l
+      → All (StepsWith (S .positions)) l
       → All Answered (runOps (S .nodes) T l (fresh ray) .answers)
   calls-answered U l ray f a = go (decLt 0 (S .nodes))
     where

@@ -17,7 +17,8 @@ use Rattle.walk.specs.Step.{Answer, tested, position, done, refused}
 use Rattle.walk.specs.Queries.{Reaction, Going}
 use Rattle.walk.specs.Slots.{falling}
 use Rattle.walk.specs.Words.{Group, unpacked, isSet, positionsIn, restOf, firstPosition, pastSkipped, firstChild, hasChild, waitingDepth}
-use Rattle.walk.specs.WordStep.{WalkerWords, SteppedWords, NodeWords, forgedWords, onlyFirstWords, badChild, leaving, pastSkips, reportWords, visitWords, popWords, turnWords, advanceWords, stepWords, tellWords, InRange, Decodes}
+use Rattle.walk.specs.WordStep.{WalkerWords, SteppedWords, NodeWords, forgedWords, onlyFirstWords, badChild, leaving, pastSkips, reportWords}
+use Rattle.walk.specs.WordStep.{visitWords, popWords, turnWords, advanceWords, stepWords, tellWords, WordsFit, Decodes}
 use Rattle.walk.specs.WordQueries.{OutcomeWords, toldAllWords, followWords, queryWords}
 use Rattle.walk.proofs.Cases.{cond-elim, and-true}
 use Rattle.walk.proofs.Falling.{falling-length, falling-cut}
@@ -32,7 +33,8 @@ unfolding onesBelow
 ones-falling f n zero = refl
 ones-falling f n (suc w) = go (field 1 w n) refl (ones-falling f n w)
   where
-    go : (b : ℕ) → field 1 w n ≡ b → length (falling f (λ b. isSet b n) w) ≡ onesBelow w n → length (falling f (λ b. isSet b n) (suc w)) ≡ onesBelow (suc w) n
+    go : (b : ℕ) → field 1 w n ≡ b → length (falling f (λ b. isSet b n) w) ≡ onesBelow w n → length (falling f (λ b. isSet b n) (suc w))
+        ≡ onesBelow (suc w) n
     go zero e r = rw (clear-is w n e) (omega (arith, rank-step w n))
     go (suc zero) e r = rw (set-is w n e) (omega (arith, rank-step w n))
     go (suc (suc b)) e r = absurd (omega (arith, field-lt 1 w n))
@@ -84,7 +86,7 @@ module _ {s d : Type 0} (m : ℕ) (N : NodeWords s d) (n : ℕ) (w : WalkerWords
       cond-elim Falls (badChild m N n w g e) _ _ (λ _ h. absurd h)
       (λ b h. omega (arith, good-child m N n w g e b .untested, ones-cut (N .mask (w .ray) (firstChild (N .octant (w .ray)) g))))
 
-  turn-falls : InRange w → Falls (turnWords m N n w)
+  turn-falls : WordsFit w → Falls (turnWords m N n w)
   unfolding turnWords reportWords popWords
   turn-falls i =
       cond-elim Falls (ltb 0 (w .positions .bits)) _ _
@@ -97,7 +99,7 @@ module _ {s d : Type 0} (m : ℕ) (N : NodeWords s d) (n : ℕ) (w : WalkerWords
       (λ _ h. absurd h)))
 
 module _ {s d : Type 0} (m : ℕ) (N : NodeWords s d) where
-  advance-falls : (n : ℕ) (w : WalkerWords s) → InRange w → Falls m N n w (advanceWords m N n w)
+  advance-falls : (n : ℕ) (w : WalkerWords s) → WordsFit w → Falls m N n w (advanceWords m N n w)
   unfolding advanceWords
   advance-falls n w i =
       go (turnWords m N n (pastSkips N w) .answer) (turnWords m N n (pastSkips N w) .walker) (turn-falls m N n (pastSkips N w) (past-range N w i))
@@ -111,7 +113,8 @@ module _ {s d : Type 0} (m : ℕ) (N : NodeWords s d) where
       go done u h = λ g. absurd g
       go (refused e) u h = λ g. absurd g
 
-  pub words-fall : (n : ℕ) (w : WalkerWords s) → InRange w → Going (stepWords m N n w .answer) → stepsLeftWords m (stepWords m N n w .walker) < stepsLeftWords m w
+  pub words-fall : (n : ℕ) (w : WalkerWords s) → WordsFit w → Going (stepWords m N n w .answer)
+      → stepsLeftWords m (stepWords m N n w .walker) < stepsLeftWords m w
   unfolding stepWords
   words-fall n w i =
       cond-elim (Falls m N n w) (sizesFit m n) _ _
@@ -126,7 +129,7 @@ module _ {s d : Type 0} (m : ℕ) (N : NodeWords s d) (ps cs : s → ℕ → Lis
     told-left (x ∷ l) w = told-left l (tellWords N x w)
 
     -- more steps change nothing
-    pub query-words-enough : (f g n : ℕ) (w : WalkerWords s) (x : a) → InRange w → stepsLeftWords m w < f → stepsLeftWords m w < g
+    pub query-words-enough : (f g n : ℕ) (w : WalkerWords s) (x : a) → WordsFit w → stepsLeftWords m w < f → stepsLeftWords m w < g
         → queryWords m N react f n w x ≡ queryWords m N react g n w x
     unfolding queryWords
     query-words-enough zero g n w x i h k = absurd (omega arith)
@@ -134,14 +137,17 @@ module _ {s d : Type 0} (m : ℕ) (N : NodeWords s d) (ps cs : s → ℕ → Lis
     query-words-enough (suc f) (suc g) n w x i h k =
         go (stepWords m N n w .answer) (stepWords m N n w .walker) (step-range m N ps cs D n w i) (words-fall m N n w i) (query-words-enough f g n)
       where
-        go : (b : Answer) (u : WalkerWords s) → InRange u → (Going b → stepsLeftWords m u < stepsLeftWords m w)
-            → ((u : WalkerWords s) (x : a) → InRange u → stepsLeftWords m u < f → stepsLeftWords m u < g → queryWords m N react f n u x ≡ queryWords m N react g n u x)
+        go : (b : Answer) (u : WalkerWords s) → WordsFit u → (Going b → stepsLeftWords m u < stepsLeftWords m w)
+            → ((u : WalkerWords s) (x : a) → WordsFit u → stepsLeftWords m u < f → stepsLeftWords m u < g → queryWords m N react f n u x
+            ≡ queryWords m N react g n u x)
             → followWords m N react b u x (queryWords m N react f n) ≡ followWords m N react b u x (queryWords m N react g n)
         go (tested c) u j l q = q u x j (omega (arith, l tt)) (omega (arith, l tt))
         go (position p) u j l q =
             let r : Reaction d a = react p (u .ray) x in
             let z = told-left (r .tells) u in
-            ap (λ (o : OutcomeWords s a). cond (r .stop) (record { walker = toldAllWords N (r .tells) u; noted = r .noted; ended = position p }) o)
-            (q (toldAllWords N (r .tells) u) (r .noted) (all-range m N ps cs D react (r .tells) u j) (omega (arith, l tt)) (omega (arith, l tt)))
+            ap (λ (o : OutcomeWords s a). cond (r .stop)
+            (record { walker = toldAllWords N (r .tells) u; accumulator = r .accumulator; ended = position p }) o)
+            (q (toldAllWords N (r .tells) u) (r .accumulator) (all-range m N ps cs D react (r .tells) u j) (omega (arith, l tt))
+            (omega (arith, l tt)))
         go done u j l q = refl
         go (refused e) u j l q = refl

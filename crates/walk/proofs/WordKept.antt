@@ -11,7 +11,8 @@ use Rattle.faststack.specs.Stack.{topOf}
 use Rattle.causes.specs.Sizes.{sizesFit}
 use Rattle.walk.specs.Step.{Answer, tested, position, done, refused}
 use Rattle.walk.specs.Words.{Group, unpacked, restOf, firstPosition, firstChild, hasChild, waitingDepth}
-use Rattle.walk.specs.WordStep.{WalkerWords, SteppedWords, NodeWords, stayWords, emptiedWords, leaving, pastSkips, forgedWords, onlyFirstWords, badChild, reportWords, visitWords, popWords, turnWords, advanceWords, stepWords, tellWords}
+use Rattle.walk.specs.WordStep.{WalkerWords, SteppedWords, NodeWords, stayWords, emptiedWords, leaving, pastSkips, forgedWords}
+use Rattle.walk.specs.WordStep.{onlyFirstWords, badChild, reportWords, visitWords, popWords, turnWords, advanceWords, stepWords, tellWords}
 use Rattle.walk.proofs.Cases.{cond-elim, and-true, and-false}
 use Rattle.walk.proofs.Words.{AtFront, front-stays, empty-front}
 
@@ -138,7 +139,8 @@ module _ {s d : Type 0} (m : ℕ) (N : NodeWords s d) (n : ℕ) (w : WalkerWords
   -- ---- a walker with nothing left
 
   -- every step leaves it as it is: done if nothing refuses it
-  pub finished-step : Finished w → stepWords m N n w ≡ cond (sizesFit m n) (cond (forgedWords m N w) (stayWords w (refused 10)) (stayWords w done)) (stayWords w (refused 2))
+  pub finished-step : Finished w → stepWords m N n w
+      ≡ cond (sizesFit m n) (cond (forgedWords m N w) (stayWords w (refused 10)) (stayWords w done)) (stayWords w (refused 2))
   unfolding turnWords popWords
   finished-step f =
       let z = ltb-false 0 (w .positions .bits) (f .positions) in
@@ -146,7 +148,8 @@ module _ {s d : Type 0} (m : ℕ) (N : NodeWords s d) (n : ℕ) (w : WalkerWords
       ∙ rw (eq-eqb (w .positions .bits) 0 (omega arith), f .current, and-false (leb m 0), f .positions, f .stack)
 
 -- done stays done, whatever count a later step on the same record brings, if it is no cause of refusal
-pub words-done-stays : {s d : Type 0} (m : ℕ) (N : NodeWords s d) (n : ℕ) (w : WalkerWords s) → stepWords m N n w .answer ≡ done → (k : ℕ) → sizesFit m k ≡ true
+pub words-done-stays : {s d : Type 0} (m : ℕ) (N : NodeWords s d) (n : ℕ) (w : WalkerWords s) → stepWords m N n w .answer ≡ done → (k : ℕ)
+    → sizesFit m k ≡ true
     → stepWords m N k (stepWords m N n w .walker) ≡ stayWords (stepWords m N n w .walker) done
 words-done-stays m N n w e k z =
     let l = subst (λ (a : Answer). Leaves m N n w a (stepWords m N n w .walker)) e (words-leave m N n w) in

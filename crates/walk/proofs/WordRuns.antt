@@ -16,10 +16,11 @@ use Rattle.walk.specs.Tests.{Tests}
 use Rattle.causes.specs.Sizes.{sizesFit}
 use Rattle.walk.specs.Step.{Answer, tested, position, done, refused, Stepped, fresh, tellOf}
 use Rattle.walk.specs.Calls.{Op, step, tell, Run, runOps}
-use Rattle.walk.specs.Words.{Group, packed, unpacked, positionsIn, childrenIn, groupsIn, restOf, firstPosition, firstChild, hasChild, waitingDepth}
+use Rattle.walk.specs.Words.{Group, packed, unpacked, positionsIn, childrenIn, groupsIn, restOf, firstPosition, firstChild, hasChild}
+use Rattle.walk.specs.Words.{waitingDepth}
 use Rattle.walk.specs.WordStep.{WalkerWords, SteppedWords, NodeWords, freshWords, forgedWords, onlyFirstWords, badChild, stayWords}
 use Rattle.walk.specs.WordStep.{emptiedWords, afterReportWords, afterTestWords, leaving, pastSkips, visitWords, reportWords, popWords}
-use Rattle.walk.specs.WordStep.{turnWords, advanceWords, stepWords, tellWords, runWords, decoded, decodedRun, InRange, testsWith, Decodes}
+use Rattle.walk.specs.WordStep.{turnWords, advanceWords, stepWords, tellWords, runWords, decoded, decodedRun, WordsFit, testsWith, Decodes}
 use Rattle.walk.proofs.Cases.{cond-elim}
 use Rattle.walk.proofs.Words.{positions-none, children-none, children-first, rest-lt}
 use Rattle.walk.proofs.Stacks.{top-bits, pushed-length, pushed-words}
@@ -41,7 +42,8 @@ first-group : (o : ℕ) → o < 8 → childrenIn o (record { base = 0; bits = 0x
 unfolding leadingZeros
 first-group o h =
     children-first o (record { base = 0; bits = 0x8000_0000 }) h (omega arith) (omega arith)
-    ∙ ap₂ (λ (x : ℕ) (l : List ℕ). x ∷ l) (no-rank (bitXor 7 o) (xor-lt 3 7 o (omega arith) h)) (children-none o (record { base = 0; bits = 0 }) (omega arith))
+    ∙ ap₂ (λ (x : ℕ) (l : List ℕ). x ∷ l) (no-rank (bitXor 7 o) (xor-lt 3 7 o (omega arith) h))
+    (children-none o (record { base = 0; bits = 0 }) (omega arith))
 
 module _ {s d : Type 0} (m : ℕ) (N : NodeWords s d) (ps cs : s → ℕ → List ℕ) (D : Decodes m N ps cs) where
   abbrev T : Tests s d
@@ -49,8 +51,8 @@ module _ {s d : Type 0} (m : ℕ) (N : NodeWords s d) (ps cs : s → ℕ → Lis
 
   -- ---- words stay in range
 
-  test-range : (w : WalkerWords s) (g : Group) (e : ℕ) → InRange w → g .bits < 2 ^ 32 → g .base < 2 ^ 32 → firstChild (N .octant (w .ray)) g < m
-      → InRange (afterTestWords m N w g e .walker)
+  test-range : (w : WalkerWords s) (g : Group) (e : ℕ) → WordsFit w → g .bits < 2 ^ 32 → g .base < 2 ^ 32 → firstChild (N .octant (w .ray)) g < m
+      → WordsFit (afterTestWords m N w g e .walker)
   test-range w g e i h b l =
       record {
         positions = omega arith;
@@ -61,22 +63,22 @@ module _ {s d : Type 0} (m : ℕ) (N : NodeWords s d) (ps cs : s → ℕ → Lis
       }
 
   abbrev StaysIn : SteppedWords s → Type 0
-  StaysIn r = InRange (r .walker)
+  StaysIn r = WordsFit (r .walker)
 
-  visit-range : (n : ℕ) (w : WalkerWords s) (g : Group) (e : ℕ) → InRange w → g .bits < 2 ^ 32 → g .base < 2 ^ 32 → StaysIn (visitWords m N n w g e)
+  visit-range : (n : ℕ) (w : WalkerWords s) (g : Group) (e : ℕ) → WordsFit w → g .bits < 2 ^ 32 → g .base < 2 ^ 32 → StaysIn (visitWords m N n w g e)
   unfolding visitWords
   visit-range n w g e i h b =
       cond-elim StaysIn (badChild m N n w g e) (stayWords w (refused 10)) (afterTestWords m N w g e) (λ _. i)
       (λ z. test-range w g e i h b (good-child m N n w g e z .node))
 
-  report-range : (w : WalkerWords s) → InRange w → InRange (afterReportWords w .walker)
+  report-range : (w : WalkerWords s) → WordsFit w → WordsFit (afterReportWords w .walker)
   report-range w i =
       record { positions = rest-lt (w .positions) (i .positions); base = i .base; bits = i .bits; room = i .room; words = i .words }
 
-  empty-range : (w : WalkerWords s) → InRange w → InRange (emptiedWords w .walker)
+  empty-range : (w : WalkerWords s) → WordsFit w → WordsFit (emptiedWords w .walker)
   empty-range w i = record { positions = i .positions; base = omega arith; bits = omega arith; room = i .room; words = i .words }
 
-  turn-range : (n : ℕ) (w : WalkerWords s) → InRange w → StaysIn (turnWords m N n w)
+  turn-range : (n : ℕ) (w : WalkerWords s) → WordsFit w → StaysIn (turnWords m N n w)
   unfolding turnWords reportWords popWords
   turn-range n w i =
       cond-elim StaysIn (ltb 0 (w .positions .bits)) _ _
@@ -88,18 +90,18 @@ module _ {s d : Type 0} (m : ℕ) (N : NodeWords s d) (ps cs : s → ℕ → Lis
       (top-bits (w .stack) (waitingDepth (w .stack) (w .depth)) (i .words)) (omega arith))
       (λ _. i)))
 
-  advance-range : (n : ℕ) (w : WalkerWords s) → InRange w → StaysIn (advanceWords m N n w)
+  advance-range : (n : ℕ) (w : WalkerWords s) → WordsFit w → StaysIn (advanceWords m N n w)
   unfolding advanceWords
   advance-range n w i =
       go (turnWords m N n (pastSkips N w) .answer) (turnWords m N n (pastSkips N w) .walker) (turn-range n (pastSkips N w) (past-range N w i))
     where
-      go : (a : Answer) (u : WalkerWords s) → InRange u → InRange (leaving w a u)
+      go : (a : Answer) (u : WalkerWords s) → WordsFit u → WordsFit (leaving w a u)
       go (tested v) u h = h
       go (position p) u h = h
       go done u h = h
       go (refused e) u h = i
 
-  pub step-range : (n : ℕ) (w : WalkerWords s) → InRange w → InRange (stepWords m N n w .walker)
+  pub step-range : (n : ℕ) (w : WalkerWords s) → WordsFit w → WordsFit (stepWords m N n w .walker)
   unfolding stepWords
   step-range n w i =
       cond-elim StaysIn (sizesFit m n) _ _
@@ -110,7 +112,7 @@ module _ {s d : Type 0} (m : ℕ) (N : NodeWords s d) (ps cs : s → ℕ → Lis
 
   -- ---- telling
 
-  pub tell-range : (x : d) (w : WalkerWords s) → InRange w → InRange (tellWords N x w)
+  pub tell-range : (x : d) (w : WalkerWords s) → WordsFit w → WordsFit (tellWords N x w)
   tell-range x w i = record { positions = i .positions; base = i .base; bits = i .bits; room = i .room; words = i .words }
 
   pub tell-decoded : (x : d) (w : WalkerWords s) → decoded N (tellWords N x w) ≡ tellOf T x (decoded N w)
@@ -125,9 +127,16 @@ module _ {s d : Type 0} (m : ℕ) (N : NodeWords s d) (ps cs : s → ℕ → Lis
 
   -- ---- a walker just begun
 
-  pub fresh-range : (r : s) → InRange (freshWords r)
+  pub fresh-range : (r : s) → WordsFit (freshWords r)
   fresh-range r =
-      record { positions = omega arith; base = omega arith; bits = omega arith; room = omega (arith, length-replicate {A = ℕ} capacity 0); words = λ i. omega (arith, zeros capacity i) }
+      record {
+        positions = omega arith;
+        base = omega arith;
+        bits = omega arith;
+        room = omega (arith, length-replicate {A = ℕ} capacity 0);
+        words =
+            λ i. omega (arith, zeros capacity i);
+      }
 
   pub fresh-decoded : (r : s) → T .forged r ≡ false → decoded N (freshWords r) ≡ fresh r
   fresh-decoded r f =
@@ -136,12 +145,14 @@ module _ {s d : Type 0} (m : ℕ) (N : NodeWords s d) (ps cs : s → ℕ → Lis
 
   -- ---- lists of calls
 
-  pub run-decoded : (l : List (Op d)) (w : WalkerWords s) → InRange w → decodedRun N (runWords m N l w) ≡ runOps m T l (decoded N w)
+  pub run-decoded : (l : List (Op d)) (w : WalkerWords s) → WordsFit w → decodedRun N (runWords m N l w) ≡ runOps m T l (decoded N w)
   unfolding runWords runOps
   run-decoded [] w i = refl
   run-decoded (step n ∷ l) w i =
-      ap (λ (r : Run s). record { walker = r .walker; answers = stepWords m N n w .answer ∷ r .answers }) (run-decoded l (stepWords m N n w .walker) (step-range n w i))
-      ∙ ap (λ (r : Stepped s). record { walker = runOps m T l (r .walker) .walker; answers = r .answer ∷ runOps m T l (r .walker) .answers }) (step-decoded m N ps cs D n w i)
+      ap (λ (r : Run s). record { walker = r .walker; answers = stepWords m N n w .answer ∷ r .answers })
+      (run-decoded l (stepWords m N n w .walker) (step-range n w i))
+      ∙ ap (λ (r : Stepped s). record { walker = runOps m T l (r .walker) .walker; answers = r .answer ∷ runOps m T l (r .walker) .answers })
+      (step-decoded m N ps cs D n w i)
   run-decoded (tell x ∷ l) w i = run-decoded l (tellWords N x w) (tell-range x w i) ∙ ap (runOps m T l) (tell-decoded x w)
 
   pub calls-decoded : (l : List (Op d)) (r : s) → T .forged r ≡ false → decodedRun N (runWords m N l (freshWords r)) ≡ runOps m T l (fresh r)

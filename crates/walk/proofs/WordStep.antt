@@ -14,15 +14,19 @@ use Rattle.causes.specs.Sizes.{sizesFit}
 use Rattle.walk.specs.Step.{Walker, Answer, tested, position, done, refused, Stepped, Due, report, test, dueOf, forgedWalker, noRoom}
 use Rattle.walk.specs.Step.{badNode, onlyFirst, stay, emptied, afterReport, afterTest, advance, stepOf}
 use Rattle.walk.specs.Words.{Group, unpacked, positionsIn, childrenIn, groupsIn, restOf, firstPosition, firstChild, hasChild, waitingDepth}
-use Rattle.walk.specs.WordStep.{WalkerWords, SteppedWords, NodeWords, noGroup, forgedWords, onlyFirstWords, badChild, stayWords, emptiedWords, afterReportWords, afterTestWords, leaving, pastSkips, reportWords, visitWords, popWords, turnWords, advanceWords, stepWords, decoded, decodedStep, InRange, testsWith, Decodes}
+use Rattle.walk.specs.WordStep.{WalkerWords, SteppedWords, NodeWords, noGroup, forgedWords, onlyFirstWords, badChild, stayWords, emptiedWords}
+use Rattle.walk.specs.WordStep.{afterReportWords, afterTestWords, leaving, pastSkips, reportWords, visitWords, popWords, turnWords}
+use Rattle.walk.specs.WordStep.{advanceWords, stepWords, decoded, decodedStep, WordsFit, testsWith, Decodes}
 use Rattle.walk.proofs.Cases.{cond-elim, or-false, not-false-true}
-use Rattle.walk.proofs.Words.{positions-first, positions-none, AtFront, front-first, skipped-same, skipped-lt, skipped-front, children-none, children-first, rest-lt}
+use Rattle.walk.proofs.Words.{positions-first, positions-none, AtFront, front-first, skipped-same, skipped-lt, skipped-front, children-none}
+use Rattle.walk.proofs.Words.{children-first, rest-lt}
 use Rattle.walk.proofs.WordKept.{Rests, turn-rests}
 use Rattle.walk.proofs.Stacks.{groups-length, top-bits, dueWords, due-stack, waiting-child, groups-pushed}
 
 -- ---- tests of lists and of words
 
-cond-same : {A B : Type 0} (f : A → B) (b c : Bool) (x y : A) (u v : B) → b ≡ c → (b ≡ true → f x ≡ u) → (b ≡ false → f y ≡ v) → f (cond b x y) ≡ cond c u v
+cond-same : {A B : Type 0} (f : A → B) (b c : Bool) (x y : A) (u v : B) → b ≡ c → (b ≡ true → f x ≡ u) → (b ≡ false → f y ≡ v) → f (cond b x y)
+    ≡ cond c u v
 cond-same f true c x y u v e g h = rw (← e) (g refl)
 cond-same f false c x y u v e g h = rw (← e) (h refl)
 
@@ -34,7 +38,8 @@ not-less a b = go (decLt a b)
     go (no h) = rw (le-ltb a b (omega arith), le-leb b a (omega arith))
 
 -- the rest of a group finds no room, in words
-room-same : (octant d : ℕ) (g : Group) (st : List (List ℕ)) → octant < 8 → g .bits < 2 ^ 32 → length st ≡ d → hasChild g && not (hasRoom d) ≡ noRoom (childrenIn octant g) st
+room-same : (octant d : ℕ) (g : Group) (st : List (List ℕ)) → octant < 8 → g .bits < 2 ^ 32 → length st ≡ d → hasChild g && not (hasRoom d)
+    ≡ noRoom (childrenIn octant g) st
 room-same octant d g st o w l = go (hasChild g) refl
   where
     go : (b : Bool) → hasChild g ≡ b → b && not (hasRoom d) ≡ noRoom (childrenIn octant g) st
@@ -42,7 +47,8 @@ room-same octant d g st o w l = go (hasChild g) refl
     go true e = rw (children-first octant g o (leb-true 0x100_0000 _ e) w, l) (not-less d 32)
 
 -- only the first node is in hand, in words
-first-same : (c d : ℕ) (b : Bool) (r : List ℕ) (st : List (List ℕ)) → (b ≡ false → r ≡ []) → (b ≡ true → (x : ℕ) × (t : List ℕ) × (r ≡ x ∷ t)) → length st ≡ d
+first-same : (c d : ℕ) (b : Bool) (r : List ℕ) (st : List (List ℕ)) → (b ≡ false → r ≡ []) → (b ≡ true → (x : ℕ) × (t : List ℕ) × (r ≡ x ∷ t))
+    → length st ≡ d
     → eqb c 0 && not b && eqb d 0 ≡ onlyFirst [] (c ∷ r) st
 first-same (suc c) d b r st f g l = rw (ne-eqb (suc c) 0 (λ e. omega arith))
 first-same zero d true r st f g l = let q = g refl in rw (q .2)
@@ -56,7 +62,8 @@ pub record GoodChild {s d : Type 0} (m : ℕ) (N : NodeWords s d) (n : ℕ) (w :
   pub untested : w .tests < m
   pub rule : N .rule n (firstChild (N .octant (w .ray)) g) ≡ true
 
-pub good-child : {s d : Type 0} (m : ℕ) (N : NodeWords s d) (n : ℕ) (w : WalkerWords s) (g : Group) (e : ℕ) → badChild m N n w g e ≡ false → GoodChild m N n w g e
+pub good-child : {s d : Type 0} (m : ℕ) (N : NodeWords s d) (n : ℕ) (w : WalkerWords s) (g : Group) (e : ℕ) → badChild m N n w g e ≡ false
+    → GoodChild m N n w g e
 good-child m N n w g e z =
     let c = firstChild (N .octant (w .ray)) g in
     let r = hasChild (restOf g) && not (hasRoom e) in
@@ -66,7 +73,7 @@ good-child m N n w g e z =
     record { roomy = a3 .0; node = leb-false m c (a3 .1); untested = leb-false m (w .tests) (a2 .1); rule = not-false-true (N .rule n c) (a .1) }
 
 -- past the positions that are passed over words stay in range
-pub past-range : {s d : Type 0} (N : NodeWords s d) (w : WalkerWords s) → InRange w → InRange (pastSkips N w)
+pub past-range : {s d : Type 0} (N : NodeWords s d) (w : WalkerWords s) → WordsFit w → WordsFit (pastSkips N w)
 past-range N w i =
     record {
       positions = skipped-lt (N .skips (w .ray)) 32 (w .positions) (i .positions);
@@ -95,21 +102,28 @@ module _ {s d : Type 0} (m : ℕ) (N : NodeWords s d) (ps cs : s → ℕ → Lis
   abbrev Front : WalkerWords s → Type 0
   Front w = AtFront (N .skips (w .ray)) (w .positions)
 
-  first-held : (w : WalkerWords s) → InRange w → Front w → 0 < w .positions .bits
+  first-held : (w : WalkerWords s) → WordsFit w → Front w → 0 < w .positions .bits
       → positionsIn (N .skips (w .ray)) (w .positions) ≡ firstPosition (w .positions) ∷ positionsIn (N .skips (w .ray)) (restOf (w .positions))
   first-held w i a h = positions-first (N .skips (w .ray)) (w .positions) h (i .positions) (front-first (N .skips (w .ray)) (w .positions) a h)
 
   none-held : (w : WalkerWords s) → w .positions .bits ≡ 0 → positionsIn (N .skips (w .ray)) (w .positions) ≡ []
   none-held w e = positions-none (N .skips (w .ray)) (w .positions) e
 
-  only-same : (w : WalkerWords s) → InRange w → N .octant (w .ray) < 8 → Front w → onlyFirstWords m N w ≡ onlyIn w
+  only-same : (w : WalkerWords s) → WordsFit w → N .octant (w .ray) < 8 → Front w → onlyFirstWords m N w ≡ onlyIn w
   only-same w i o a = go (decLt 0 (w .positions .bits)) (hasChild (w .current)) refl
     where
-      rest : (b : Bool) → hasChild (restOf (w .current)) ≡ b → b ≡ true → (x : ℕ) × (t : List ℕ) × (childrenIn (N .octant (w .ray)) (restOf (w .current)) ≡ x ∷ t)
-      rest b e z = (_, _, children-first (N .octant (w .ray)) (restOf (w .current)) o (leb-true 0x100_0000 _ (e ∙ z)) (rest-lt (w .current) (i .bits)))
+      rest : (b : Bool) → hasChild (restOf (w .current)) ≡ b → b ≡ true → (x : ℕ) × (t : List ℕ)
+          × (childrenIn (N .octant (w .ray)) (restOf (w .current)) ≡ x ∷ t)
+      rest b e z = (
+        _,
+        _,
+        children-first (N .octant (w .ray)) (restOf (w .current)) o (leb-true 0x100_0000 _ (e ∙ z))
+            (rest-lt (w .current) (i .bits)),
+      )
 
       go : Dec (0 < w .positions .bits) → (b : Bool) → hasChild (w .current) ≡ b
-          → eqb (w .positions .bits) 0 && b && eqb (firstChild (N .octant (w .ray)) (w .current)) 0 && not (hasChild (restOf (w .current))) && eqb (w .depth) 0
+          → eqb (w .positions .bits) 0 && b && eqb (firstChild (N .octant (w .ray)) (w .current)) 0 && not (hasChild (restOf (w .current))) && eqb
+          (w .depth) 0
           ≡ onlyIn w
       go (yes h) b e = rw (first-held w i a h, ne-eqb (w .positions .bits) 0 (λ z. omega arith))
       go (no h) false e =
@@ -129,28 +143,37 @@ module _ {s d : Type 0} (m : ℕ) (N : NodeWords s d) (ps cs : s → ℕ → Lis
           (groups-length (N .octant (w .ray)) (w .depth) (w .stack)))
 
   same-walker : (r : s) (t : ℕ) (h k : List ℕ) (g l : List ℕ) (st u : List (List ℕ)) → h ≡ k → g ≡ l → st ≡ u
-      → _≡_ {A = Walker s} (record { ray = r; tests = t; positions = h; group = g; stack = st }) (record { ray = r; tests = t; positions = k; group = l; stack = u })
+      → _≡_ {A = Walker s} (record { ray = r; tests = t; positions = h; group = g; stack = st })
+      (record { ray = r; tests = t; positions = k; group = l; stack = u })
   same-walker r t h k g l st u a b c = λ i. record { ray = r; tests = t; positions = a i; group = b i; stack = c i }
 
   -- ---- a visit
 
-  visit-decoded : (n : ℕ) (w : WalkerWords s) (g : Group) (e : ℕ) → T .forged (w .ray) ≡ false → capacity ≤ length (w .stack) → hasChild g ≡ true → g .bits < 2 ^ 32 → g .base < 2 ^ 32
+  visit-decoded : (n : ℕ) (w : WalkerWords s) (g : Group) (e : ℕ) → T .forged (w .ray) ≡ false → capacity ≤ length (w .stack) → hasChild g ≡ true
+      → g .bits < 2 ^ 32 → g .base < 2 ^ 32
       → decodedStep N (visitWords m N n w g e)
-      ≡ advance m T n (decoded N w) (test (firstChild (N .octant (w .ray)) g) (childrenIn (N .octant (w .ray)) (restOf g)) (groupsIn (N .octant (w .ray)) (w .stack) e))
+      ≡ advance m T n (decoded N w) (test (firstChild (N .octant (w .ray)) g) (childrenIn (N .octant (w .ray)) (restOf g))
+      (groupsIn (N .octant (w .ray)) (w .stack) e))
   unfolding visitWords
   visit-decoded n w g e f long h l b =
-      cond-same (decodedStep N) (badChild m N n w g e) (badNode m T n (w .tests) (firstChild (N .octant (w .ray)) g) (childrenIn (N .octant (w .ray)) (restOf g)) (groupsIn (N .octant (w .ray)) (w .stack) e))
+      cond-same (decodedStep N) (badChild m N n w g e)
+      (badNode m T n (w .tests) (firstChild (N .octant (w .ray)) g) (childrenIn (N .octant (w .ray)) (restOf g))
+      (groupsIn (N .octant (w .ray)) (w .stack) e))
       _ _ _ _ same-bad (λ _. refl) after
     where
       small : N .octant (w .ray) < 8
       small = D .octant-lt (w .ray) f
 
-      same-room : hasChild (restOf g) && not (hasRoom e) ≡ noRoom (childrenIn (N .octant (w .ray)) (restOf g)) (groupsIn (N .octant (w .ray)) (w .stack) e)
-      same-room = room-same (N .octant (w .ray)) e (restOf g) (groupsIn (N .octant (w .ray)) (w .stack) e) small (rest-lt g l) (groups-length (N .octant (w .ray)) e (w .stack))
+      same-room : hasChild (restOf g) && not (hasRoom e)
+          ≡ noRoom (childrenIn (N .octant (w .ray)) (restOf g)) (groupsIn (N .octant (w .ray)) (w .stack) e)
+      same-room = room-same (N .octant (w .ray)) e (restOf g) (groupsIn (N .octant (w .ray)) (w .stack) e) small (rest-lt g l)
+          (groups-length (N .octant (w .ray)) e (w .stack))
 
       same-bad : badChild m N n w g e
-          ≡ badNode m T n (w .tests) (firstChild (N .octant (w .ray)) g) (childrenIn (N .octant (w .ray)) (restOf g)) (groupsIn (N .octant (w .ray)) (w .stack) e)
-      same-bad = ap (λ (x : Bool). x || leb m (firstChild (N .octant (w .ray)) g) || leb m (w .tests) || not (T .rule n (firstChild (N .octant (w .ray)) g))) same-room
+          ≡ badNode m T n (w .tests) (firstChild (N .octant (w .ray)) g) (childrenIn (N .octant (w .ray)) (restOf g))
+          (groupsIn (N .octant (w .ray)) (w .stack) e)
+      same-bad = ap (λ (x : Bool). x || leb m (firstChild (N .octant (w .ray)) g) || leb m (w .tests) || not
+          (T .rule n (firstChild (N .octant (w .ray)) g))) same-room
 
       room : hasChild (restOf g) && not (hasRoom e) ≡ false → hasChild (restOf g) ≡ true → e < capacity
       room z y = ltb-true e capacity (go (hasRoom e) (subst (λ (x : Bool). x && not (hasRoom e) ≡ false) y z))
@@ -161,7 +184,8 @@ module _ {s d : Type 0} (m : ℕ) (N : NodeWords s d) (ps cs : s → ℕ → Lis
 
       after : badChild m N n w g e ≡ false
           → decodedStep N (afterTestWords m N w g e)
-          ≡ afterTest T (decoded N w) (firstChild (N .octant (w .ray)) g) (childrenIn (N .octant (w .ray)) (restOf g)) (groupsIn (N .octant (w .ray)) (w .stack) e)
+          ≡ afterTest T (decoded N w) (firstChild (N .octant (w .ray)) g) (childrenIn (N .octant (w .ray)) (restOf g))
+          (groupsIn (N .octant (w .ray)) (w .stack) e)
       after z =
           let k = good-child m N n w g e z in
           ap (λ (u : Walker s). stay u (tested (firstChild (N .octant (w .ray)) g)))
@@ -172,7 +196,8 @@ module _ {s d : Type 0} (m : ℕ) (N : NodeWords s d) (ps cs : s → ℕ → Lis
 
   -- ---- what is due
 
-  pop-decoded : (n : ℕ) (w : WalkerWords s) (e : ℕ) → InRange w → T .forged (w .ray) ≡ false → (0 < e → hasChild (unpacked (topOf (w .stack) e)) ≡ true)
+  pop-decoded : (n : ℕ) (w : WalkerWords s) (e : ℕ) → WordsFit w → T .forged (w .ray) ≡ false
+      → (0 < e → hasChild (unpacked (topOf (w .stack) e)) ≡ true)
       → decodedStep N (popWords m N n w e) ≡ advance m T n (decoded N w) (dueWords (N .octant (w .ray)) (w .stack) e)
   unfolding popWords
   pop-decoded n w zero i f h = refl
@@ -187,7 +212,7 @@ module _ {s d : Type 0} (m : ℕ) (N : NodeWords s d) (ps cs : s → ℕ → Lis
       decodedStep N r
       ≡ advance m T n (decoded N w) (dueIn w)
 
-  turn-decoded : (n : ℕ) (w : WalkerWords s) → InRange w → T .forged (w .ray) ≡ false → Front w → DoesDue n w (turnWords m N n w)
+  turn-decoded : (n : ℕ) (w : WalkerWords s) → WordsFit w → T .forged (w .ray) ≡ false → Front w → DoesDue n w (turnWords m N n w)
   unfolding turnWords reportWords
   turn-decoded n w i f front =
       cond-elim (DoesDue n w) (ltb 0 (w .positions .bits)) _ _ (λ a. in-hand (ltb-true 0 _ a))
@@ -220,7 +245,8 @@ module _ {s d : Type 0} (m : ℕ) (N : NodeWords s d) (ps cs : s → ℕ → Lis
 
       in-group : w .positions .bits ≤ 0 → hasChild (w .current) ≡ true → DoesDue n w (visitWords m N n w (w .current) (w .depth))
       in-group a b =
-          go (test (firstChild (N .octant (w .ray)) (w .current)) (childrenIn (N .octant (w .ray)) (restOf (w .current))) (groupsIn (N .octant (w .ray)) (w .stack) (w .depth)))
+          go (test (firstChild (N .octant (w .ray)) (w .current)) (childrenIn (N .octant (w .ray)) (restOf (w .current)))
+          (groupsIn (N .octant (w .ray)) (w .stack) (w .depth)))
           (ap₂ (λ (l h : List ℕ). dueOf l h (groupsIn (N .octant (w .ray)) (w .stack) (w .depth))) (none-held w (omega arith))
           (children-first (N .octant (w .ray)) (w .current) small (leb-true 0x100_0000 _ b) (i .bits)))
           (visitWords m N n w (w .current) (w .depth)) (visit-decoded n w (w .current) (w .depth) f (i .room) b (i .bits) (i .base))
@@ -236,14 +262,14 @@ module _ {s d : Type 0} (m : ℕ) (N : NodeWords s d) (ps cs : s → ℕ → Lis
 
   -- ---- past the positions that are passed over
 
-  past-front : (w : WalkerWords s) → InRange w → Front (pastSkips N w)
+  past-front : (w : WalkerWords s) → WordsFit w → Front (pastSkips N w)
   past-front w i = skipped-front (N .skips (w .ray)) 32 (w .positions) (omega arith) (i .positions)
 
-  past-decoded : (w : WalkerWords s) → InRange w → decoded N (pastSkips N w) ≡ decoded N w
+  past-decoded : (w : WalkerWords s) → WordsFit w → decoded N (pastSkips N w) ≡ decoded N w
   past-decoded w i =
       same-walker (w .ray) (w .tests) _ _ _ _ _ _ (skipped-same (N .skips (w .ray)) 32 (w .positions) (i .positions)) refl refl
 
-  advance-decoded : (n : ℕ) (w : WalkerWords s) → InRange w → T .forged (w .ray) ≡ false → DoesDue n w (advanceWords m N n w)
+  advance-decoded : (n : ℕ) (w : WalkerWords s) → WordsFit w → T .forged (w .ray) ≡ false → DoesDue n w (advanceWords m N n w)
   unfolding advanceWords
   advance-decoded n w i f =
       go (r .answer) (r .walker) (turn-rests m N n (pastSkips N w))
@@ -266,14 +292,15 @@ module _ {s d : Type 0} (m : ℕ) (N : NodeWords s d) (ps cs : s → ℕ → Lis
   same-forged w = ap (λ (x : ℕ). T .forged (w .ray) || ltb 32 x || ltb m (w .tests)) (sym (groups-length (N .octant (w .ray)) (w .depth) (w .stack)))
 
   pub forged-ray : (w : WalkerWords s) → forgedWords m N w ≡ false → T .forged (w .ray) ≡ false
-  forged-ray w a = or-false (T .forged (w .ray)) (ltb capacity (w .depth)) (or-false (T .forged (w .ray) || ltb capacity (w .depth)) (ltb m (w .tests)) a .0) .0
+  forged-ray w a = or-false (T .forged (w .ray)) (ltb capacity (w .depth))
+      (or-false (T .forged (w .ray) || ltb capacity (w .depth)) (ltb m (w .tests)) a .0) .0
 
   empty-decoded : (w : WalkerWords s) → decodedStep N (emptiedWords w) ≡ emptied (decoded N w)
   empty-decoded w =
       ap (λ (u : Walker s). stay u done)
       (same-walker (w .ray) (w .tests) _ _ _ _ _ _ refl (children-none (N .octant (w .ray)) noGroup (omega arith)) refl)
 
-  unforged-decoded : (n : ℕ) (w : WalkerWords s) → InRange w → forgedWords m N w ≡ false
+  unforged-decoded : (n : ℕ) (w : WalkerWords s) → WordsFit w → forgedWords m N w ≡ false
       → decodedStep N (cond (leb m 0 && onlyFirstWords m N (pastSkips N w)) (emptiedWords (pastSkips N w)) (advanceWords m N n w))
       ≡ cond (leb m 0 && onlyIn w) (emptied (decoded N w)) (advance m T n (decoded N w) (dueIn w))
   unforged-decoded n w i a =
@@ -284,7 +311,7 @@ module _ {s d : Type 0} (m : ℕ) (N : NodeWords s d) (ps cs : s → ℕ → Lis
       (ap (λ (x : Bool). leb m 0 && x) (o ∙ ap (λ (v : Walker s). onlyFirst (v .positions) (v .group) (v .stack)) (past-decoded w i)))
       (λ _. empty-decoded u ∙ ap emptied (past-decoded w i)) (λ _. advance-decoded n w i (forged-ray w a))
 
-  pub step-decoded : (n : ℕ) (w : WalkerWords s) → InRange w → decodedStep N (stepWords m N n w) ≡ stepOf m T n (decoded N w)
+  pub step-decoded : (n : ℕ) (w : WalkerWords s) → WordsFit w → decodedStep N (stepWords m N n w) ≡ stepOf m T n (decoded N w)
   unfolding stepWords stepOf
   step-decoded n w i =
       cond-same (decodedStep N) (sizesFit m n) (sizesFit m n) (cond (forgedWords m N w) (stayWords w (refused 10)) goes-on) (stayWords w (refused 2))

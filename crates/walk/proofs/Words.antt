@@ -176,7 +176,8 @@ children-none octant g h =
     falling-none (λ k. childIndex (g .base) (g .bits) (bitXor k octant)) (λ k. isSet (24 + k) (g .bits)) 8
     (λ i l. past-clear 24 (24 + i) (g .bits) h (omega arith))
 
-pub children-first : (octant : ℕ) (g : Group) → octant < 8 → 0x100_0000 ≤ g .bits → g .bits < 2 ^ 32 → childrenIn octant g ≡ firstChild octant g ∷ childrenIn octant (restOf g)
+pub children-first : (octant : ℕ) (g : Group) → octant < 8 → 0x100_0000 ≤ g .bits → g .bits < 2 ^ 32 → childrenIn octant g
+    ≡ firstChild octant g ∷ childrenIn octant (restOf g)
 unfolding childIndex
 children-first octant g q h l =
     falling-top (number g) (λ k. isSet (24 + k) (g .bits)) 8 (top - 24) (omega (arith, t .within)) here
@@ -198,11 +199,13 @@ children-first octant g q h l =
     here : isSet (24 + (top - 24)) (g .bits) ≡ true
     here = let e : 24 + (top - 24) ≡ top = omega (arith, high) in rw e (set-is top (g .bits) (top-set 32 (g .bits) top t))
 
-    lower : falling (number g) (λ k. isSet (24 + k) (g .bits)) (top - 24) ≡ falling (number (restOf g)) (λ k. isSet (24 + k) (restOf g .bits)) (top - 24)
+    lower : falling (number g) (λ k. isSet (24 + k) (g .bits)) (top - 24)
+        ≡ falling (number (restOf g)) (λ k. isSet (24 + k) (restOf g .bits)) (top - 24)
     lower =
         falling-same (number g) (number (restOf g)) (λ k. isSet (24 + k) (g .bits)) (λ k. isSet (24 + k) (restOf g .bits)) (top - 24)
         (λ i k. sym (cut-set top (24 + i) (g .bits) (omega arith)))
-        (λ i k e. ap (λ (x : ℕ). g .base + x) (sym (cut-rank top (bitXor i octant) (g .bits) (omega (arith, high, t .within, xor-lt 3 i octant (omega (arith, t .within)) q)))))
+        (λ i k e. ap (λ (x : ℕ). g .base + x) (sym (cut-rank top (bitXor i octant) (g .bits)
+        (omega (arith, high, t .within, xor-lt 3 i octant (omega (arith, t .within)) q)))))
 
     upper : childrenIn octant (restOf g) ≡ falling (number (restOf g)) (λ k. isSet (24 + k) (restOf g .bits)) (top - 24)
     upper =

@@ -49,6 +49,6 @@ Answered done = Unit {0}
 Answered (refused e) = ⊥
 
 -- a step brings the record's own count
-abbrev pub Brings : {d : Type 0} → ℕ → Op d → Type 0
-Brings n (step k) = k ≡ n
-Brings n (tell x) = Unit {0}
+abbrev pub StepsWith : {d : Type 0} → ℕ → Op d → Type 0
+StepsWith n (step k) = k ≡ n
+StepsWith n (tell x) = Unit {0}

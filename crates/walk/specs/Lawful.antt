@@ -5,7 +5,7 @@ use Prim.Native.Nat.{ℕ, _≤_, _<_}
 use lib.ListN.{length}
 use Rattle.lists.specs.Counts.{count}
 use Rattle.soundness.specs.Range.{inRange}
-use Rattle.soundness.specs.Shape.{Shape, held, Placed}
+use Rattle.soundness.specs.Shape.{Shape, positionsHeld, RangesPlaced}
 use Rattle.soundness.specs.Sound.{Sound}
 use Rattle.walk.specs.Tests.{Tests}
 
@@ -13,10 +13,11 @@ pub record Lawful {s d : Type 0} (S : Shape) (Rule : ℕ → Type 0) (T : Tests 
   -- the rule as a statement and as a test, for the record's own count of positions
   pub passes-rule : (v : ℕ) → v < S .nodes → Rule v → T .rule (S .positions) v ≡ true
   -- the rule says where a node's ranges lie
-  pub placed : (v : ℕ) → v < S .nodes → Rule v → Placed S v
+  pub placed : (v : ℕ) → v < S .nodes → Rule v → RangesPlaced S v
   -- a ray passes none but the node's own positions and children, each once
-  pub own-positions : (ray : s) (v x : ℕ) → T .forged ray ≡ false → v < S .nodes → Rule v → count x (T .positions ray v) ≤ held S v x
-  pub own-children : (ray : s) (v c : ℕ) → T .forged ray ≡ false → v < S .nodes → Rule v → count c (T .children ray v) ≤ inRange c (S .base v) (S .children v)
+  pub own-positions : (ray : s) (v x : ℕ) → T .forged ray ≡ false → v < S .nodes → Rule v → count x (T .positions ray v) ≤ positionsHeld S v x
+  pub own-children : (ray : s) (v c : ℕ) → T .forged ray ≡ false → v < S .nodes → Rule v
+      → count c (T .children ray v) ≤ inRange c (S .base v) (S .children v)
   -- telling makes no ray a forged one
   pub told-accepted : (x : d) (ray : s) → T .forged ray ≡ false → T .forged (T .told x ray) ≡ false
 

@@ -18,9 +18,9 @@ module _ {A : Type 0} (e : A) (op : A → A → A) where
   joined f (x ∷ l) = op (f x) (joined f l)
 
   -- the values at v and at all that lies at most k levels below it, less one; `next` says what lies right below
-  unfoldable pub gather : (ℕ → List ℕ) → (ℕ → A) → ℕ → ℕ → A
-  gather next value zero v = e
-  gather next value (suc k) v = op (value v) (joined (gather next value k) (next v))
+  unfoldable pub gatherBelow : (ℕ → List ℕ) → (ℕ → A) → ℕ → ℕ → A
+  gatherBelow next value zero v = e
+  gatherBelow next value (suc k) v = op (value v) (joined (gatherBelow next value k) (next v))
 
 -- the lists that a function gives at the members of a list, one after the other
 abbrev pub flat : (ℕ → List ℕ) → List ℕ → List ℕ
@@ -40,16 +40,16 @@ PassedBy m Child Position p = (v : ℕ) × ReachedBy m Child v × Position v p
 -- ---- a ray over a record of m nodes, by the lists that its tests give
 
 module _ {s d : Type 0} (m : ℕ) (T : Tests s d) (ray : s) where
-  abbrev pub Reached : ℕ → Type 0
-  Reached = ReachedBy m (λ v c. In c (T .children ray v))
+  abbrev pub ReachedIn : ℕ → Type 0
+  ReachedIn = ReachedBy m (λ v c. In c (T .children ray v))
 
-  abbrev pub Passed : ℕ → Type 0
-  Passed = PassedBy m (λ v c. In c (T .children ray v)) (λ v p. In p (T .positions ray v))
+  abbrev pub PassedIn : ℕ → Type 0
+  PassedIn = PassedBy m (λ v c. In c (T .children ray v)) (λ v p. In p (T .positions ray v))
 
   -- Node v's listing: its passed positions, then the listings of its passed children, each in the order of the tests. Levels run to m at most.
   abbrev pub listing : ℕ → List ℕ
-  listing v = gather [] _++_ (T .children ray) (T .positions ray) m v
+  listing v = gatherBelow [] _++_ (T .children ray) (T .positions ray) m v
 
   -- the nodes reached from node v, itself first, in the same order
   abbrev pub reachedFrom : ℕ → List ℕ
-  reachedFrom v = gather [] _++_ (T .children ray) (λ u. u ∷ []) m v
+  reachedFrom v = gatherBelow [] _++_ (T .children ray) (λ u. u ∷ []) m v

@@ -3,14 +3,14 @@ use mathlib.Core.Bool.{true, false, not}
 use mathlib.Core.Path.{_≡_}
 use Prim.Native.Nat.{ℕ, _+_, _^_, _<_}
 use lib.Bits.{bitXor}
-use Rattle.walk.specs.Slots.{Slots, passedChild, inPassedSlot}
+use Rattle.walk.specs.Slots.{WalkRecord, passedChild, inPassedSlot}
 use Rattle.walk.specs.Words.{isSet}
 use Rattle.walk.specs.WordStep.{NodeWords}
 
-module _ {s d : Type 0} (W : Slots s d) (mask : s → ℕ → ℕ) where
+module _ {s d : Type 0} (W : WalkRecord s d) (mask : s → ℕ → ℕ) where
   -- a record's own fields, with a mask for each ray and node
-  abbrev pub wordsOf : NodeWords s d
-  wordsOf = record {
+  abbrev pub fieldsOf : NodeWords s d
+  fieldsOf = record {
     rule = W .rule;
     told = W .told;
     forged = W .forged;

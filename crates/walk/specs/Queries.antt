@@ -9,14 +9,14 @@ use Rattle.walk.specs.Calls.{Op, step, tell}
 
 -- what a query does with a position: what it has noted since, which distances it tells, and whether it stops
 pub record Reaction (d a : Type 0) : Type 0 where
-  pub noted : a
+  pub accumulator : a
   pub tells : List d
   pub stop : Bool
 
 -- how a query ended: with done, with a refusal, or with the position at which it stopped
-pub record Outcome (s a : Type 0) : Type 0 where
+pub record QueryOutcome (s a : Type 0) : Type 0 where
   pub walker : Walker s
-  pub noted : a
+  pub accumulator : a
   pub ended : Answer
 
 -- several distances told
@@ -30,18 +30,19 @@ tellings (x ∷ l) = tell x ∷ tellings l
 
 module _ {s d a : Type 0} (m : ℕ) (T : Tests s d) (react : ℕ → s → a → Reaction d a) where
   -- what follows an answer, `go` being the rest of the query
-  abbrev pub follow : Answer → Walker s → a → (Walker s → a → Outcome s a) → Outcome s a
+  abbrev pub follow : Answer → Walker s → a → (Walker s → a → QueryOutcome s a) → QueryOutcome s a
   follow (tested v) w x go = go w x
   follow (position p) w x go =
       let r : Reaction d a = react p (w .ray) x in
-      cond (r .stop) (record { walker = toldAll T (r .tells) w; noted = r .noted; ended = position p }) (go (toldAll T (r .tells) w) (r .noted))
-  follow done w x go = record { walker = w; noted = x; ended = done }
-  follow (refused e) w x go = record { walker = w; noted = x; ended = refused e }
+      cond (r .stop) (record { walker = toldAll T (r .tells) w; accumulator = r .accumulator; ended = position p })
+      (go (toldAll T (r .tells) w) (r .accumulator))
+  follow done w x go = record { walker = w; accumulator = x; ended = done }
+  follow (refused e) w x go = record { walker = w; accumulator = x; ended = refused e }
 
   -- at most f steps, for n positions, from a walker and with something noted already
-  unfoldable pub query : ℕ → ℕ → Walker s → a → Outcome s a
+  unfoldable pub query : ℕ → ℕ → Walker s → a → QueryOutcome s a
   unfolding stepOf
-  query zero n w x = record { walker = w; noted = x; ended = tested 0 }
+  query zero n w x = record { walker = w; accumulator = x; ended = tested 0 }
   query (suc f) n w x = follow (stepOf m T n w .answer) (stepOf m T n w .walker) x (query f n)
 
   -- the calls that a query makes
@@ -49,14 +50,14 @@ module _ {s d a : Type 0} (m : ℕ) (T : Tests s d) (react : ℕ → s → a →
   callsAfter (tested v) w x go = go w x
   callsAfter (position p) w x go =
       let r : Reaction d a = react p (w .ray) x in
-      tellings (r .tells) ++ cond (r .stop) [] (go (toldAll T (r .tells) w) (r .noted))
+      tellings (r .tells) ++ cond (r .stop) [] (go (toldAll T (r .tells) w) (r .accumulator))
   callsAfter done w x go = []
   callsAfter (refused e) w x go = []
 
-  unfoldable pub calls : ℕ → ℕ → Walker s → a → List (Op d)
+  unfoldable pub queryCalls : ℕ → ℕ → Walker s → a → List (Op d)
   unfolding stepOf
-  calls zero n w x = []
-  calls (suc f) n w x = step n ∷ callsAfter (stepOf m T n w .answer) (stepOf m T n w .walker) x (calls f n)
+  queryCalls zero n w x = []
+  queryCalls (suc f) n w x = step n ∷ callsAfter (stepOf m T n w .answer) (stepOf m T n w .walker) x (queryCalls f n)
 
 -- More steps than any query takes: a test and at most 24 positions for each node, and the last that says done.
 abbrev pub stepsFor : ℕ → ℕ
@@ -65,10 +66,10 @@ stepsFor m = suc (25 * m)
 -- ---- any-hit: each position is appended
 
 abbrev pub append : {s d : Type 0} → ℕ → s → List ℕ → Reaction d (List ℕ)
-append p r x = record { noted = x ++ (p ∷ []); tells = []; stop = false }
+append p r x = record { accumulator = x ++ (p ∷ []); tells = []; stop = false }
 
-abbrev pub anyHitOf : {s d : Type 0} → ℕ → Tests s d → ℕ → s → Outcome s (List ℕ)
-anyHitOf m T n ray = query m T append (stepsFor m) n (fresh ray) []
+abbrev pub anyHitRun : {s d : Type 0} → ℕ → Tests s d → ℕ → s → QueryOutcome s (List ℕ)
+anyHitRun m T n ray = query m T append (stepsFor m) n (fresh ray) []
 
 -- ---- closest and miss, for any panes
 
@@ -86,20 +87,20 @@ pub data Found (d : Type 0) : Type 0 where
 module _ {s d : Type 0} (pane : ℕ → s → Pane d) (nearer : d → s → Bool) where
   -- closest: a distance below the reach is noted and told, so that of equal distances the first counts
   abbrev pub lower : Bool → ℕ → d → Found d → Reaction d (Found d)
-  lower true p t x = record { noted = hit p t; tells = t ∷ []; stop = false }
-  lower false p t x = record { noted = x; tells = []; stop = false }
+  lower true p t x = record { accumulator = hit p t; tells = t ∷ []; stop = false }
+  lower false p t x = record { accumulator = x; tells = []; stop = false }
 
   abbrev pub lowerAt : Pane d → ℕ → s → Found d → Reaction d (Found d)
   lowerAt (distance t) p r x = lower (nearer t r) p t x
-  lowerAt (faulty e) p r x = record { noted = fault e; tells = []; stop = true }
+  lowerAt (faulty e) p r x = record { accumulator = fault e; tells = []; stop = true }
 
   abbrev pub closest : ℕ → s → Found d → Reaction d (Found d)
   closest p r x = lowerAt (pane p r) p r x
 
   -- miss: the first distance below the reach ends it
   abbrev pub blockAt : Pane d → ℕ → s → Found d → Reaction d (Found d)
-  blockAt (distance t) p r x = record { noted = cond (nearer t r) (hit p t) x; tells = []; stop = nearer t r }
-  blockAt (faulty e) p r x = record { noted = fault e; tells = []; stop = true }
+  blockAt (distance t) p r x = record { accumulator = cond (nearer t r) (hit p t) x; tells = []; stop = nearer t r }
+  blockAt (faulty e) p r x = record { accumulator = fault e; tells = []; stop = true }
 
   abbrev pub miss : ℕ → s → Found d → Reaction d (Found d)
   miss p r x = blockAt (pane p r) p r x

@@ -6,7 +6,7 @@ use Prim.Native.Nat.{ℕ}
 use Rattle.walk.specs.Tests.{Tests}
 use Rattle.walk.specs.Step.{Walker, Answer, tested, position, done, refused}
 use Rattle.walk.specs.Calls.{All, runOps, reported}
-use Rattle.walk.specs.Queries.{Reaction, calls}
+use Rattle.walk.specs.Queries.{Reaction, queryCalls}
 
 -- ---- lists of calls
 
@@ -31,15 +31,15 @@ toldRay T (x ∷ l) r = toldRay T l (T .told x r)
 
 module _ {s d a : Type 0} (m : ℕ) (T : Tests s d) (react : ℕ → s → a → Reaction d a) where
   -- the positions that a query's steps report, in order
-  abbrev pub reports : ℕ → ℕ → Walker s → a → List ℕ
-  reports f n w x = reported (runOps m T (calls m T react f n w x) w .answers)
+  abbrev pub queryReports : ℕ → ℕ → Walker s → a → List ℕ
+  queryReports f n w x = reported (runOps m T (queryCalls m T react f n w x) w .answers)
 
   -- From x noted, it reacts to these positions in turn, to each with the ray as told until then, and has noted y. One that stops it is the last.
   abbrev pub Notes : s → a → List ℕ → a → Type 0
   Notes r x [] y = y ≡ x
   Notes r x (p ∷ l) y = elim (react p r x .stop) [
-    | true ↦ (l ≡ []) × (y ≡ react p r x .noted)
-    | false ↦ Notes (toldRay T (react p r x .tells) r) (react p r x .noted) l y
+    | true ↦ (l ≡ []) × (y ≡ react p r x .accumulator)
+    | false ↦ Notes (toldRay T (react p r x .tells) r) (react p r x .accumulator) l y
   ]
 
 -- a list up to its first member of a kind, that one included

@@ -7,7 +7,7 @@ use lib.Bits.{bitXor}
 use lib.Dec.{eqb}
 use Rattle.words.specs.Ones.{onesBelow}
 use Rattle.soundness.specs.Range.{inRange}
-use Rattle.soundness.specs.Shape.{Shape, Holds, Placed}
+use Rattle.soundness.specs.Shape.{Shape, Holds, RangesPlaced}
 use Rattle.node.specs.Node.{innerBit, childIndex}
 use Rattle.walk.specs.Tests.{Tests}
 use Rattle.walk.specs.Listing.{ReachedBy, PassedBy}
@@ -23,7 +23,7 @@ someBelow b zero = false
 someBelow b (suc w) = b w || someBelow b w
 
 -- A record and a ray: s and d as in `Tests`.
-pub record Slots (s d : Type 0) : Type 0 where
+pub record WalkRecord (s d : Type 0) : Type 0 where
   pub shape : Shape
   -- bit j is 1 where slot j of the node holds a child
   pub imask : ℕ → ℕ
@@ -40,10 +40,10 @@ pub record Slots (s d : Type 0) : Type 0 where
   pub told : d → s → s
   pub forged : s → Bool
 
-module _ {s d : Type 0} (W : Slots s d) where
+module _ {s d : Type 0} (W : WalkRecord s d) where
   -- the number of the child in slot j of node v
-  abbrev pub childAt : ℕ → ℕ → ℕ
-  childAt v j = childIndex (W .shape .base v) (W .imask v) j
+  abbrev pub childNumber : ℕ → ℕ → ℕ
+  childNumber v j = childIndex (W .shape .base v) (W .imask v) j
 
   -- slot j of node v holds a child that the ray passes
   abbrev pub passedChild : s → ℕ → ℕ → Bool
@@ -58,15 +58,15 @@ module _ {s d : Type 0} (W : Slots s d) where
   passedPosition ray v x = inPassedSlot ray v x && W .admits ray x
 
   -- the passed positions of a node are 24 at most, the highest first; the octant plays no part
-  abbrev pub positionsOf : s → ℕ → List ℕ
-  positionsOf ray v = falling (λ b. W .positionBase v + b) (λ b. passedPosition ray v (W .positionBase v + b)) 24
+  abbrev pub positionsPassed : s → ℕ → List ℕ
+  positionsPassed ray v = falling (λ b. W .positionBase v + b) (λ b. passedPosition ray v (W .positionBase v + b)) 24
 
   -- the passed children by falling slot XOR octant
-  abbrev pub childrenOf : s → ℕ → List ℕ
-  childrenOf ray v = falling (λ k. childAt v (bitXor k (W .octant ray))) (λ k. passedChild ray v (bitXor k (W .octant ray))) 8
+  abbrev pub childrenPassed : s → ℕ → List ℕ
+  childrenPassed ray v = falling (λ k. childNumber v (bitXor k (W .octant ray))) (λ k. passedChild ray v (bitXor k (W .octant ray))) 8
 
   abbrev pub testsOf : Tests s d
-  testsOf = record { rule = W .rule; positions = positionsOf; children = childrenOf; told = W .told; forged = W .forged; absent = W .absent }
+  testsOf = record { rule = W .rule; positions = positionsPassed; children = childrenPassed; told = W .told; forged = W .forged; absent = W .absent }
 
   -- ---- in the words of the demand
 
@@ -76,7 +76,7 @@ module _ {s d : Type 0} (W : Slots s d) where
     pub of-eight : slot < 8
     pub inner : innerBit (W .imask v) slot ≡ 1
     pub passes : W .passes ray v slot ≡ true
-    pub is-child : c ≡ childAt v slot
+    pub is-child : c ≡ childNumber v slot
 
   -- position p stands in a slot of node v that the ray passes, and the ray admits it
   pub record PassesPosition (ray : s) (v p : ℕ) : Type 0 where
@@ -96,7 +96,7 @@ module _ {s d : Type 0} (W : Slots s d) where
 
   pub record SlotLaws (Rule : ℕ → Type 0) : Type 0 where
     pub passes-rule : (v : ℕ) → v < W .shape .nodes → Rule v → W .rule (W .shape .positions) v ≡ true
-    pub placed : (v : ℕ) → v < W .shape .nodes → Rule v → Placed (W .shape) v
+    pub placed : (v : ℕ) → v < W .shape .nodes → Rule v → RangesPlaced (W .shape) v
     -- a child range has a node for each one of imask
     pub ones : (v : ℕ) → v < W .shape .nodes → W .shape .children v ≡ onesBelow 8 (W .imask v)
     -- leaf ranges lie among the 24 positions from the node's base on

@@ -3,12 +3,12 @@ use mathlib.Core.Bool.{cond}
 use mathlib.Core.List.{List, [], _∷_}
 use Prim.Native.Nat.{ℕ, zero, suc}
 use Rattle.walk.specs.Step.{Answer, tested, position, done, refused}
-use Rattle.walk.specs.Queries.{Reaction, Outcome}
+use Rattle.walk.specs.Queries.{Reaction, QueryOutcome}
 use Rattle.walk.specs.WordStep.{WalkerWords, NodeWords, stepWords, tellWords, decoded}
 
 pub record OutcomeWords (s a : Type 0) : Type 0 where
   pub walker : WalkerWords s
-  pub noted : a
+  pub accumulator : a
   pub ended : Answer
 
 abbrev pub toldAllWords : {s d : Type 0} → NodeWords s d → List d → WalkerWords s → WalkerWords s
@@ -16,19 +16,20 @@ toldAllWords N [] w = w
 toldAllWords N (x ∷ l) w = toldAllWords N l (tellWords N x w)
 
 -- the outcome on lists that it stands for
-abbrev pub decodedOutcome : {s d a : Type 0} → NodeWords s d → OutcomeWords s a → Outcome s a
-decodedOutcome N o = record { walker = decoded N (o .walker); noted = o .noted; ended = o .ended }
+abbrev pub decodedOutcome : {s d a : Type 0} → NodeWords s d → OutcomeWords s a → QueryOutcome s a
+decodedOutcome N o = record { walker = decoded N (o .walker); accumulator = o .accumulator; ended = o .ended }
 
 module _ {s d a : Type 0} (m : ℕ) (N : NodeWords s d) (react : ℕ → s → a → Reaction d a) where
   abbrev pub followWords : Answer → WalkerWords s → a → (WalkerWords s → a → OutcomeWords s a) → OutcomeWords s a
   followWords (tested v) w x go = go w x
   followWords (position p) w x go =
       let r : Reaction d a = react p (w .ray) x in
-      cond (r .stop) (record { walker = toldAllWords N (r .tells) w; noted = r .noted; ended = position p }) (go (toldAllWords N (r .tells) w) (r .noted))
-  followWords done w x go = record { walker = w; noted = x; ended = done }
-  followWords (refused e) w x go = record { walker = w; noted = x; ended = refused e }
+      cond (r .stop) (record { walker = toldAllWords N (r .tells) w; accumulator = r .accumulator; ended = position p })
+      (go (toldAllWords N (r .tells) w) (r .accumulator))
+  followWords done w x go = record { walker = w; accumulator = x; ended = done }
+  followWords (refused e) w x go = record { walker = w; accumulator = x; ended = refused e }
 
   unfoldable pub queryWords : ℕ → ℕ → WalkerWords s → a → OutcomeWords s a
   unfolding stepWords
-  queryWords zero n w x = record { walker = w; noted = x; ended = tested 0 }
+  queryWords zero n w x = record { walker = w; accumulator = x; ended = tested 0 }
   queryWords (suc f) n w x = followWords (stepWords m N n w .answer) (stepWords m N n w .walker) x (queryWords f n)

@@ -10,7 +10,8 @@ use Rattle.walk.specs.Tests.{Tests}
 use Rattle.walk.specs.Step.{Walker, Answer, tested, position, done, refused, Stepped, stay}
 use Rattle.walk.specs.Calls.{Op, step, tell, Run}
 use Rattle.causes.specs.Sizes.{sizesFit}
-use Rattle.walk.specs.Words.{Group, packed, unpacked, positionsIn, childrenIn, groupsIn, restOf, firstPosition, pastSkipped, firstChild, hasChild, waitingDepth}
+use Rattle.walk.specs.Words.{Group, packed, unpacked, positionsIn, childrenIn, groupsIn, restOf, firstPosition, pastSkipped, firstChild}
+use Rattle.walk.specs.Words.{hasChild, waitingDepth}
 
 pub record WalkerWords (s : Type 0) : Type 0 where
   pub ray : s
@@ -45,10 +46,18 @@ noGroup = record { base = 0; bits = 0 }
 
 -- a walker just begun: the first node is the only child of a group without imask
 abbrev pub freshWords : {s : Type 0} → s → WalkerWords s
-freshWords r = record { ray = r; tests = 0; positions = noGroup; current = record { base = 0; bits = 0x8000_0000 }; depth = 0; stack = replicate capacity 0 }
+freshWords r = record {
+  ray = r;
+  tests = 0;
+  positions = noGroup;
+  current = record { base = 0; bits = 0x8000_0000 };
+  depth = 0;
+  stack = replicate
+      capacity 0;
+}
 
 -- all words are in range, as a walker's fields of 32 and 64 bits are
-pub record InRange {s : Type 0} (w : WalkerWords s) : Type 0 where
+pub record WordsFit {s : Type 0} (w : WalkerWords s) : Type 0 where
   pub positions : w .positions .bits < 2 ^ 32
   pub base : w .current .base < 2 ^ 32
   pub bits : w .current .bits < 2 ^ 32
@@ -113,7 +122,15 @@ module _ {s d : Type 0} (N : NodeWords s d) where
   passedChildren r v = record { base = N .childBase v; bits = N .mask r v / 0x100_0000 * 0x100_0000 + N .imask v }
 
   abbrev pub tellWords : d → WalkerWords s → WalkerWords s
-  tellWords x w = record { ray = N .told x (w .ray); tests = w .tests; positions = w .positions; current = w .current; depth = w .depth; stack = w .stack }
+  tellWords x w = record {
+    ray = N .told x (w .ray);
+    tests = w .tests;
+    positions = w .positions;
+    current = w .current;
+    depth = w .depth;
+    stack =
+        w .stack;
+  }
 
   -- the walker on lists that the words stand for
   abbrev pub decoded : WalkerWords s → Walker s
@@ -158,7 +175,8 @@ module _ {s d : Type 0} (m : ℕ) (N : NodeWords s d) where
   forgedWords w = N .forged (w .ray) || ltb capacity (w .depth) || ltb m (w .tests)
 
   abbrev pub onlyFirstWords : WalkerWords s → Bool
-  onlyFirstWords w = eqb (w .positions .bits) 0 && hasChild (w .current) && eqb (firstChild (N .octant (w .ray)) (w .current)) 0 && not (hasChild (restOf (w .current))) && eqb (w .depth) 0
+  onlyFirstWords w = eqb (w .positions .bits) 0 && hasChild (w .current) && eqb (firstChild (N .octant (w .ray)) (w .current)) 0 && not
+      (hasChild (restOf (w .current))) && eqb (w .depth) 0
 
   -- the first child of group g may not be tested, with d groups below
   abbrev pub badChild : ℕ → WalkerWords s → Group → ℕ → Bool
@@ -236,4 +254,5 @@ module _ {s d : Type 0} (m : ℕ) (N : NodeWords s d) where
     pub child-base-lt : (v : ℕ) → v < m → N .childBase v < 2 ^ 32
     pub positions-are : (r : s) (n v : ℕ) → N .forged r ≡ false → v < m → N .rule n v ≡ true
         → positionsIn (N .skips r) (passedPositions N r v) ≡ positions r v
-    pub children-are : (r : s) (n v : ℕ) → N .forged r ≡ false → v < m → N .rule n v ≡ true → childrenIn (N .octant r) (passedChildren N r v) ≡ children r v
+    pub children-are : (r : s) (n v : ℕ) → N .forged r ≡ false → v < m → N .rule n v ≡ true → childrenIn (N .octant r) (passedChildren N r v)
+        ≡ children r v

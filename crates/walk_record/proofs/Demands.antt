@@ -10,11 +10,11 @@ use Rattle.soundness.specs.Sound.{Deepest}
 use Rattle.record_shape.specs.Record.{Nodes, shapeIn, RuleIn, SoundIn}
 use Rattle.walk.specs.Tests.{Tests}
 use Rattle.walk.specs.Step.{Answer, fresh}
-use Rattle.walk.specs.Calls.{All, Op, Run, runOps, reported, Answered, Brings}
+use Rattle.walk.specs.Calls.{All, Op, Run, runOps, reported, Answered, StepsWith}
 use Rattle.walk.specs.Lawful.{SoundTests, Unrefused}
 use Rattle.walk.specs.Listing.{flat, listing}
-use Rattle.walk.specs.Queries.{Reaction, Outcome, query, stepsFor, Halted, Ended}
-use Rattle.walk.specs.Slots.{Slots, positionsOf, childrenOf, testsOf, ReachedBySlots, PassedBySlots, SlotLaws}
+use Rattle.walk.specs.Queries.{Reaction, QueryOutcome, query, stepsFor, Halted, Ended}
+use Rattle.walk.specs.Slots.{WalkRecord, positionsPassed, childrenPassed, testsOf, ReachedBySlots, PassedBySlots, SlotLaws}
 use Rattle.walk.specs.WordStep.{freshWords, decodedRun}
 use Rattle.walk.specs.WordQueries.{decodedOutcome}
 use Rattle.walk.proofs.Lists.{all-map}
@@ -55,7 +55,7 @@ module _ {s d : Type 0} (N : Nodes) (R : Rays s d) (rays : RayLaws R) (fields : 
     -- so every query ends
     pub query-halts : Halted (queryIn N R react x n r .ended)
     query-halts =
-        subst (λ (o : Outcome s a). Halted (o .ended)) (sym query-on-lists)
+        subst (λ (o : QueryOutcome s a). Halted (o .ended)) (sym query-on-lists)
         (Ends.query-halts (N .count) (testsOf (slotsIn N R n)) (slots-narrow (slotsIn N R n) _) react n r x)
 
 -- ---- a sound record
@@ -71,7 +71,7 @@ pub record SoundWalk {s d : Type 0} (N : Nodes) (R : Rays s d) (n : ℕ) (r : s)
   pub accepted : R .forged r ≡ false
 
 module _ {s d : Type 0} {N : Nodes} {R : Rays s d} {n : ℕ} {r : s} (w : SoundWalk N R n r) where
-  abbrev W : Slots s d
+  abbrev W : WalkRecord s d
   W = slotsIn N R n
 
   abbrev T : Tests s d
@@ -126,7 +126,7 @@ module _ {s d : Type 0} {N : Nodes} {R : Rays s d} {n : ℕ} {r : s} (w : SoundW
       }
 
   -- where each step brings the record's own count of positions none is refused
-  pub calls-answered : (l : List (Op d)) → All (Brings n) l → All Answered (runIn N R l (freshWords r) .answers)
+  pub calls-answered : (l : List (Op d)) → All (StepsWith n) l → All Answered (runIn N R l (freshWords r) .answers)
   unfolding shapeIn
   calls-answered l b = carried (λ a. All Answered a) l (Valid.calls-answered K U l r (w .accepted) b)
 
@@ -136,7 +136,7 @@ module _ {s d : Type 0} {N : Nodes} {R : Rays s d} {n : ℕ} {r : s} (w : SoundW
   pub query-answered : {a : Type 0} (react : ℕ → s → a → Reaction d a) (x : a) → Ended (queryIn N R react x n r .ended)
   unfolding shapeIn
   query-answered {a} react x =
-      subst (λ (o : Outcome s a). Ended (o .ended)) (sym (query-on-lists N R (w .rays) (w .fields) n r (w .accepted) react x))
+      subst (λ (o : QueryOutcome s a). Ended (o .ended)) (sym (query-on-lists N R (w .rays) (w .fields) n r (w .accepted) react x))
       (Ends.query-answered K U react r (w .accepted) x)
 
   -- any-hit lists the first node's listing, each position passed once and no other, after as many tests as nodes are reached
@@ -150,6 +150,6 @@ module _ {s d : Type 0} {N : Nodes} {R : Rays s d} {n : ℕ} {r : s} (w : SoundW
 
   -- and a node lists what the ray passes in it, then what its reached children list, each in the order of the walk
   pub listing-order : (v : ℕ) → v < N .count
-      → listing (N .count) T r v ≡ positionsOf W r v ++ flat (listing (N .count) T r) (childrenOf W r v)
+      → listing (N .count) T r v ≡ positionsPassed W r v ++ flat (listing (N .count) T r) (childrenPassed W r v)
   unfolding shapeIn
   listing-order = listing-is K r (w .accepted)

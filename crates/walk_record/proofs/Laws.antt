@@ -12,10 +12,10 @@ use Rattle.words.specs.Fields.{field}
 use Rattle.words.proofs.Le.{le-lt}
 use Rattle.soundness.proofs.Range.{in-range, range-stands}
 use Rattle.node.specs.Node.{nodeFrom, innerBit, codeCount}
-use Rattle.decode.proofs.Decode.{slot-back}
-use Rattle.rule.specs.Rule.{Rule, SlotRule, empty, child, leaf, nodeRule}
-use Rattle.hits.proofs.HitBits.{mask-lt, child-bit-set, child-bit-of, position-bit-of, position-bit-set}
-use Rattle.record_shape.specs.Record.{Nodes, metaAt, leafCount, shapeIn, RuleIn}
+use Rattle.node_meta.proofs.Decode.{slot-back}
+use Rattle.node_rule.specs.Rule.{Rule, SlotRule, empty, child, leaf, nodeRule}
+use Rattle.node_hits.proofs.HitBits.{mask-lt, child-bit-set, child-bit-of, position-bit-of, position-bit-set}
+use Rattle.record_shape.specs.Record.{Nodes, metaAt, slotPositions, shapeIn, RuleIn}
 use Rattle.record_shape.proofs.Placed.{placed}
 use Rattle.record_shape.proofs.Record.{node-tells}
 use Rattle.walk.specs.Slots.{passedChild, inPassedSlot, SlotLaws}
@@ -26,9 +26,9 @@ use Rattle.walk_record.specs.Record.{Rays, RayLaws, FieldsFitIn, FieldsF
 
 -- ---- what the rule says of a leaf range
 
-leaf-window : (meta bit s base n : ℕ) → SlotRule meta bit s base n → 0 < leafCount bit meta → meta % 32 + leafCount bit meta ≤ 24
-unfolding leafCount onesBelow
-leaf-window meta zero s base n (empty e f) h = let z : leafCount 0 meta ≡ 0 = rw e in absurd (omega arith)
+leaf-window : (meta bit s base n : ℕ) → SlotRule meta bit s base n → 0 < slotPositions bit meta → meta % 32 + slotPositions bit meta ≤ 24
+unfolding slotPositions onesBelow
+leaf-window meta zero s base n (empty e f) h = let z : slotPositions 0 meta ≡ 0 = rw e in absurd (omega arith)
 leaf-window meta (suc k) s base n (empty e f) h = absurd (omega arith)
 leaf-window meta zero s base n (child e f) h = absurd (omega arith)
 leaf-window meta (suc k) s base n (child e f) h = absurd (omega arith)
@@ -36,13 +36,13 @@ leaf-window meta zero s base n (leaf r f a b) h = a
 leaf-window meta (suc k) s base n (leaf r f a b) h = absurd (omega arith)
 
 -- only a slot that holds no child has positions
-leaf-count : (bit meta : ℕ) → 0 < leafCount bit meta → (bit ≡ 0) × (leafCount bit meta ≡ codeCount meta)
-unfolding leafCount
+leaf-count : (bit meta : ℕ) → 0 < slotPositions bit meta → (bit ≡ 0) × (slotPositions bit meta ≡ codeCount meta)
+unfolding slotPositions
 leaf-count zero meta h = (refl, refl)
 leaf-count (suc bit) meta h = absurd (omega arith)
 
-leaf-counts : (bit meta : ℕ) → bit ≡ 0 → leafCount bit meta ≡ codeCount meta
-unfolding leafCount
+leaf-counts : (bit meta : ℕ) → bit ≡ 0 → slotPositions bit meta ≡ codeCount meta
+unfolding slotPositions
 leaf-counts bit meta e = rw e
 
 module _ {s d : Type 0} (N : Nodes) (R : Rays s d) (laws : RayLaws R) (n : ℕ) where
@@ -110,13 +110,13 @@ module _ {s d : Type 0} (N : Nodes) (R : Rays s d) (laws : RayLaws R) (n : ℕ) 
           let q = position-bit-of (slotTest N R r v) (N .node v) (R .octant r) k (laws .octant-lt r f) (met k v e .slots) b l z in
           let j = q .0 in
           let c = leaf-counts (bit j) (meta j) (q .1 .outer) in
-          let g = in-range (base + b) (base + meta j % 32) (leafCount (bit j) (meta j)) (omega (arith, q .1 .from)) (omega (arith, q .1 .upto)) in
+          let g = in-range (base + b) (base + meta j % 32) (slotPositions (bit j) (meta j)) (omega (arith, q .1 .from)) (omega (arith, q .1 .upto)) in
           (j, q .1 .slot, (g, q .1 .passed))
 
       from : PassedSlot (slotsIn N R n) r v (base + b) → field 1 b (maskIn N R r v) ≡ 1
       from q =
           let j = q .0 in
-          let g = range-stands (base + b) (base + meta j % 32) (leafCount (bit j) (meta j)) (omega (arith, q .2 .0)) in
+          let g = range-stands (base + b) (base + meta j % 32) (slotPositions (bit j) (meta j)) (omega (arith, q .2 .0)) in
           let c = leaf-count (bit j) (meta j) (omega (arith, g .0, g .1)) in
           position-bit-set (slotTest N R r v) (N .node v) (R .octant r) k (laws .octant-lt r f) (met k v e .slots) b j (q .1) (c .0)
           (q .2 .1) (omega (arith, g .0)) (omega (arith, g .1, c .1))

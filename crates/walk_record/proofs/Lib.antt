@@ -1,6 +1,6 @@
 pub mod Laws
 pub mod Steps
 pub mod Demands
-pub mod Beam
+pub mod WalkRay
 pub mod Reach
 pub mod Example

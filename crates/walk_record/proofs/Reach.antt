@@ -11,12 +11,12 @@ use Rattle.ray.specs.declared.Ray.{Ray}
 use Rattle.ray.specs.Ray.{counts}
 use Rattle.ray.proofs.Counts.{counts-below}
 use Rattle.node.specs.Node.{noSlot}
-use Rattle.slot.specs.Mask.{passesSlot}
+use Rattle.node_slot.specs.Mask.{passesSlot}
 use Rattle.record_shape.specs.Record.{Nodes, nodesAt}
-use Rattle.hits.proofs.Reach.{LowerReach, lower-reach-passes-fewer}
+use Rattle.node_hits.proofs.Reach.{LowerReach, lower-reach-passes-fewer}
 use Rattle.walk.proofs.Slots.{fewer-reached, fewer-passed}
 use Rattle.walk_record.specs.Record.{slotsAt}
-use Rattle.walk_record.specs.Beam.{Beam, beamOf, reaching, toldBeam, beams}
+use Rattle.walk_record.specs.WalkRay.{WalkRay, walkRay, reaching, toldWalkRay, byBoxes}
 use Rattle.walk_record.specs.Walk.{Reached, Passed}
 
 passed-slot : (N : Nodes) (r s : Ray) → LowerReach r s → (v j : ℕ) → passesSlot (N .node v) r j ≡ true → passesSlot (N .node v) s j ≡ true
@@ -24,10 +24,10 @@ passed-slot N r s lower v j = lower-reach-passes-fewer (N .node v) (getD (N .nod
 
 module _ (bytes : List ℕ) (n : ℕ) (r s : Ray) (lower : LowerReach r s) where
   pub lower-reach-reaches-fewer : (v : ℕ) → Reached bytes n r v → Reached bytes n s v
-  lower-reach-reaches-fewer = fewer-reached (slotsAt bytes beams n) (beamOf r) (beamOf s) (passed-slot (nodesAt bytes) r s lower)
+  lower-reach-reaches-fewer = fewer-reached (slotsAt bytes byBoxes n) (walkRay r) (walkRay s) (passed-slot (nodesAt bytes) r s lower)
 
   pub lower-reach-meets-fewer : (p : ℕ) → Passed bytes n r p → Passed bytes n s p
-  lower-reach-meets-fewer = fewer-passed (slotsAt bytes beams n) (beamOf r) (beamOf s) (passed-slot (nodesAt bytes) r s lower) (λ p e. e)
+  lower-reach-meets-fewer = fewer-passed (slotsAt bytes byBoxes n) (walkRay r) (walkRay s) (passed-slot (nodesAt bytes) r s lower) (λ p e. e)
 
 -- ---- telling
 
@@ -36,20 +36,20 @@ told-lower : (t : Float) (r : Ray) → counts r t ≡ true → LowerReach (reach
 told-lower t r h = record { origin = refl; direction = refl; inverse = refl; tmin = refl; reach = le-of-lt t (r .tmax) (counts-below r t h) }
 
 -- so that what a higher reach keeps held before the telling
-told-held : (P : Ray → Type 0) → ((r s : Ray) → LowerReach r s → P r → P s) → (t : Float) (b : Beam) → P (toldBeam t b .ray) → P (b .ray)
+told-held : (P : Ray → Type 0) → ((r s : Ray) → LowerReach r s → P r → P s) → (t : Float) (b : WalkRay) → P (toldWalkRay t b .ray) → P (b .ray)
 told-held P keeps t b = go (counts (b .ray) t) refl
   where
     go : (c : Bool) → counts (b .ray) t ≡ c → P (cond c (reaching t (b .ray)) (b .ray)) → P (b .ray)
     go true e = keeps (reaching t (b .ray)) (b .ray) (told-lower t (b .ray) e)
     go false e = λ q. q
 
-pub told-passes-fewer : (N : Nodes) (t : Float) (b : Beam) (v j : ℕ) → passesSlot (N .node v) (toldBeam t b .ray) j ≡ true
+pub told-passes-fewer : (N : Nodes) (t : Float) (b : WalkRay) (v j : ℕ) → passesSlot (N .node v) (toldWalkRay t b .ray) j ≡ true
     → passesSlot (N .node v) (b .ray) j ≡ true
 told-passes-fewer N t b v j = told-held (λ r. passesSlot (N .node v) r j ≡ true) (λ r s l. passed-slot N r s l v j) t b
 
-module _ (bytes : List ℕ) (n : ℕ) (t : Float) (b : Beam) where
-  pub told-reaches-fewer : (v : ℕ) → Reached bytes n (toldBeam t b .ray) v → Reached bytes n (b .ray) v
+module _ (bytes : List ℕ) (n : ℕ) (t : Float) (b : WalkRay) where
+  pub told-reaches-fewer : (v : ℕ) → Reached bytes n (toldWalkRay t b .ray) v → Reached bytes n (b .ray) v
   told-reaches-fewer v = told-held (λ r. Reached bytes n r v) (λ r s l. lower-reach-reaches-fewer bytes n r s l v) t b
 
-  pub told-meets-fewer : (p : ℕ) → Passed bytes n (toldBeam t b .ray) p → Passed bytes n (b .ray) p
+  pub told-meets-fewer : (p : ℕ) → Passed bytes n (toldWalkRay t b .ray) p → Passed bytes n (b .ray) p
   told-meets-fewer p = told-held (λ r. Passed bytes n r p) (λ r s l. lower-reach-meets-fewer bytes n r s l p) t b

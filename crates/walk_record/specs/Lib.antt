@@ -1,3 +1,3 @@
 pub mod Record
-pub mod Beam
+pub mod WalkRay
 pub mod Walk

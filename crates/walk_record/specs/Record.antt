@@ -4,10 +4,10 @@ use mathlib.Core.List.{List}
 use mathlib.Core.Path.{_≡_}
 use Prim.Native.Nat.{ℕ, _^_, _<_}
 use Rattle.node.specs.declared.Node.{Node}
-use Rattle.rule.specs.Rule.{nodeRule}
-use Rattle.slot.specs.Mask.{hitMaskOf}
+use Rattle.node_rule.specs.Rule.{nodeRule}
+use Rattle.node_slot.specs.Mask.{hitMaskOf}
 use Rattle.record_shape.specs.Record.{Nodes, nodesAt, shapeIn}
-use Rattle.walk.specs.Slots.{Slots}
+use Rattle.walk.specs.Slots.{WalkRecord}
 use Rattle.walk.specs.WordStep.{NodeWords}
 
 -- How a walker's ray is read: s is what it holds of one, d is what is told.
@@ -43,7 +43,7 @@ module _ {s d : Type 0} (N : Nodes) (R : Rays s d) where
   slotTest r v j = R .passes r v (N .node v) j
 
   -- the slots of a record of n positions
-  abbrev pub slotsIn : ℕ → Slots s d
+  abbrev pub slotsIn : ℕ → WalkRecord s d
   slotsIn n = record {
     shape = shapeIn N n;
     imask = λ v. N .node v .imask;
@@ -81,7 +81,7 @@ module _ {s d : Type 0} (N : Nodes) (R : Rays s d) where
 abbrev pub FieldsFit : List ℕ → Type 0
 FieldsFit bytes = FieldsFitIn (nodesAt bytes)
 
-abbrev pub slotsAt : {s d : Type 0} → List ℕ → Rays s d → ℕ → Slots s d
+abbrev pub slotsAt : {s d : Type 0} → List ℕ → Rays s d → ℕ → WalkRecord s d
 slotsAt bytes R n = slotsIn (nodesAt bytes) R n
 
 abbrev pub nodeWordsAt : {s d : Type 0} → List ℕ → Rays s d → NodeWords s d

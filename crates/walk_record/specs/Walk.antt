@@ -10,7 +10,7 @@ use Rattle.walk.specs.Slots.{testsOf, ReachedBySlots, PassedBySlots}
 use Rattle.walk.specs.WordStep.{WalkerWords, SteppedWords, RunWords, freshWords, stepWords, runWords}
 use Rattle.walk.specs.WordQueries.{OutcomeWords, queryWords}
 use Rattle.walk_record.specs.Record.{Rays, slotsIn, nodeWordsIn, slotsAt}
-use Rattle.walk_record.specs.Beam.{beamOf, beams}
+use Rattle.walk_record.specs.WalkRay.{walkRay, byBoxes}
 
 module _ {s d : Type 0} (N : Nodes) (R : Rays s d) where
   -- one step of a walker, the record taken to have n positions
@@ -61,7 +61,7 @@ module _ {s d : Type 0} (bytes : List ℕ) (R : Rays s d) where
 -- ---- what a ray reaches and passes there, by boxes alone
 
 abbrev pub Reached : List ℕ → ℕ → Ray → ℕ → Type 0
-Reached bytes n ray = ReachedBySlots (slotsAt bytes beams n) (beamOf ray)
+Reached bytes n ray = ReachedBySlots (slotsAt bytes byBoxes n) (walkRay ray)
 
 abbrev pub Passed : List ℕ → ℕ → Ray → ℕ → Type 0
-Passed bytes n ray = PassedBySlots (slotsAt bytes beams n) (beamOf ray)
+Passed bytes n ray = PassedBySlots (slotsAt bytes byBoxes n) (walkRay ray)

@@ -5,14 +5,14 @@ use Prim.Native.Nat.{ℕ}
 use lib.Dec.{eqb}
 use borrow.Author.Tests.{ne-eqb}
 use Rattle.walk.specs.WordStep.{WalkerWords}
-use Rattle.walk_record.specs.Beam.{Beam}
-use Rattle.walker_state.specs.State.{State, walkerIn, Leaves}
+use Rattle.walk_record.specs.WalkRay.{WalkRay}
+use Rattle.walker_state.specs.State.{HeldWords, walkerIn, Leaves}
 
-pub kept : (s : State) (w : WalkerWords Beam) (b : Bool) → b ≡ true → Leaves b s s w
+pub kept : (s : HeldWords) (w : WalkerWords WalkRay) (b : Bool) → b ≡ true → Leaves b s s w
 unfolding Leaves
 kept s w b e = subst (λ (x : Bool). Leaves x s s w) (sym e) refl
 
-pub holds : (before after : State) (w : WalkerWords Beam) (b : Bool) → b ≡ false → walkerIn (after .head) (after .stack) ≡ w
+pub holds : (before after : HeldWords) (w : WalkerWords WalkRay) (b : Bool) → b ≡ false → walkerIn (after .head) (after .stack) ≡ w
     → Leaves b before after w
 unfolding Leaves
 holds before after w b e h = subst (λ (x : Bool). Leaves x before after w) (sym e) h

@@ -12,15 +12,15 @@ use Rattle.ray.specs.Ray.{acceptedRay}
 use Rattle.walk.specs.WordStep.{WalkerWords, SteppedWords, RunWords, NodeWords, freshWords, leaving, pastSkips}
 use Rattle.walk.specs.WordStep.{forgedWords, onlyFirstWords, turnWords, advanceWords, stepWords}
 use Rattle.walk.proofs.Cases.{cond-elim}
-use Rattle.walk_record.specs.Beam.{Beam, beamOf, beams}
+use Rattle.walk_record.specs.WalkRay.{WalkRay, walkRay, byBoxes}
 use Rattle.walk_record.specs.Record.{nodeWordsAt}
 use Rattle.walk_record.specs.Walk.{stepAt}
 use Rattle.record_shape.specs.Record.{nodeCount}
 use Rattle.traverse.specs.Calls.{RecordOp, stepOn, tells, runEach}
 use Rattle.traverse.specs.Walker.{started, stepBytes}
 use Rattle.traverse.proofs.Begun.{starts-fresh}
-use Rattle.walker_state.specs.State.{State, isRefused, Leaves}
-use Rattle.walker_state.specs.Calls.{heldBy, Leads, none, steps, told}
+use Rattle.walker_state.specs.State.{HeldWords, isRefused, Leaves}
+use Rattle.walker_state.specs.Calls.{heldBy, CallsLead, none, steps, told}
 
 not-true : {A : Type 0} → _≡_ {A = Bool} false true → A
 not-true e = absurd (subst T (sym e) tt)
@@ -46,21 +46,21 @@ module _ {s d : Type 0} (m : ℕ) (N : NodeWords s d) (n : ℕ) (w : WalkerWords
       (λ _. left (turnWords m N n (pastSkips N w) .answer) (turnWords m N n (pastSkips N w) .walker))))
       (λ _ _. refl)
 
-bytes-stay : (bytes : List ℕ) (n : ℕ) (w : WalkerWords Beam) → isRefused (stepBytes bytes n w .answer) ≡ true → stepBytes bytes n w .walker ≡ w
+bytes-stay : (bytes : List ℕ) (n : ℕ) (w : WalkerWords WalkRay) → isRefused (stepBytes bytes n w .answer) ≡ true → stepBytes bytes n w .walker ≡ w
 unfolding stepBytes stepAt
 bytes-stay bytes n w = go (eqb (length bytes % 80) 0)
   where
-    r : Bool → SteppedWords Beam
-    r b = elim b [ false ↦ record { walker = w; answer = refused 1 } | true ↦ stepAt bytes beams n w ]
+    r : Bool → SteppedWords WalkRay
+    r b = elim b [ false ↦ record { walker = w; answer = refused 1 } | true ↦ stepAt bytes byBoxes n w ]
 
     go : (b : Bool) → isRefused (r b .answer) ≡ true → r b .walker ≡ w
     go false e = refl
-    go true e = step-stays (nodeCount bytes) (nodeWordsAt bytes beams) n w e
+    go true e = step-stays (nodeCount bytes) (nodeWordsAt bytes byBoxes) n w e
 
 -- ---- what the words hold
 
 -- after a step they hold its walker, refused or not
-pub step-holds : (s t : State) (bytes : List ℕ) (n : ℕ)
+pub step-holds : (s t : HeldWords) (bytes : List ℕ) (n : ℕ)
     → Leaves (isRefused (stepBytes bytes n (heldBy s) .answer)) s t (stepBytes bytes n (heldBy s) .walker)
     → heldBy t ≡ stepBytes bytes n (heldBy s) .walker
 unfolding Leaves
@@ -72,11 +72,11 @@ step-holds s t bytes n = go (isRefused (stepBytes bytes n (heldBy s) .answer)) r
     go false e h = h
 
 -- a run with an answer before its own
-abbrev after : Answer → RunWords Beam → RunWords Beam
+abbrev after : Answer → RunWords WalkRay → RunWords WalkRay
 after a r = record { walker = r .walker; answers = a ∷ r .answers }
 
 -- after any list of calls they hold the walker of that run, and the answers are the run's
-pub run-holds : (l : List RecordOp) (s u : State) (answers : List Answer) → Leads l s u answers
+pub run-holds : (l : List RecordOp) (s u : HeldWords) (answers : List Answer) → CallsLead l s u answers
     → record { walker = heldBy u; answers = answers } ≡ runEach l (heldBy s)
 unfolding runEach
 run-holds [] s u answers none = refl
@@ -85,8 +85,8 @@ run-holds (stepOn bytes n ∷ l) s u answers (steps {t = t} {answers = bs} h k) 
 run-holds (tells x ∷ l) s u answers (told {t = t} h k) = run-holds l t u answers k ∙ ap (runEach l) h
 
 -- from words in which a walker was begun on an accepted ray it is the run of a walker just begun
-pub run-begun : (r : Ray) → acceptedRay r ≡ true → (before s u : State) → Leaves false before s (started r .walker)
-    → (l : List RecordOp) (answers : List Answer) → Leads l s u answers
-    → record { walker = heldBy u; answers = answers } ≡ runEach l (freshWords (beamOf r))
+pub run-begun : (r : Ray) → acceptedRay r ≡ true → (before s u : HeldWords) → Leaves false before s (started r .walker)
+    → (l : List RecordOp) (answers : List Answer) → CallsLead l s u answers
+    → record { walker = heldBy u; answers = answers } ≡ runEach l (freshWords (walkRay r))
 unfolding Leaves
 run-begun r a before s u h l answers k = run-holds l s u answers k ∙ ap (runEach l) (h ∙ starts-fresh r a)

@@ -5,20 +5,20 @@ use Prim.Native.Nat.{ℕ}
 use lib.Ieee.{Float}
 use Rattle.walk.specs.Step.{Answer}
 use Rattle.walk.specs.WordStep.{WalkerWords}
-use Rattle.walk_record.specs.Beam.{Beam}
+use Rattle.walk_record.specs.WalkRay.{WalkRay}
 use Rattle.traverse.specs.Calls.{RecordOp, stepOn, tells}
 use Rattle.traverse.specs.Walker.{stepBytes, toldWalker}
-use Rattle.walker_state.specs.State.{State, walkerIn, isRefused, Leaves}
+use Rattle.walker_state.specs.State.{HeldWords, walkerIn, isRefused, Leaves}
 
 -- the walker that a state holds
-abbrev pub heldBy : State → WalkerWords Beam
+abbrev pub heldBy : HeldWords → WalkerWords WalkRay
 heldBy s = walkerIn (s .head) (s .stack)
 
 -- from the words s a list of calls leaves the words u, its steps having answered so
-pub data Leads : List RecordOp → State → State → List Answer → Type 0 where
-  none : {s : State} → Leads [] s s []
-  steps : {s t u : State} {bytes : List ℕ} {n : ℕ} {l : List RecordOp} {answers : List Answer}
+pub data CallsLead : List RecordOp → HeldWords → HeldWords → List Answer → Type 0 where
+  none : {s : HeldWords} → CallsLead [] s s []
+  steps : {s t u : HeldWords} {bytes : List ℕ} {n : ℕ} {l : List RecordOp} {answers : List Answer}
       → Leaves (isRefused (stepBytes bytes n (heldBy s) .answer)) s t (stepBytes bytes n (heldBy s) .walker)
-      → Leads l t u answers → Leads (stepOn bytes n ∷ l) s u (stepBytes bytes n (heldBy s) .answer ∷ answers)
-  told : {s t u : State} {x : Float} {l : List RecordOp} {answers : List Answer} → heldBy t ≡ toldWalker x (heldBy s)
-      → Leads l t u answers → Leads (tells x ∷ l) s u answers
+      → CallsLead l t u answers → CallsLead (stepOn bytes n ∷ l) s u (stepBytes bytes n (heldBy s) .answer ∷ answers)
+  told : {s t u : HeldWords} {x : Float} {l : List RecordOp} {answers : List Answer} → heldBy t ≡ toldWalker x (heldBy s)
+      → CallsLead l t u answers → CallsLead (tells x ∷ l) s u answers

@@ -12,7 +12,7 @@ use Rattle.advance.specs.declared.Walk.{Walk}
 use Rattle.advance.specs.Turn.{walkerOf}
 use Rattle.walk.specs.Step as S
 use Rattle.walk.specs.WordStep.{WalkerWords}
-use Rattle.walk_record.specs.Beam.{Beam}
+use Rattle.walk_record.specs.WalkRay.{WalkRay}
 
 -- ---- what the words hold
 
@@ -23,11 +23,11 @@ halfIn s k = getD s k 0 % 2 ^ 32
 abbrev pub floatIn : List ℕ → ℕ → Float
 floatIn s k = ofBits binary32 (halfIn s k)
 
-abbrev pub vecIn : List ℕ → ℕ → Vec3
-vecIn s k = record { x = floatIn s k; y = floatIn s (k + 1); z = floatIn s (k + 2) }
+abbrev pub vecHeld : List ℕ → ℕ → Vec3
+vecHeld s k = record { x = floatIn s k; y = floatIn s (k + 1); z = floatIn s (k + 2) }
 
-abbrev pub rayIn : List ℕ → Ray
-rayIn s = record { origin = vecIn s 0; direction = vecIn s 3; inverse = vecIn s 6; tmin = floatIn s 9; tmax = floatIn s 10 }
+abbrev pub rayHeld : List ℕ → Ray
+rayHeld s = record { origin = vecHeld s 0; direction = vecHeld s 3; inverse = vecHeld s 6; tmin = floatIn s 9; tmax = floatIn s 10 }
 
 abbrev pub groupIn : List ℕ → ℕ → Group
 groupIn s k = record { base = halfIn s k; bits = halfIn s (k + 1) }
@@ -36,8 +36,8 @@ abbrev pub walkIn : List ℕ → Walk
 walkIn s = record { tests = halfIn s 12; positions = groupIn s 13; current = groupIn s 15; depth = halfIn s 17 }
 
 -- a ray in words 0 to 10, its octant, and the walk; the stack as it is
-abbrev pub walkerIn : (head stack : List ℕ) → WalkerWords Beam
-walkerIn head stack = walkerOf (rayIn head) (halfIn head 11) (walkIn head) stack
+abbrev pub walkerIn : (head stack : List ℕ) → WalkerWords WalkRay
+walkerIn head stack = walkerOf (rayHeld head) (halfIn head 11) (walkIn head) stack
 
 -- the lower halves of three words are the patterns of a vector
 pub record Patterns (x y z : ℕ) (v : Vec3) : Type 0 where
@@ -54,14 +54,14 @@ isRefused S.done = false
 isRefused (S.refused k) = true
 
 -- the words of a walker's state
-pub record State : Type 0 where
+pub record HeldWords : Type 0 where
   pub head : List ℕ
   pub stack : List ℕ
 
-abbrev pub held : (head stack : List ℕ) → State
+abbrev pub held : (head stack : List ℕ) → HeldWords
 held head stack = record { head = head; stack = stack }
 
 -- a refused call leaves the words as they were, and any other words that hold the walker
-unfoldable pub Leaves : Bool → (before after : State) → WalkerWords Beam → Type 0
+unfoldable pub Leaves : Bool → (before after : HeldWords) → WalkerWords WalkRay → Type 0
 Leaves true before after w = after ≡ before
 Leaves false before after w = walkerIn (after .head) (after .stack) ≡ w

@@ -6,9 +6,9 @@ ghost use Prim.Native.Nat.{ℕ, _<_, _+_, _%_, _^_};
 ghost use lib.Dec.{eqb};
 ghost use lib.Ieee.{ofBits, binary32};
 ghost use Rattle.ray.specs.Ray.{rayOf};
-ghost use Rattle.advance.specs.Turn.{answerOf, walkerOf};
-ghost use Rattle.traverse.specs.Walker.{wordsOf, started, toldWalker, stepBytes};
-ghost use Rattle.walker_state.specs.State.{halfIn, floatIn, vecIn, rayIn, groupIn, walkIn, walkerIn, held, isRefused, Leaves, Patterns};
+ghost use Rattle.advance.specs.Turn.{stepAnswer, walkerOf};
+ghost use Rattle.traverse.specs.Walker.{walkerWords, started, toldWalker, stepBytes};
+ghost use Rattle.walker_state.specs.State.{halfIn, floatIn, vecHeld, rayHeld, groupIn, walkIn, walkerIn, held, isRefused, Leaves, Patterns};
 use ray::Ray;
 use ray::Vec3;
 use traverse::Answer;
@@ -35,7 +35,7 @@ fn float_in(s: &[u64; 18], k: usize) -> f32
 
 fn vec_in(s: &[u64; 18], k: usize) -> Vec3
     requires { ⌜ k < 16 ⌝ }
-    ensures { λ r. ⌜ r ≡ vecIn (now (s .entry)) k ⌝ }
+    ensures { λ r. ⌜ r ≡ vecHeld (now (s .entry)) k ⌝ }
 {
     let x = float_in(s, k);
     let y = float_in(s, k + 1);
@@ -44,7 +44,7 @@ fn vec_in(s: &[u64; 18], k: usize) -> Vec3
 }
 
 fn ray_in(s: &[u64; 18]) -> Ray
-    ensures { λ r. ⌜ r ≡ rayIn (now (s .entry)) ⌝ }
+    ensures { λ r. ⌜ r ≡ rayHeld (now (s .entry)) ⌝ }
 {
     let origin = vec_in(s, 0);
     let direction = vec_in(s, 3);
@@ -85,7 +85,7 @@ fn walk_in(s: &[u64; 18]) -> Walk
 }
 
 fn walker_in(s: &[u64; 18], t: &[u64; 32]) -> Walker
-    ensures { λ r. ⌜ wordsOf r ≡ walkerIn (now (s .entry)) (now (t .entry)) ⌝ }
+    ensures { λ r. ⌜ walkerWords r ≡ walkerIn (now (s .entry)) (now (t .entry)) ⌝ }
 {
     let ray = ray_in(s);
     let octant = half_in(s, 11);
@@ -165,7 +165,7 @@ fn head_of(ray: Ray, octant: u32, walk: Walk) -> [u64; 18]
 }
 
 fn put_walker(s: &mut [u64; 18], t: &mut [u64; 32], w: Walker)
-    ensures { λ _. ⌜ walkerIn (now (s .exit)) (now (t .exit)) ≡ wordsOf w ⌝ }
+    ensures { λ _. ⌜ walkerIn (now (s .exit)) (now (t .exit)) ≡ walkerWords w ⌝ }
 {
     let stack = w.stack;
     *s = head_of(w.ray, w.octant, w.walk);
@@ -199,7 +199,7 @@ pub fn begin(
 
 // Whether an answer is a refusal.
 fn is_refused(answer: Answer) -> bool
-    ensures { λ r. ⌜ r ≡ isRefused (answerOf answer) ⌝ }
+    ensures { λ r. ⌜ r ≡ isRefused (stepAnswer answer) ⌝ }
 {
     match answer {
         Answer::Tested(_) => return false,
@@ -211,8 +211,8 @@ fn is_refused(answer: Answer) -> bool
 
 // A step of the walker that the words hold, on a record taken to have n positions. A refused step leaves the words as they were.
 pub fn step(s: &mut [u64; 18], t: &mut [u64; 32], record: &[u8], n: usize) -> Answer
-    ensures { λ r. ⌜ answerOf r ≡ stepBytes (now («record» .entry)) n (walkerIn (now (s .entry)) (now (t .entry))) .answer ⌝ }
-    ensures { λ r. ⌜ Leaves (isRefused (answerOf r)) (held (now (s .entry)) (now (t .entry))) (held (now (s .exit)) (now (t .exit)))
+    ensures { λ r. ⌜ stepAnswer r ≡ stepBytes (now («record» .entry)) n (walkerIn (now (s .entry)) (now (t .entry))) .answer ⌝ }
+    ensures { λ r. ⌜ Leaves (isRefused (stepAnswer r)) (held (now (s .entry)) (now (t .entry))) (held (now (s .exit)) (now (t .exit)))
         (stepBytes (now («record» .entry)) n (walkerIn (now (s .entry)) (now (t .entry))) .walker) ⌝ }
 {
     let stepped = walker_in(s, t).step(record, n);

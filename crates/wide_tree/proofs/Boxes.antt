@@ -3,9 +3,9 @@ use mathlib.Core.List.{List, map}
 use Prim.Native.Nat.{ℕ}
 use Rattle.aabb.specs.declared.Aabb.{Aabb}
 use Rattle.bvh2.specs.Tree.{Tree, leaf, inner, boxOf}
-use Rattle.wide.specs.Wide.{Slots, end, empty}
-use Rattle.wide.specs.Wide as W
-use Rattle.wide_tree.specs.WideTree.{Child, leafChild, innerChild, childBox, hold, Placing, slotsOf, childrenOf, rootSlots}
+use Rattle.wide_layout.specs.Wide.{Slots, end, empty}
+use Rattle.wide_layout.specs.Wide as W
+use Rattle.wide_tree.specs.WideTree.{Child, leafChild, innerChild, childBox, hold, Placing, filledSlots, wideChildren, rootSlots}
 use Rattle.wide_tree.proofs.Slots.{EachChild, slots-each}
 use Rattle.wide_tree.proofs.WideTree.{children-each}
 
@@ -35,7 +35,7 @@ module _ (P : Aabb → Type 0) where
   unfolding EachBox
   below-boxes v box a b h = (h .1, h .2)
 
-  slots-boxes : (place : Placing) (box : Aabb) (cs : List Child) → EachChild ChildBoxes cs → EachSlotBox P (slotsOf place box cs)
+  slots-boxes : (place : Placing) (box : Aabb) (cs : List Child) → EachChild ChildBoxes cs → EachSlotBox P (filledSlots place box cs)
   unfolding EachSlotBox ChildBoxes
   slots-boxes place box cs h = slots-each (λ w s. EachSlotBox P s) ChildBoxes tt (λ w s q. q) holds (place box (map childBox cs)) cs 0 8 h
     where
@@ -43,11 +43,11 @@ module _ (P : Aabb → Type 0) where
       holds w (leafChild b ps) s k q = (k, q)
       holds w (innerChild b t) s k q = (k .0, k .1, q)
 
-  children-boxes : {A : Type 0} (place : Placing) (limit : ℕ) (t : Tree A) (i : ℕ) → EachBox P t → EachChild ChildBoxes (childrenOf place limit t i)
+  children-boxes : {A : Type 0} (place : Placing) (limit : ℕ) (t : Tree A) (i : ℕ) → EachBox P t → EachChild ChildBoxes (wideChildren place limit t i)
   unfolding ChildBoxes boxOf
   children-boxes place limit t i h =
       children-each place limit ChildBoxes (EachBox P) below-boxes (λ t o e. root-box t o)
-      (λ v box a b o k. (root-box (inner v box a b) o, slots-boxes place box (childrenOf place limit (inner v box a b) 0) k)) t i h
+      (λ v box a b o k. (root-box (inner v box a b) o, slots-boxes place box (wideChildren place limit (inner v box a b) 0) k)) t i h
 
   pub wide-boxes : {A : Type 0} (place : Placing) (limit : ℕ) (t : Tree A) → EachBox P t → P (boxOf t) × EachSlotBox P (rootSlots place limit t)
-  wide-boxes place limit t h = (root-box t h, slots-boxes place (boxOf t) (childrenOf place limit t 0) (children-boxes place limit t 0 h))
+  wide-boxes place limit t h = (root-box t h, slots-boxes place (boxOf t) (wideChildren place limit t 0) (children-boxes place limit t 0 h))

@@ -17,8 +17,8 @@ use Rattle.order.specs.Assign.{slotOf}
 use Rattle.order.specs.Order.{slotsOf}
 use Rattle.order.proofs.Lists.{All}
 use Rattle.order.proofs.Slots.{slots-one-to-one}
-use Rattle.wide.specs.Layout as L
-use Rattle.wide.proofs.Index.{slots-rearranged}
+use Rattle.wide_layout.specs.Layout as L
+use Rattle.wide_layout.proofs.Index.{slots-rearranged}
 use Rattle.wide_tree.specs.WideTree.{wideOf}
 use Rattle.wide_tree.specs.Ordered.{placing, wideTree}
 use Rattle.wide_tree.proofs.WideTree.{AllAccepted, Places, Fine}
@@ -49,7 +49,8 @@ module _ (ordered : Bool) (limit : ℕ) (ws : List ℕ) (n : ℕ) (h : Decoded w
   -- the positions written, in the order in which they are written, are the tree's, each once
   pub index-list : Perm (L.indexList (wideTree ordered limit (treeOf ws))) (positions (treeOf ws))
   unfolding wideOf
-  index-list = Perm·trans (slots-rearranged (wideTree ordered limit (treeOf ws) .slots)) (wide-positions (placing ordered) limit (places ordered) (treeOf ws) (fine ws n h))
+  index-list = Perm·trans (slots-rearranged (wideTree ordered limit (treeOf ws) .slots))
+      (wide-positions (placing ordered) limit (places ordered) (treeOf ws) (fine ws n h))
 
   pub index-upto : Perm (L.indexList (wideTree ordered limit (treeOf ws))) (upto 0 n)
   index-upto = Perm·trans index-list (h .held)

@@ -8,9 +8,9 @@ use native.Mathlib.Omega.{arith}
 use lib.Dec.{ltb}
 use lib.ListN.{length}
 use borrow.Author.Tests.{lt-ltb, le-ltb}
-use Rattle.wide.specs.Wide.{Slots, end, empty}
-use Rattle.wide.specs.Wide as W
-use Rattle.wide_tree.specs.WideTree.{Child, leafChild, innerChild, hold, slotOf, slotsFrom}
+use Rattle.wide_layout.specs.Wide.{Slots, end, empty}
+use Rattle.wide_layout.specs.Wide as W
+use Rattle.wide_tree.specs.WideTree.{Child, leafChild, innerChild, hold, filledSlot, slotsFrom}
 
 -- `child` puts each of n children into one of eight slots, and into no other
 pub record OneToOne (n : ℕ) (child : ℕ → ℕ) : Type 0 where
@@ -35,7 +35,7 @@ held (W.leaf b ps s) (suc k) = held s k
 held (W.inner b t s) zero = innerChild b t ∷ []
 held (W.inner b t s) (suc k) = held s k
 
-slot-holds : {w : ℕ} (cs : List Child) (i : ℕ) (s : Slots w) → held (slotOf cs i s) 0 ≡ childAt cs i
+slot-holds : {w : ℕ} (cs : List Child) (i : ℕ) (s : Slots w) → held (filledSlot cs i s) 0 ≡ childAt cs i
 unfolding held
 slot-holds [] i s = refl
 slot-holds (leafChild b ps ∷ cs) zero s = refl
@@ -43,7 +43,7 @@ slot-holds (innerChild b t ∷ cs) zero s = refl
 slot-holds (leafChild b ps ∷ cs) (suc i) s = slot-holds cs i s
 slot-holds (innerChild b t ∷ cs) (suc i) s = slot-holds cs i s
 
-slot-next : {w : ℕ} (cs : List Child) (i : ℕ) (s : Slots w) (k : ℕ) → held (slotOf cs i s) (suc k) ≡ held s k
+slot-next : {w : ℕ} (cs : List Child) (i : ℕ) (s : Slots w) (k : ℕ) → held (filledSlot cs i s) (suc k) ≡ held s k
 unfolding held
 slot-next [] i s k = refl
 slot-next (leafChild b ps ∷ cs) zero s k = refl
@@ -56,10 +56,12 @@ unfolding slotsFrom
 held-from child cs k zero j h = absurd (omega arith)
 held-from child cs k (suc w) zero h = slot-holds cs (child k) (slotsFrom child cs (suc k) w) ∙ ap (λ (i : ℕ). childAt cs (child i)) (omega arith)
 held-from child cs k (suc w) (suc j) h =
-    slot-next cs (child k) (slotsFrom child cs (suc k) w) j ∙ held-from child cs (suc k) w j (omega arith) ∙ ap (λ (i : ℕ). childAt cs (child i)) (omega arith)
+    slot-next cs (child k) (slotsFrom child cs (suc k) w) j ∙ held-from child cs (suc k) w j (omega arith) ∙ ap (λ (i : ℕ). childAt cs (child i))
+    (omega arith)
 
 -- each child is in its own slot
-pub own-slot : (child : ℕ → ℕ) (cs : List Child) (h : OneToOne (length cs) child) (c : ℕ) → c < length cs → held (slotsFrom child cs 0 8) (h .slot c) ≡ childAt cs c
+pub own-slot : (child : ℕ → ℕ) (cs : List Child) (h : OneToOne (length cs) child) (c : ℕ) → c < length cs
+    → held (slotsFrom child cs 0 8) (h .slot c) ≡ childAt cs c
 own-slot child cs h c u =
     held-from child cs 0 8 (h .slot c) (h .below c u) ∙ ap (λ (i : ℕ). childAt cs (child i)) (omega arith) ∙ ap (childAt cs) (h .there c u)
 
@@ -89,12 +91,14 @@ sum-same f g k zero h = refl
 sum-same f g k (suc w) h = omega (arith, h k (omega arith) (omega arith), sum-same f g (suc k) w (λ s u v. h s (omega arith) (omega arith)))
 
 -- one of them larger by a
-sum-one : (f g : ℕ → ℕ) (k w y a : ℕ) → k ≤ y → y < k + w → g y ≡ f y + a → ((s : ℕ) → k ≤ s → s < k + w → (s ≡ y → ⊥) → g s ≡ f s) → sumFrom g k w ≡ sumFrom f k w + a
+sum-one : (f g : ℕ → ℕ) (k w y a : ℕ) → k ≤ y → y < k + w → g y ≡ f y + a → ((s : ℕ) → k ≤ s → s < k + w → (s ≡ y → ⊥) → g s ≡ f s) → sumFrom g k w
+    ≡ sumFrom f k w + a
 unfolding sumFrom
 sum-one f g k zero y a p q e h = absurd (omega arith)
 sum-one f g k (suc w) y a p q e h = pick (ℕ-discrete k y) (sum-one f g (suc k) w y a)
   where
-    pick : Dec (k ≡ y) → (suc k ≤ y → y < suc k + w → g y ≡ f y + a → ((s : ℕ) → suc k ≤ s → s < suc k + w → (s ≡ y → ⊥) → g s ≡ f s) → sumFrom g (suc k) w ≡ sumFrom f (suc k) w + a)
+    pick : Dec (k ≡ y) → (suc k ≤ y → y < suc k + w → g y ≡ f y + a → ((s : ℕ) → suc k ≤ s → s < suc k + w → (s ≡ y → ⊥) → g s ≡ f s)
+        → sumFrom g (suc k) w ≡ sumFrom f (suc k) w + a)
         → g k + sumFrom g (suc k) w ≡ f k + sumFrom f (suc k) w + a
     pick (yes z) r =
         let x : g k ≡ f k + a = rw z e in
@@ -129,9 +133,10 @@ all-measures f (c ∷ cs) = omega (arith, sum-shift (measureAt f (c ∷ cs)) 0 (
 
 -- ---- a measure of slots that adds up the children's
 module _ (M : (w : ℕ) → Slots w → ℕ) (F : Child → ℕ)
-    (m-end : M 0 end ≡ 0) (m-empty : (w : ℕ) (s : Slots w) → M (suc w) (empty s) ≡ M w s) (m-hold : (w : ℕ) (c : Child) (s : Slots w) → M (suc w) (hold c s) ≡ F c + M w s)
+    (m-end : M 0 end ≡ 0) (m-empty : (w : ℕ) (s : Slots w) → M (suc w) (empty s) ≡ M w s)
+    (m-hold : (w : ℕ) (c : Child) (s : Slots w) → M (suc w) (hold c s) ≡ F c + M w s)
   where
-    slot-measure : (w : ℕ) (cs : List Child) (i : ℕ) (s : Slots w) → M (suc w) (slotOf cs i s) ≡ measureAt F cs i + M w s
+    slot-measure : (w : ℕ) (cs : List Child) (i : ℕ) (s : Slots w) → M (suc w) (filledSlot cs i s) ≡ measureAt F cs i + M w s
     unfolding measureAt
     slot-measure w [] i s = omega (arith, m-empty w s)
     slot-measure w (c ∷ cs) zero s = m-hold w c s
@@ -169,7 +174,8 @@ module _ (M : (w : ℕ) → Slots w → ℕ) (F : Child → ℕ)
           let t = h .there m u in
           let x : first (suc m) (child (h .slot m)) ≡ measureAt F cs m = ap (first (suc m)) t ∙ first-in (suc m) m (omega arith) in
           let y : first m (child (h .slot m)) ≡ 0 = ap (first m) t ∙ first-out m m (omega arith) in
-          let z = sum-one (λ s. first m (child s)) (λ s. first (suc m) (child s)) 0 8 (h .slot m) (measureAt F cs m) (omega arith) (omega (arith, h .below m u)) (omega arith)
+          let z = sum-one (λ s. first m (child s)) (λ s. first (suc m) (child s)) 0 8 (h .slot m) (measureAt F cs m) (omega arith)
+          (omega (arith, h .below m u)) (omega arith)
           (λ s p q n. first-more m (child s) (λ e. n (other s (omega arith) e))) in
           let l : measureAt F cs (0 + m) ≡ measureAt F cs m = ap (measureAt F cs) (omega arith) in
           omega (arith, first-sum m (omega arith), sum-last (measureAt F cs) 0 m)
@@ -181,7 +187,8 @@ module _ (M : (w : ℕ) → Slots w → ℕ) (F : Child → ℕ)
       pub slots-total : M 8 (slotsFrom child cs 0 8) ≡ total F cs
       slots-total =
           from-measure child cs 0 8
-          ∙ sum-same (λ s. first (length cs) (child s)) (λ s. measureAt F cs (child s)) 0 8 (λ s p q. sym (all (child s) (decLt (child s) (length cs))))
+          ∙ sum-same (λ s. first (length cs) (child s)) (λ s. measureAt F cs (child s)) 0 8
+          (λ s p q. sym (all (child s) (decLt (child s) (length cs))))
           ∙ first-sum (length cs) (omega arith) ∙ all-measures F cs
         where
           all : (i : ℕ) → Dec (i < length cs) → first (length cs) i ≡ measureAt F cs i
@@ -194,9 +201,10 @@ EachChild K [] = Unit {0}
 EachChild K (c ∷ cs) = K c × EachChild K cs
 
 module _ (Q : (w : ℕ) → Slots w → Type 0) (K : Child → Type 0)
-    (q-end : Q 0 end) (q-empty : (w : ℕ) (s : Slots w) → Q w s → Q (suc w) (empty s)) (q-hold : (w : ℕ) (c : Child) (s : Slots w) → K c → Q w s → Q (suc w) (hold c s))
+    (q-end : Q 0 end) (q-empty : (w : ℕ) (s : Slots w) → Q w s → Q (suc w) (empty s))
+    (q-hold : (w : ℕ) (c : Child) (s : Slots w) → K c → Q w s → Q (suc w) (hold c s))
   where
-    slot-each : (w : ℕ) (cs : List Child) (i : ℕ) (s : Slots w) → EachChild K cs → Q w s → Q (suc w) (slotOf cs i s)
+    slot-each : (w : ℕ) (cs : List Child) (i : ℕ) (s : Slots w) → EachChild K cs → Q w s → Q (suc w) (filledSlot cs i s)
     unfolding EachChild
     slot-each w [] i s h q = q-empty w s q
     slot-each w (c ∷ cs) zero s h q = q-hold w c s (h .0) q

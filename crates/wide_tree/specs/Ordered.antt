@@ -2,7 +2,7 @@
 use mathlib.Core.Bool.{Bool}
 use Prim.Native.Nat.{ℕ}
 use Rattle.bvh2.specs.Tree.{Tree}
-use Rattle.wide.specs.Wide.{Wide}
+use Rattle.wide_layout.specs.Wide.{Wide}
 use Rattle.order.specs.Assign.{childOf}
 use Rattle.order.specs.Order.{slotsOf}
 use Rattle.wide_tree.specs.WideTree.{Placing, wideOf}

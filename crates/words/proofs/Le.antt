@@ -3,7 +3,8 @@ use mathlib.Core.Path.{_≡_, refl, sym, ap, ap₂, _∙_, subst}
 use mathlib.Core.Logic.{_⊎_, inl, inr}
 use mathlib.Core.List.{List}
 use Prim.Native.Nat.{ℕ, zero, suc, _+_, _*_, _/_, _%_, _^_, _<_}
-use native.Mathlib.Nat.{mod-eq-of-lt, mod-one, zero-mul, suc-mul, add-comm, mul-assoc, mul-add-mod-self-right, add-mul-div-right, add-zero, eq-or-lt-of-le, le-of-suc-le-suc, not-suc-le-zero}
+use native.Mathlib.Nat.{mod-eq-of-lt, mod-one, zero-mul, suc-mul, add-comm, mul-assoc, mul-add-mod-self-right, add-mul-div-right, add-zero}
+use native.Mathlib.Nat.{eq-or-lt-of-le, le-of-suc-le-suc, not-suc-le-zero}
 use native.Mathlib.Omega.{arith}
 use lib.Arith.{digits-lt}
 use lib.Pow.{pow-pos, pow-add, high, mod-pow-add}
@@ -41,7 +42,8 @@ sum-whole k n v h = sum-fields k n v ∙ mod-eq-of-lt h
 
 -- a field below the n-th does not see what stands from there on
 shift-out : (hi n k lo : ℕ) → hi * 2 ^ (suc n * k) + lo ≡ (hi * 2 ^ (n * k)) * 2 ^ k + lo
-shift-out hi n k lo = ap (λ (x : ℕ). x + lo) (ap (λ (x : ℕ). hi * x) (ap (λ (x : ℕ). 2 ^ x) (suc-mul n k) ∙ pow-add 2 (n * k) k) ∙ sym (mul-assoc hi (2 ^ (n * k)) (2 ^ k)))
+shift-out hi n k lo = ap (λ (x : ℕ). x + lo) (ap (λ (x : ℕ). hi * x) (ap (λ (x : ℕ). 2 ^ x) (suc-mul n k) ∙ pow-add 2 (n * k) k) ∙ sym
+    (mul-assoc hi (2 ^ (n * k)) (2 ^ k)))
 
 pub field-low : (k n i hi lo : ℕ) → i < n → field k i (hi * 2 ^ (n * k) + lo) ≡ field k i lo
 unfolding field
@@ -75,7 +77,8 @@ pub le-lt : (n : ℕ) (s : List ℕ) (at : ℕ) → ((i : ℕ) → i < n → get
 unfolding leAt
 le-lt n s at h = sum-lt 8 n (λ i. getD s (at + i) 0) h
 
-pub le-byte : (n : ℕ) (s : List ℕ) (at : ℕ) → ((i : ℕ) → i < n → getD s (at + i) 0 < 256) → (i : ℕ) → i < n → field 8 i (leAt n s at) ≡ getD s (at + i) 0
+pub le-byte : (n : ℕ) (s : List ℕ) (at : ℕ) → ((i : ℕ) → i < n → getD s (at + i) 0 < 256) → (i : ℕ) → i < n → field 8 i (leAt n s at)
+    ≡ getD s (at + i) 0
 unfolding leAt
 le-byte n s at h = field-sum 8 n (λ i. getD s (at + i) 0) h
 

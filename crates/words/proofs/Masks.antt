@@ -20,7 +20,8 @@ max-shl w s h =
     let p : 2 ^ s < 2 ^ w = pow-lt h in
     let q : zero < 2 ^ s = pow-pos s in
     let x : (2 ^ w - 1) * 2 ^ s + 2 ^ s ≡ 2 ^ w * 2 ^ s = sym (suc-mul (2 ^ w - 1) (2 ^ s)) ∙ ap (λ (n : ℕ). n * 2 ^ s) (suc-ones w) in
-    let y : (2 ^ s - 1) * 2 ^ w + 2 ^ w ≡ 2 ^ w * 2 ^ s = sym (suc-mul (2 ^ s - 1) (2 ^ w)) ∙ ap (λ (n : ℕ). n * 2 ^ w) (suc-ones s) ∙ mul-comm (2 ^ s) (2 ^ w) in
+    let y : (2 ^ s - 1) * 2 ^ w + 2 ^ w ≡ 2 ^ w * 2 ^ s = sym (suc-mul (2 ^ s - 1) (2 ^ w)) ∙ ap (λ (n : ℕ). n * 2 ^ w) (suc-ones s) ∙ mul-comm
+    (2 ^ s) (2 ^ w) in
     let e : (2 ^ w - 1) * 2 ^ s ≡ (2 ^ s - 1) * 2 ^ w + (2 ^ w - 2 ^ s) = omega arith in
     ap (λ (n : ℕ). n % 2 ^ w) e ∙ digits-mod (2 ^ s - 1) (omega arith)
 

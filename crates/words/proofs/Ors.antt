@@ -46,7 +46,8 @@ pub bit-from : (n j : ℕ) (f : ℕ → ℕ) → field 1 j (orOf n f) ≡ 1 → 
 unfolding orOf
 bit-from zero j f e = absurd (omega (arith, zero-bit j))
 bit-from (suc n) j f e =
-    pick (bit-from n j f) (either (field 1 j (orOf n f)) (field 1 j (f n)) (field-lt 1 j (orOf n f)) (field-lt 1 j (f n)) (sym (field-or 1 j (orOf n f) (f n)) ∙ e))
+    pick (bit-from n j f) (either (field 1 j (orOf n f)) (field 1 j (f n)) (field-lt 1 j (orOf n f)) (field-lt 1 j (f n))
+    (sym (field-or 1 j (orOf n f) (f n)) ∙ e))
   where
     pick : (field 1 j (orOf n f) ≡ 1 → (k : ℕ) × (k < n) × (field 1 j (f k) ≡ 1)) → (field 1 j (orOf n f) ≡ 1) ⊎ (field 1 j (f n) ≡ 1)
         → (k : ℕ) × (k < suc n) × (field 1 j (f k) ≡ 1)
@@ -61,7 +62,8 @@ bit-to (suc n) j k f h e = field-or 1 j (orOf n f) (f n) ∙ pick (λ l. bit-to 
   where
     pick : (k < n → field 1 j (orOf n f) ≡ 1) → (k ≡ n) ⊎ (k < n) → bitOr (field 1 j (orOf n f)) (field 1 j (f n)) ≡ 1
     pick rest (inl q) =
-        or-comm (field 1 j (orOf n f)) (field 1 j (f n)) ∙ ap (λ (x : ℕ). bitOr x (field 1 j (orOf n f))) (ap (λ (x : ℕ). field 1 j (f x)) (sym q) ∙ e)
+        or-comm (field 1 j (orOf n f)) (field 1 j (f n)) ∙ ap (λ (x : ℕ). bitOr x (field 1 j (orOf n f)))
+        (ap (λ (x : ℕ). field 1 j (f x)) (sym q) ∙ e)
         ∙ or-one (field 1 j (orOf n f)) (field-lt 1 j (orOf n f))
     pick rest (inr l) = ap (λ (x : ℕ). bitOr x (field 1 j (f n))) (rest l) ∙ or-one (field 1 j (f n)) (field-lt 1 j (f n))
 

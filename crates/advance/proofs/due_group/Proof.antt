@@ -16,7 +16,8 @@ returns-2 : tie.Need-returns-2
 returns-2 c =
     let d = c .before in
     let s = d .before .before .before .before in
-    due-none (groupOf (s .args .current)) (s .args .stack .now) (s .args .depth) (d .before .if1 .left) (d .waiting-depth .result) (d .waiting-depth .ensures) (c .if2 .taken)
+    due-none (groupOf (s .args .current)) (s .args .stack .now) (s .args .depth) (d .before .if1 .left) (d .waiting-depth .result)
+    (d .waiting-depth .ensures) (c .if2 .taken)
 
 cast-top : tie.Need-cast-top
 cast-top c = search needs
@@ -38,7 +39,8 @@ returns-3 c =
     let d = c .before .before in
     let s = d .before .before .before .before in
     let some : 0 < d .waiting-depth .result = omega (arith, c .before .if2 .left) in
-    due-top (groupOf (s .args .current)) (s .args .stack .now) (s .args .depth) (d .before .if1 .left) (d .waiting-depth .result) (d .waiting-depth .ensures) some (c .top .result) (c .top .ensures)
+    due-top (groupOf (s .args .current)) (s .args .stack .now) (s .args .depth) (d .before .if1 .left) (d .waiting-depth .result)
+    (d .waiting-depth .ensures) some (c .top .result) (c .top .ensures)
 
 pub due-group-spec : {M : Type 1} → statement M
 due-group-spec =

@@ -16,7 +16,8 @@ returns : tie.Need-returns
 returns c =
     let h = c .before in
     let s = h .before in
-    c .hit-child .ensures ∙ child-is (s .args .g .base) (s .args .g .bits) (h .highest .result) (s .args .octant) (s .pre .1) (h .highest .ensures) (s .pre .0)
+    c .hit-child .ensures ∙ child-is (s .args .g .base) (s .args .g .bits) (h .highest .result) (s .args .octant) (s .pre .1) (h .highest .ensures)
+    (s .pre .0)
 
 pub first-child-spec : {M : Type 1} → statement M
 first-child-spec = tie.close (tie.spec highest-requires hit-child-requires returns)

@@ -16,7 +16,8 @@ returns : tie.Need-returns
 returns c =
     let h = c .before in
     let a = h .before .args in
-    let e = c .clear-highest .ensures .1 ∙ ap (λ (x : ℕ). a .g .bits % 2 ^ x) (highest-found (a .g .bits) (h .highest .result) (h .highest .ensures)) in
+    let e = c .clear-highest .ensures .1 ∙ ap (λ (x : ℕ). a .g .bits % 2 ^ x)
+    (highest-found (a .g .bits) (h .highest .result) (h .highest .ensures)) in
     ap (λ (x : ℕ). record { base = a .g .base; bits = x }) e
 
 pub rest-of-spec : {M : Type 1} → statement M

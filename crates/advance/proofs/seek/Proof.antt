@@ -7,12 +7,12 @@ use borrow.Author.Needs.{needs}
 use lib.Ieee.{Float}
 use lib.ListN.{length}
 use Rattle.faststack.specs.Stack.{capacity}
-use Rattle.rule.proofs.Answers.{wrong, right}
+use Rattle.node_rule.proofs.Answers.{wrong, right}
 use Rattle.record_shape.specs.Record.{nodeCount}
 use Rattle.walk.specs.WordStep.{WalkerWords, SteppedWords, NodeWords, advanceWords, seekWords}
-use Rattle.walk_record.specs.Beam.{Beam, beams}
+use Rattle.walk_record.specs.WalkRay.{WalkRay, byBoxes}
 use Rattle.walk_record.specs.Record.{nodeWordsAt}
-use Rattle.advance.specs.Turn.{walkerOf, turned, goesOn, answerOf}
+use Rattle.advance.specs.Turn.{walkerOf, turned, goesOn, stepAnswer}
 use Rattle.advance.proofs.Seeks.{seek-ends, seek-goes, seek-left, seek-none, seek-deep}
 use Rattle.advance.proofs.seek.Statement.{statement}
 use Rattle.advance.proofs.seek.Tie as tie
@@ -20,8 +20,8 @@ use Rattle.advance.proofs.seek.Tie as tie
 abbrev Inv-loop : tie.InvT-loop
 Inv-loop tests held current bits depth most ray e octant stack₀ «record» n walk₀ left₀ stack walk left =
     (length stack ≡ length stack₀) × (walk .depth ≤ capacity) × (walk .positions .bits ≡ 0)
-    × (seekWords (nodeCount «record») (nodeWordsAt «record» beams) left n (walkerOf ray octant walk stack)
-    ≡ seekWords (nodeCount «record») (nodeWordsAt «record» beams) most n (walkerOf ray octant walk₀ stack₀))
+    × (seekWords (nodeCount «record») (nodeWordsAt «record» byBoxes) left n (walkerOf ray octant walk stack)
+    ≡ seekWords (nodeCount «record») (nodeWordsAt «record» byBoxes) most n (walkerOf ray octant walk₀ stack₀))
 
 abbrev μ-loop : tie.MeasureT-loop
 μ-loop tests held current bits depth most ray e octant stack₀ «record» n walk₀ left₀ stack walk left = left
@@ -32,8 +32,8 @@ module _ (c : tie.After-goes-on Inv-loop μ-loop) where
   abbrev l : tie.At-loop Inv-loop μ-loop
   l = c .before .before .before .before .before
 
-  abbrev N : NodeWords Beam Float
-  N = nodeWordsAt (l .before .before .before .args .«record» .now) beams
+  abbrev N : NodeWords WalkRay Float
+  N = nodeWordsAt (l .before .before .before .args .«record» .now) byBoxes
 
   abbrev m : ℕ
   m = nodeCount (l .before .before .before .args .«record» .now)
@@ -42,10 +42,10 @@ module _ (c : tie.After-goes-on Inv-loop μ-loop) where
   n = l .before .before .before .args .n
 
   -- the walker before it, and what it gave
-  abbrev w : WalkerWords Beam
+  abbrev w : WalkerWords WalkRay
   w = walkerOf (l .before .before .before .args .ray) (l .before .before .before .args .octant) (l .loop .walk) (l .loop .stack)
 
-  abbrev r : SteppedWords Beam
+  abbrev r : SteppedWords WalkRay
   r =
       let t = c .before .before .before .test-due in
       turned (l .before .before .before .args .ray) (l .before .before .before .args .octant) (t .result) (t .last .1 .1 .1 .1 .0)

@@ -3,7 +3,7 @@ use mathlib.Core.Bool.{false}
 use Prim.Native.Nat.{_<_, _≤_}
 use native.Mathlib.Omega.{arith}
 use Rattle.record_shape.specs.Record.{nodeCount}
-use Rattle.advance.specs.Turn.{groupOf, answerOf, isPast}
+use Rattle.advance.specs.Turn.{groupOf, stepAnswer, isPast}
 use Rattle.advance.proofs.Visits.{not-past, turn-crowded, turn-past, turn-broken, turn-tested}
 use borrow.Author.Needs.{needs}
 use Rattle.advance.proofs.visit.Statement.{statement}
@@ -19,39 +19,43 @@ lacks-room-requires : tie.Need-lacks-room-requires
 lacks-room-requires c κs = search needs
 
 returns : tie.Need-returns
-unfolding answerOf
+unfolding stepAnswer
 returns c =
     let room = c .before in
     let child = room .before in
     let rest = child .before in
     let a = rest .before .before .before .before .args in
-    turn-crowded (a .«record» .now) (a .n) (a .ray) (a .octant) (a .walk) (a .stack .now) (groupOf (a .g .group)) (a .g .depth) (groupOf (rest .rest-of .result)) (child .first-child .result)
+    turn-crowded (a .«record» .now) (a .n) (a .ray) (a .octant) (a .walk) (a .stack .now) (groupOf (a .g .group)) (a .g .depth)
+    (groupOf (rest .rest-of .result)) (child .first-child .result)
     (rest .rest-of .ensures) (child .first-child .ensures) (sym (room .lacks-room .ensures) ∙ c .if1 .taken)
 
 is-past-requires : tie.Need-is-past-requires
 is-past-requires c κs = search needs
 
 returns-2 : tie.Need-returns-2
-unfolding answerOf
+unfolding stepAnswer
 returns-2 c =
     let past = c .before in
     let room = past .before .before in
     let child = room .before in
     let rest = child .before in
     let a = rest .before .before .before .before .args in
-    turn-past (a .«record» .now) (a .n) (a .ray) (a .octant) (a .walk) (a .stack .now) (groupOf (a .g .group)) (a .g .depth) (groupOf (rest .rest-of .result)) (child .first-child .result)
-    (rest .rest-of .ensures) (child .first-child .ensures) (sym (room .lacks-room .ensures) ∙ past .before .if1 .left) (sym (past .is-past .ensures) ∙ c .if2 .taken)
+    turn-past (a .«record» .now) (a .n) (a .ray) (a .octant) (a .walk) (a .stack .now) (groupOf (a .g .group)) (a .g .depth)
+    (groupOf (rest .rest-of .result)) (child .first-child .result)
+    (rest .rest-of .ensures) (child .first-child .ensures) (sym (room .lacks-room .ensures) ∙ past .before .if1 .left)
+    (sym (past .is-past .ensures) ∙ c .if2 .taken)
 
 test-node-requires : tie.Need-test-node-requires
 test-node-requires c κs =
     let past = c .before in
     let child = past .before .before .before in
     let s = child .before .before .before .before .before in
-    let h = not-past (child .first-child .result) (s .args .walk .tests) (nodeCount (s .args .«record» .now)) (sym (past .is-past .ensures) ∙ c .if2 .left) in
+    let h = not-past (child .first-child .result) (s .args .walk .tests) (nodeCount (s .args .«record» .now))
+    (sym (past .is-past .ensures) ∙ c .if2 .left) in
     (omega (arith, h .0), s .pre .0 .ends, s .pre .0 .eight)
 
 returns-3 : tie.Need-returns-3
-unfolding answerOf
+unfolding stepAnswer
 returns-3 c =
     let t = c .before .before in
     let past = t .before .before in
@@ -59,8 +63,10 @@ returns-3 c =
     let child = room .before in
     let rest = child .before in
     let a = rest .before .before .before .before .args in
-    turn-broken (a .«record» .now) (a .n) (a .ray) (a .octant) (a .walk) (a .stack .now) (groupOf (a .g .group)) (a .g .depth) (groupOf (rest .rest-of .result)) (child .first-child .result)
-    (rest .rest-of .ensures) (child .first-child .ensures) (sym (room .lacks-room .ensures) ∙ past .before .if1 .left) (sym (past .is-past .ensures) ∙ t .before .if2 .left)
+    turn-broken (a .«record» .now) (a .n) (a .ray) (a .octant) (a .walk) (a .stack .now) (groupOf (a .g .group)) (a .g .depth)
+    (groupOf (rest .rest-of .result)) (child .first-child .result)
+    (rest .rest-of .ensures) (child .first-child .ensures) (sym (room .lacks-room .ensures) ∙ past .before .if1 .left)
+    (sym (past .is-past .ensures) ∙ t .before .if2 .left)
     (t .test-node .result) (t .test-node .ensures) (c .if3 .taken)
 
 wait-requires : tie.Need-wait-requires
@@ -74,7 +80,8 @@ cast-t24 c =
     let past = c .before .before .before .before .before .before .before .before in
     let child = past .before .before .before in
     let s = child .before .before .before .before .before in
-    let h = not-past (child .first-child .result) (s .args .walk .tests) (nodeCount (s .args .«record» .now)) (sym (past .is-past .ensures) ∙ c .before .before .before .before .before .before .before .if2 .left) in
+    let h = not-past (child .first-child .result) (s .args .walk .tests) (nodeCount (s .args .«record» .now))
+    (sym (past .is-past .ensures) ∙ c .before .before .before .before .before .before .before .if2 .left) in
     omega (arith, h .0, s .pre .0 .nodes)
 
 follow-requires : tie.Need-follow-requires
@@ -82,14 +89,15 @@ follow-requires c κs =
     let past = c .before .before .before .before .before .before .before .before in
     let child = past .before .before .before in
     let s = child .before .before .before .before .before in
-    let h = not-past (child .first-child .result) (s .args .walk .tests) (nodeCount (s .args .«record» .now)) (sym (past .is-past .ensures) ∙ c .before .before .before .before .before .before .before .if2 .left) in
+    let h = not-past (child .first-child .result) (s .args .walk .tests) (nodeCount (s .args .«record» .now))
+    (sym (past .is-past .ensures) ∙ c .before .before .before .before .before .before .before .if2 .left) in
     omega (arith, h .1, s .pre .0 .nodes)
 
 same-length : tie.Need-same-length
 same-length c = search needs
 
 returns-4 : tie.Need-returns-4
-unfolding answerOf
+unfolding stepAnswer
 returns-4 c =
     let wait = c .before .before .before in
     let met = wait .before .before in
@@ -99,9 +107,12 @@ returns-4 c =
     let child = room .before in
     let rest = child .before in
     let a = rest .before .before .before .before .args in
-    turn-tested (a .«record» .now) (a .n) (a .ray) (a .octant) (a .walk) (a .stack .now) (groupOf (a .g .group)) (a .g .depth) (groupOf (rest .rest-of .result)) (child .first-child .result)
-    (rest .rest-of .ensures) (child .first-child .ensures) (sym (room .lacks-room .ensures) ∙ past .before .if1 .left) (sym (past .is-past .ensures) ∙ t .before .if2 .left)
-    (t .test-node .result) (t .test-node .ensures) (met .if3 .left) (c .follow .result) (wait .wait .result) _ (c .follow .ensures) (wait .wait .ensures .0) (wait .wait .ensures .1)
+    turn-tested (a .«record» .now) (a .n) (a .ray) (a .octant) (a .walk) (a .stack .now) (groupOf (a .g .group)) (a .g .depth)
+    (groupOf (rest .rest-of .result)) (child .first-child .result)
+    (rest .rest-of .ensures) (child .first-child .ensures) (sym (room .lacks-room .ensures) ∙ past .before .if1 .left)
+    (sym (past .is-past .ensures) ∙ t .before .if2 .left)
+    (t .test-node .result) (t .test-node .ensures) (met .if3 .left) (c .follow .result) (wait .wait .result) _ (c .follow .ensures)
+    (wait .wait .ensures .0) (wait .wait .ensures .1)
 
 pub visit-spec : {M : Type 1} → statement M
 visit-spec =

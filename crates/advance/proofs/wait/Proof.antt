@@ -4,7 +4,8 @@ use Rattle.advance.proofs.wait.Statement.{statement}
 use Rattle.advance.proofs.wait.Tie as tie
 
 returns : tie.Need-returns
-returns c = let a = c .before .before .before .args in rest-gone (a .stack .now) (a .stack .now) (a .depth) (a .rest .base) (a .rest .bits) (c .if1 .taken)
+returns c = let a = c .before .before .before .args in rest-gone (a .stack .now) (a .stack .now) (a .depth) (a .rest .base) (a .rest .bits)
+    (c .if1 .taken)
 
 cast-word : tie.Need-cast-word
 cast-word c = search needs

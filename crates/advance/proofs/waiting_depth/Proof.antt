@@ -28,7 +28,8 @@ cast-if1 c = search needs
 returns : tie.Need-returns Inv-loop μ-loop
 returns c =
     let l = c .before .before .before in
-    waiting-here (l .before .before .args .stack .now) (l .loop .d) (omega arith) (omega (arith, c .before .top .ensures, c .if1 .taken)) ∙ l .loop .inv .1
+    waiting-here (l .before .before .args .stack .now) (l .loop .d) (omega arith) (omega (arith, c .before .top .ensures, c .if1 .taken)) ∙
+    l .loop .inv .1
 
 sub-d : tie.Need-sub-d Inv-loop μ-loop
 sub-d c = search needs
@@ -38,8 +39,11 @@ loop-less c = omega arith
 
 loop-again : tie.Need-loop-again Inv-loop μ-loop
 loop-again c =
-    let l = c .before .before .before in
-    (omega arith, waiting-next (l .before .before .args .stack .now) (l .loop .d) (omega arith) (omega (arith, c .before .top .ensures, c .if1 .left)) ∙ l .loop .inv .1)
+    let l = c .before .before .before in (
+      omega arith,
+      waiting-next (l .before .before .args .stack .now) (l .loop .d) (omega arith)
+          (omega (arith, c .before .top .ensures, c .if1 .left)) ∙ l .loop .inv .1,
+    )
 
 returns-2 : tie.Need-returns-2 Inv-loop μ-loop
 returns-2 c =

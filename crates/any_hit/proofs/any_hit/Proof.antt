@@ -4,10 +4,10 @@ use lib.ListN.{length}
 use borrow.Author.Needs.{needs}
 use Rattle.ray.specs.declared.Ray.{Ray}
 use Rattle.ray.specs.Ray.{rayOf}
-use Rattle.walk_record.specs.Beam.{beamOf, forgedBeam}
+use Rattle.walk_record.specs.WalkRay.{walkRay, forgedRay}
 use Rattle.walk_record.proofs.Laws.{bytes-fit}
 use Rattle.query.specs.Entry.{entryCause}
-use Rattle.any_hit.specs.AnyHit.{answerOf, walkOf, listOf}
+use Rattle.any_hit.specs.AnyHit.{anyHitAnswer, walkOf, listWalked}
 use Rattle.any_hit.proofs.Begins.{enters, unforged, sized}
 use Rattle.any_hit.proofs.Answers.{answers-entry, answers-walk, answers-empty}
 use Rattle.any_hit.proofs.any_hit.Statement.{statement}
@@ -36,13 +36,13 @@ entry-cause-requires : tie.Need-entry-cause-requires
 entry-cause-requires c κs = search needs
 
 returns : tie.Need-returns
-unfolding answerOf
+unfolding anyHitAnswer
 returns c =
     let a = c .before .before .before .before .before .args in
     answers-entry (a .«record» .now) (a .n) (ray (c .before)) (a .list .now) (c .before .entry-cause .result) (cause (c .before)) (c .if1 .taken)
 
 returns-2 : tie.Need-returns-2
-unfolding answerOf
+unfolding anyHitAnswer
 returns-2 c =
     let e = c .before in
     let a = e .before .before .before .before .before .args in
@@ -58,7 +58,7 @@ walk-whole-requires c κs =
     let a = e .before .before .before .before .args in
     let f = unforged (a .origin) (a .direction) (a .tmin) (a .tmax) (a .«record» .now) (a .n) (no-cause (d .before)) in (
       sized (a .origin) (a .direction) (a .tmin) (a .tmax) (a .«record» .now) (a .n) (no-cause (d .before)) (d .if2 .left),
-      ap (λ (r : Ray). forgedBeam (beamOf r)) (e .before .new .ensures) ∙ f,
+      ap (λ (r : Ray). forgedRay (walkRay r)) (e .before .new .ensures) ∙ f,
     )
 
 same-length : tie.Need-same-length
@@ -71,8 +71,8 @@ returns-3 c =
     let a = e .before .before .before .before .before .args in
     let q = e .before .before .new .ensures in
     answers-walk (a .«record» .now) (a .n) (ray (e .before)) (a .list .now) (no-cause e) (
-      k .walk-whole .ensures .0 ∙ ap (λ (r : Ray). walkOf (a .«record» .now) (a .n) (beamOf r) (length (a .list .now))) q,
-      k .walk-whole .ensures .1 ∙ ap (λ (r : Ray). listOf (a .«record» .now) (a .n) (beamOf r) (a .list .now)) q,
+      k .walk-whole .ensures .0 ∙ ap (λ (r : Ray). walkOf (a .«record» .now) (a .n) (walkRay r) (length (a .list .now))) q,
+      k .walk-whole .ensures .1 ∙ ap (λ (r : Ray). listWalked (a .«record» .now) (a .n) (walkRay r) (a .list .now)) q,
     )
 
 pub any-hit-spec : {M : Type 1} → statement M

@@ -8,17 +8,17 @@ use Rattle.words.specs.Ones.{onesBelow}
 use Rattle.record_shape.specs.Record.{nodeCount}
 use Rattle.walk.specs.WordStep.{WalkerWords, SteppedWords, seekWords}
 use Rattle.walk.proofs.WordEnds.{stepsLeftWords}
-use Rattle.walk_record.specs.Beam.{Beam, beams}
+use Rattle.walk_record.specs.WalkRay.{WalkRay, byBoxes}
 use Rattle.walk_record.specs.Record.{FieldsFit, nodeWordsAt}
 use Rattle.walk_record.proofs.Laws.{bytes-fit}
 use Rattle.advance.specs.declared.Answer.{Answer}
 use Rattle.advance.specs.declared.Walk.{Walk}
-use Rattle.advance.specs.Turn.{answerOf, groupOf, walkerOf}
+use Rattle.advance.specs.Turn.{stepAnswer, groupOf, walkerOf}
 use Rattle.advance.proofs.Seeks.{seeking-from}
-use Rattle.query.specs.Walk.{Sized}
+use Rattle.query.specs.Walk.{RecordSized}
 use Rattle.query.proofs.Begins.{walkable}
 use Rattle.any_hit.specs.declared.State.the-variants.{Done, Paused, Refused}
-use Rattle.any_hit.specs.Gather.{Walking, stateOf}
+use Rattle.any_hit.specs.Gather.{Walking, pauseOf}
 use Rattle.any_hit.proofs.Written.{met-length}
 use Rattle.any_hit.proofs.Walks.{walk-kept, walk-over, After, walk-seeks, walk-goes, walk-past, Noted, walk-notes}
 use Rattle.any_hit.proofs.gather.Statement.{statement}
@@ -49,14 +49,14 @@ module _ (c : tie.At-loop Inv-loop2 μ-loop2 Inv-loop μ-loop) where
   abbrev s : tie.Start Inv-loop2 μ-loop2 Inv-loop μ-loop
   s = c .before .before .before .before
 
-  sized : Sized (s .args .«record» .now) (s .args .n)
+  sized : RecordSized (s .args .«record» .now) (s .args .n)
   sized = s .pre .0 .0
 
   fit : FieldsFit (s .args .«record» .now)
   fit = bytes-fit _ (λ i. c .before .before .before .shared-slice-known .given i .fits)
 
   -- the walker before a search
-  abbrev w : WalkerWords Beam
+  abbrev w : WalkerWords WalkRay
   w = walkerOf (s .args .ray) (s .args .octant) (c .loop .walk) (c .loop .stack)
 
   walking : Walking (s .args .«record» .now) (s .args .n) (s .args .ray) w (c .loop .count) (s .args .found .now) (c .loop .found)
@@ -75,25 +75,25 @@ module _ (c : tie.After-walk-after Inv-loop2 μ-loop2 Inv-loop μ-loop) where
   stack = q .seek .last .1 .1 .1 .1 .1 .1 .1 .1 .1 .0
 
   -- the walker then
-  abbrev u : WalkerWords Beam
+  abbrev u : WalkerWords WalkRay
   u = walkerOf (s l .args .ray) (s l .args .octant) (c .walk-after .result) stack
 
   same-stack : length stack ≡ length (s l .args .stack .now)
   same-stack = q .seek .kept .1 .1 .1 .1 .1 .1 .1 .1 .1 .0 ∙ l .loop .inv .0
 
-  after : After (sized l) (fit l) (walking l) (stateOf (q .seek .result .answer)) u
+  after : After (sized l) (fit l) (walking l) (pauseOf (q .seek .result .answer)) u
   after =
       let a = s l .args in
-      let turned : Walk → SteppedWords Beam =
-      λ v. record { walker = walkerOf (a .ray) (a .octant) v stack; answer = answerOf (q .seek .result .answer) } in
+      let turned : Walk → SteppedWords WalkRay =
+      λ v. record { walker = walkerOf (a .ray) (a .octant) v stack; answer = stepAnswer (q .seek .result .answer) } in
       walk-seeks (sized l) (fit l) (walking l) (l .loop .inv .1) 0xffff_ffff (q .seek .result .answer) u
       (ap turned (c .walk-after .ensures) ∙ q .seek .ensures
-      ∙ ap (seekWords (nodeCount (a .«record» .now)) (nodeWordsAt (a .«record» .now) beams) 0xffff_ffff (a .n))
+      ∙ ap (seekWords (nodeCount (a .«record» .now)) (nodeWordsAt (a .«record» .now) byBoxes) 0xffff_ffff (a .n))
       (seeking-from (a .ray) (a .octant) (l .loop .stack) (l .loop .walk) (l .loop .inv .1)))
 
   -- by its answer
-  stated : (b : Answer) → q .seek .result .answer ≡ b → After (sized l) (fit l) (walking l) (stateOf b) u
-  stated b e = subst (λ (x : Answer). After (sized l) (fit l) (walking l) (stateOf x) u) e after
+  stated : (b : Answer) → q .seek .result .answer ≡ b → After (sized l) (fit l) (walking l) (pauseOf b) u
+  stated b e = subst (λ (x : Answer). After (sized l) (fit l) (walking l) (pauseOf x) u) e after
 
 -- it goes on
 paused : (c : tie.At-match-keys3 Inv-loop2 μ-loop2 Inv-loop μ-loop) → let k = c .before in
@@ -108,7 +108,7 @@ module _ (c : tie.At-loop2 Inv-loop2 μ-loop2 Inv-loop μ-loop) where
   abbrev k : tie.After-walk-after Inv-loop2 μ-loop2 Inv-loop μ-loop
   k = c .before .before
 
-  abbrev v : WalkerWords Beam
+  abbrev v : WalkerWords WalkRay
   v = walkerOf (s (l k) .args .ray) (s (l k) .args .octant) (c .loop2 .walk) (u k .stack)
 
   within : Walking (s (l k) .args .«record» .now) (s (l k) .args .n) (s (l k) .args .ray) v (c .loop2 .count) (l k .loop .found) (c .loop2 .found)
@@ -154,10 +154,10 @@ same-length : tie.Need-same-length Inv-loop2 μ-loop2 Inv-loop μ-loop
 same-length c = same-stack (c .before .before)
 
 same-length-2 : tie.Need-same-length-2 Inv-loop2 μ-loop2 Inv-loop μ-loop
-same-length-2 c = let h = walking (l (c .before .before)) in met-length _ (h .noted) _ (h .met)
+same-length-2 c = let h = walking (l (c .before .before)) in met-length _ (h .accumulator) _ (h .met)
 
 returns : tie.Need-returns Inv-loop2 μ-loop2 Inv-loop μ-loop
-unfolding stateOf
+unfolding pauseOf
 returns c = let a = c .before .before in (l a .loop .inv .2, stated a _ (c .enum-told .given .1))
 
 enum-known-reply : tie.Need-enum-known-reply Inv-loop2 μ-loop2 Inv-loop μ-loop
@@ -167,10 +167,10 @@ same-length-3 : tie.Need-same-length-3 Inv-loop2 μ-loop2 Inv-loop μ-loop
 same-length-3 c = same-stack (c .before .before .before)
 
 same-length-4 : tie.Need-same-length-4 Inv-loop2 μ-loop2 Inv-loop μ-loop
-same-length-4 c = let h = walking (l (c .before .before .before)) in met-length _ (h .noted) _ (h .met)
+same-length-4 c = let h = walking (l (c .before .before .before)) in met-length _ (h .accumulator) _ (h .met)
 
 returns-2 : tie.Need-returns-2 Inv-loop2 μ-loop2 Inv-loop μ-loop
-unfolding stateOf
+unfolding pauseOf
 returns-2 c = let a = c .before .before .before in (l a .loop .inv .2, stated a _ (c .before .reply .given .1))
 
 loop2-holds : tie.Need-loop2-holds Inv-loop2 μ-loop2 Inv-loop μ-loop
@@ -191,7 +191,7 @@ same-length-5 : tie.Need-same-length-5 Inv-loop2 μ-loop2 Inv-loop μ-loop
 same-length-5 c = same-stack (k (head (c .before)))
 
 same-length-6 : tie.Need-same-length-6 Inv-loop2 μ-loop2 Inv-loop μ-loop
-same-length-6 c = let h = over (head (c .before)) in met-length _ (h .noted) _ (h .met)
+same-length-6 c = let h = over (head (c .before)) in met-length _ (h .accumulator) _ (h .met)
 
 returns-3 : tie.Need-returns-3 Inv-loop2 μ-loop2 Inv-loop μ-loop
 returns-3 c =
@@ -234,7 +234,7 @@ same-length-7 : tie.Need-same-length-7 Inv-loop2 μ-loop2 Inv-loop μ-loop
 same-length-7 c = c .before .loop .inv .0
 
 same-length-8 : tie.Need-same-length-8 Inv-loop2 μ-loop2 Inv-loop μ-loop
-same-length-8 c = let h = walking (c .before) in met-length _ (h .noted) _ (h .met)
+same-length-8 c = let h = walking (c .before) in met-length _ (h .accumulator) _ (h .met)
 
 returns-4 : tie.Need-returns-4 Inv-loop2 μ-loop2 Inv-loop μ-loop
 returns-4 c = (c .before .loop .inv .2, (c .loop-test .left, c .before .loop .inv .1, walking (c .before)))

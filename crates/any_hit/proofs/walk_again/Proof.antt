@@ -4,14 +4,14 @@ use borrow.Author.Needs.{needs}
 use Rattle.walk_record.proofs.Laws.{bytes-fit}
 use Rattle.advance.specs.declared.Walk.{Walk}
 use Rattle.advance.specs.Turn.{walkerOf}
-use Rattle.any_hit.specs.AnyHit.{answerOf}
+use Rattle.any_hit.specs.AnyHit.{anyHitAnswer}
 use Rattle.any_hit.proofs.Walks.{walk-begins}
 use Rattle.any_hit.proofs.Answers.{ends-short, ends-again}
 use Rattle.any_hit.proofs.walk_again.Statement.{statement}
 use Rattle.any_hit.proofs.walk_again.Tie as tie
 
 returns : tie.Need-returns
-unfolding answerOf
+unfolding anyHitAnswer
 returns c =
     let s = c .before .before .before in
     ends-short (s .args .«record» .now) (s .args .n) (s .args .ray) (s .args .list .now) (s .pre .1) (c .if1 .taken)
@@ -42,7 +42,7 @@ same-length : tie.Need-same-length
 same-length c = search needs
 
 returns-2 : tie.Need-returns-2
-unfolding answerOf
+unfolding anyHitAnswer
 returns-2 c =
     let k = c .before .before .before in
     let i = k .before .before .before .before .before in

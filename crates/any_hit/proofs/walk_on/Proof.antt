@@ -5,11 +5,11 @@ use native.Mathlib.Omega.{arith}
 use borrow.Author.Needs.{needs}
 use lib.ListN.{length, replicate}
 use Rattle.walk.specs.WordStep.{WalkerWords}
-use Rattle.walk_record.specs.Beam.{Beam}
+use Rattle.walk_record.specs.WalkRay.{WalkRay}
 use Rattle.advance.specs.Turn.{walkerOf}
 use Rattle.any_hit.specs.declared.State.{State}
 use Rattle.any_hit.specs.declared.State.the-variants.{Done}
-use Rattle.any_hit.specs.AnyHit.{answerOf}
+use Rattle.any_hit.specs.AnyHit.{anyHitAnswer}
 use Rattle.any_hit.specs.Gather.{Stands}
 use Rattle.any_hit.proofs.Walks.{walk-moved}
 use Rattle.any_hit.proofs.Answers.{counted-only, ends-kept, ends-refused}
@@ -26,7 +26,7 @@ module _ (c : tie.After-gather) where
   s = copied .before .before .before .before .before .before .before
 
   -- the walker then, and the positions kept aside
-  abbrev w : WalkerWords Beam
+  abbrev w : WalkerWords WalkRay
   w = walkerOf (s .args .ray) (s .args .octant) (c .gather .result .walk) (c .gather .last .1 .1 .1 .1 .1 .1 .1 .1 .0)
 
   abbrev kept : List ℕ
@@ -103,7 +103,7 @@ same-length-3 : tie.Need-same-length-3
 same-length-3 c = search needs
 
 returns-2 : tie.Need-returns-2
-unfolding answerOf
+unfolding anyHitAnswer
 returns-2 c =
     let k = c .before .before .before .before .before .before in
     let a = s k .args in

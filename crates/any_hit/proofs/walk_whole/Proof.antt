@@ -5,12 +5,12 @@ use native.Mathlib.Omega.{arith}
 use borrow.Author.Needs.{needs}
 use lib.ListN.{length, replicate}
 use Rattle.walk.specs.WordStep.{WalkerWords}
-use Rattle.walk_record.specs.Beam.{Beam}
+use Rattle.walk_record.specs.WalkRay.{WalkRay}
 use Rattle.walk_record.proofs.Laws.{bytes-fit}
 use Rattle.advance.specs.declared.Walk.{Walk}
 use Rattle.advance.specs.Turn.{walkerOf}
 use Rattle.any_hit.specs.declared.State.{State}
-use Rattle.any_hit.specs.AnyHit.{answerOf}
+use Rattle.any_hit.specs.AnyHit.{anyHitAnswer}
 use Rattle.any_hit.specs.Gather.{Stands}
 use Rattle.any_hit.proofs.Walks.{walk-begins, walk-kept}
 use Rattle.any_hit.proofs.Answers.{ends-kept, ends-refused}
@@ -24,7 +24,7 @@ module _ (c : tie.After-gather) where
   s = c .before .before .before .before .before .before .before .before
 
   -- the walker then, and the positions kept aside
-  abbrev w : WalkerWords Beam
+  abbrev w : WalkerWords WalkRay
   w = walkerOf (s .args .ray) (c .before .before .before .before .before .octant .result) (c .gather .result .walk)
       (c .gather .last .1 .1 .1 .1 .1 .1 .1 .1 .0)
 
@@ -114,7 +114,7 @@ returns c =
     (d .deliver .ensures .0 ∙ q .0, d .deliver .ensures .1 ∙ q .1)
 
 returns-2 : tie.Need-returns-2
-unfolding answerOf
+unfolding anyHitAnswer
 returns-2 c =
     let k = c .before .before .before .before .before in
     let g = c .before .state .given in

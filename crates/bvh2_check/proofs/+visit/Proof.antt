@@ -6,7 +6,7 @@ use lib.ListN.{length, getD, length-set}
 use borrow.Fn.Kinds.{In}
 use borrow.Fn.PlainCycle.{Measures, is, falls, and}
 use Rattle.bvh2.proofs.link_word.Reads as link-word-reads
-use Rattle.bvh2_check.specs.Marking.{Ready}
+use Rattle.bvh2_check.specs.Marking.{MarkReady}
 use Rattle.bvh2_check.proofs.Steps.{Leaf, at-leaf, Cut, at-cut, Fork, at-fork, marked-before, held-before, held-now, cut-off, left-stops, both}
 use Rattle.bvh2_check.proofs.visit.Reads as visit
 use Rattle.bvh2_check.proofs.visit.Kinds as visit-kinds
@@ -48,21 +48,26 @@ B t = visit-lts.Else4 (claims t) (visit-at t) visit.Post
 abbrev start : (t : ℕ) → E t → S t
 start t c = c .before .before .before .before
 
-ready : (t : ℕ) (s : S t) → Ready (s .args .words .now) (s .args .n) (length (s .args .marks .now)) (s .args .node)
+ready : (t : ℕ) (s : S t) → MarkReady (s .args .words .now) (s .args .n) (length (s .args .marks .now)) (s .args .node)
 ready t s = s .pre .1
 
 -- the node was not marked before
 fresh : (t : ℕ) (c : E t) → getD (start t c .args .marks .now) (start t c .args .node) 0 ≡ 0
 fresh t c = omega arith
 
-leaf-of : (t : ℕ) (c : L t) → Leaf (start t (c .before .before) .args .words .now) (start t (c .before .before) .args .n) (start t (c .before .before) .args .node) (start t (c .before .before) .args .depth) (c .before .link-word .result % 0x4000_0000)
+leaf-of : (t : ℕ) (c : L t) → Leaf (start t (c .before .before) .args .words .now) (start t (c .before .before) .args .n)
+    (start t (c .before .before) .args .node) (start t (c .before .before) .args .depth) (c .before .link-word .result % 0x4000_0000)
 leaf-of t c = at-leaf _ _ (ready t (start t (c .before .before))) (c .before .link-word .ensures) (c .if2 .taken)
 
-cut-of : (t : ℕ) (c : C t) → Cut (start t (c .before .before .before) .args .words .now) (start t (c .before .before .before) .args .node) (start t (c .before .before .before) .args .depth)
+cut-of : (t : ℕ) (c : C t) → Cut (start t (c .before .before .before) .args .words .now) (start t (c .before .before .before) .args .node)
+    (start t (c .before .before .before) .args .depth)
 cut-of t c = at-cut _ _ _ _ (c .before .before .link-word .ensures) (c .before .if2 .left) (c .if4 .taken)
 
-fork-of : (t : ℕ) (c : B t) → Fork (start t (c .before .before .before) .args .words .now) (start t (c .before .before .before) .args .n) (length (start t (c .before .before .before) .args .marks .now)) (start t (c .before .before .before) .args .node) (start t (c .before .before .before) .args .depth) (c .before .before .link-word .result % 0x4000_0000)
-fork-of t c = at-fork _ _ (ready t (start t (c .before .before .before))) (c .before .before .link-word .ensures) (c .before .if2 .left) (c .if4 .left)
+fork-of : (t : ℕ) (c : B t) → Fork (start t (c .before .before .before) .args .words .now) (start t (c .before .before .before) .args .n)
+    (length (start t (c .before .before .before) .args .marks .now)) (start t (c .before .before .before) .args .node)
+    (start t (c .before .before .before) .args .depth) (c .before .before .link-word .result % 0x4000_0000)
+fork-of t c = at-fork _ _ (ready t (start t (c .before .before .before))) (c .before .before .link-word .ensures) (c .before .if2 .left)
+    (c .if4 .left)
 
 visit-mul-if1 : (t : ℕ) → visit-lts.Need-mul-if1 (claims t) (visit-at t) visit.Post
 visit-mul-if1 t c = let h = ready t (c .before .before) in omega arith
@@ -104,19 +109,22 @@ visit-same-length : (t : ℕ) → visit-lts.Need-same-length (claims t) (visit-a
 visit-same-length t c = simp length-set
 
 visit-returns-2 : (t : ℕ) → visit-lts.Need-returns-2 (claims t) (visit-at t) visit.Post
-visit-returns-2 t c = let g = leaf-of t (c .before .before) in held-before _ _ _ _ _ (fresh t (c .before .before .before .before)) _ _ (g .tree) (g .ends) (λ e. omega arith)
+visit-returns-2 t c = let g = leaf-of t (c .before .before) in held-before _ _ _ _ _ (fresh t (c .before .before .before .before)) _ _ (g .tree)
+    (g .ends) (λ e. omega arith)
 
 visit-mul-marks-2 : (t : ℕ) → visit-lts.Need-mul-marks-2 (claims t) (visit-at t) visit.Post
 visit-mul-marks-2 t c = let h = ready t (start t (c .before .before .before .before)) in let g = leaf-of t (c .before .before) in omega arith
 
 visit-slice-write-marks-2 : (t : ℕ) → visit-lts.Need-slice-write-marks-2 (claims t) (visit-at t) visit.Post
-visit-slice-write-marks-2 t c = let h = ready t (start t (c .before .before .before .before)) in let g = leaf-of t (c .before .before) in simp length-set (omega arith)
+visit-slice-write-marks-2 t c = let h = ready t (start t (c .before .before .before .before)) in let g = leaf-of t (c .before .before) in simp
+    length-set (omega arith)
 
 visit-same-length-2 : (t : ℕ) → visit-lts.Need-same-length-2 (claims t) (visit-at t) visit.Post
 visit-same-length-2 t c = simp length-set
 
 visit-returns-3 : (t : ℕ) → visit-lts.Need-returns-3 (claims t) (visit-at t) visit.Post
-visit-returns-3 t c = let g = leaf-of t (c .before .before) in held-now _ _ _ _ _ (fresh t (c .before .before .before .before)) _ _ (g .tree) (g .ends) (omega arith)
+visit-returns-3 t c = let g = leaf-of t (c .before .before) in held-now _ _ _ _ _ (fresh t (c .before .before .before .before)) _ _ (g .tree)
+    (g .ends) (omega arith)
 
 visit-same-length-3 : (t : ℕ) → visit-lts.Need-same-length-3 (claims t) (visit-at t) visit.Post
 visit-same-length-3 t c = simp length-set
@@ -140,19 +148,25 @@ visit-sub-visit-2 : (t : ℕ) → visit-lts.Need-sub-visit-2 (claims t) (visit-a
 visit-sub-visit-2 t c = omega arith
 
 visit-visit-requires-2 : (t : ℕ) → visit-lts.Need-visit-requires-2 (claims t) (visit-at t) visit.Post
-visit-visit-requires-2 t c κs = let h = fork-of t (c .before .before .before .before .before .before) in (omega arith, rw (c .before .before .before .before .visit .kept .1 .0) (simp length-set (h .right)))
+visit-visit-requires-2 t c κs = let h = fork-of t (c .before .before .before .before .before .before) in
+    (omega arith, rw (c .before .before .before .before .visit .kept .1 .0) (simp length-set (h .right)))
 
 visit-same-length-4 : (t : ℕ) → visit-lts.Need-same-length-4 (claims t) (visit-at t) visit.Post
-visit-same-length-4 t c = c .before .before .visit2 .kept .1 .0 ∙ c .before .before .before .before .before .before .before .visit .kept .1 .0 ∙ simp length-set
+visit-same-length-4 t c = c .before .before .visit2 .kept .1 .0 ∙ c .before .before .before .before .before .before .before .visit .kept .1 .0 ∙
+    simp length-set
 
 visit-returns-5 : (t : ℕ) → visit-lts.Need-returns-5 (claims t) (visit-at t) visit.Post
-visit-returns-5 t c = both _ _ _ _ _ (fresh t (c .before .before .before .before .before .before .before .before .before .before .before .before)) _ _ _ _ _ _ (fork-of t (c .before .before .before .before .before .before .before .before .before) .tree) (c .before .before .before .before .if5 .taken) (c .before .before .before .before .before .before .before .visit .ensures) (c .before .before .visit2 .ensures)
+visit-returns-5 t c = both _ _ _ _ _ (fresh t (c .before .before .before .before .before .before .before .before .before .before .before .before)) _
+    _ _ _ _ _ (fork-of t (c .before .before .before .before .before .before .before .before .before) .tree)
+    (c .before .before .before .before .if5 .taken) (c .before .before .before .before .before .before .before .visit .ensures)
+    (c .before .before .visit2 .ensures)
 
 visit-same-length-5 : (t : ℕ) → visit-lts.Need-same-length-5 (claims t) (visit-at t) visit.Post
 visit-same-length-5 t c = c .before .before .before .visit .kept .1 .0 ∙ simp length-set
 
 visit-returns-6 : (t : ℕ) → visit-lts.Need-returns-6 (claims t) (visit-at t) visit.Post
-visit-returns-6 t c = left-stops _ _ _ _ _ (fresh t (c .before .before .before .before .before .before .before .before)) _ _ _ _ _ (fork-of t (c .before .before .before .before .before) .tree) (c .if5 .left) (c .before .before .before .visit .ensures)
+visit-returns-6 t c = left-stops _ _ _ _ _ (fresh t (c .before .before .before .before .before .before .before .before)) _ _ _ _ _
+    (fork-of t (c .before .before .before .before .before) .tree) (c .if5 .left) (c .before .before .before .visit .ensures)
 
 pub +visit-spec : {M : Type 1} → statement M
 +visit-spec =

@@ -24,7 +24,8 @@ shared-slice-read-if1 : tie.Need-shared-slice-read-if1 Inv-loop μ-loop
 shared-slice-read-if1 c = omega arith
 
 returns : tie.Need-returns Inv-loop μ-loop
-returns c = sym (tells-false (all-marked _ _) (λ h. let i = h (c .before .before .before .loop .i) (c .before .before .loop-test .taken) in omega arith))
+returns c = sym (tells-false (all-marked _ _) (λ h. let i = h (c .before .before .before .loop .i) (c .before .before .loop-test .taken) in omega
+    arith))
 
 add-i : tie.Need-add-i Inv-loop μ-loop
 add-i c = omega arith

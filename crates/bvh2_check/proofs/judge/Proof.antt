@@ -23,8 +23,10 @@ Else2 = lts.Else2 (
   all-marked-reads.Learnt,
 ) reads.Pre reads.Post
 
-begun-at : (c : Else2) → Begun (c .before .before .before .before .before .before .args .words .now) (c .before .before .before .before .before .before .args .n) (c .before .before .before .before .before .before .args .marks .now)
-begun-at c = begun _ _ _ _ _ (c .before .before .before .before .before .before .pre) (c .before .before .before .links-inside .ensures) (c .before .before .if1 .left) (c .before .boxes-accepted .ensures) (c .if2 .left)
+begun-at : (c : Else2) → Begun (c .before .before .before .before .before .before .args .words .now)
+    (c .before .before .before .before .before .before .args .n) (c .before .before .before .before .before .before .args .marks .now)
+begun-at c = begun _ _ _ _ _ (c .before .before .before .before .before .before .pre) (c .before .before .before .links-inside .ensures)
+    (c .before .before .if1 .left) (c .before .boxes-accepted .ensures) (c .if2 .left)
 
 links-inside-requires : tie.Need-links-inside-requires
 links-inside-requires c κs = search needs
@@ -36,7 +38,9 @@ boxes-accepted-requires : tie.Need-boxes-accepted-requires
 boxes-accepted-requires c κs = search needs
 
 returns-2 : tie.Need-returns-2
-returns-2 c = judge-6 _ _ (c .before .before .before .before .before .before .pre .1) (was-true _ _ (c .before .before .before .links-inside .ensures) (c .before .before .if1 .left)) (was-false _ _ (c .before .boxes-accepted .ensures) (c .if2 .taken))
+returns-2 c = judge-6 _ _ (c .before .before .before .before .before .before .pre .1)
+    (was-true _ _ (c .before .before .before .links-inside .ensures) (c .before .before .if1 .left))
+    (was-false _ _ (c .before .boxes-accepted .ensures) (c .if2 .taken))
 
 visit-requires : tie.Need-visit-requires
 visit-requires c κs = ready (begun-at (c .before))
@@ -45,7 +49,8 @@ same-length : tie.Need-same-length
 same-length c = search needs
 
 returns-3 : tie.Need-returns-3
-returns-3 c = stopped _ _ _ (c .before .before .before .visit .last .1 .0) (c .before .before .before .visit .result) (begun-at (c .before .before .before .before .before)) (c .before .before .before .visit .ensures) (c .if3 .taken)
+returns-3 c = stopped _ _ _ (c .before .before .before .visit .last .1 .0) (c .before .before .before .visit .result)
+    (begun-at (c .before .before .before .before .before)) (c .before .before .before .visit .ensures) (c .if3 .taken)
 
 mul-all-marked : tie.Need-mul-all-marked
 mul-all-marked c = search needs
@@ -55,20 +60,29 @@ sub-all-marked c = search needs
 
 all-marked-requires : tie.Need-all-marked-requires
 all-marked-requires c κs =
-    let e = marks-enough (c .before .before .before .before .visit .last .1 .0) (begun-at (c .before .before .before .before .before .before)) (c .before .before .before .before .visit .kept .1 .0) in
+    let e = marks-enough (c .before .before .before .before .visit .last .1 .0) (begun-at (c .before .before .before .before .before .before))
+    (c .before .before .before .before .visit .kept .1 .0) in
     omega arith
 
 same-length-2 : tie.Need-same-length-2
 same-length-2 c = search needs
 
 returns-4 : tie.Need-returns-4
-returns-4 c = unmarked _ _ _ (c .before .before .before .before .before .before .visit .last .1 .0) (c .before .before .before .before .before .before .visit .result) (begun-at (c .before .before .before .before .before .before .before .before)) (c .before .before .before .before .before .before .visit .ensures) _ _ (omega arith) (c .before .before .before .if3 .left) (c .before .all-marked .ensures) (c .if4 .taken)
+returns-4 c = unmarked _ _ _ (c .before .before .before .before .before .before .visit .last .1 .0)
+    (c .before .before .before .before .before .before .visit .result)
+    (begun-at (c .before .before .before .before .before .before .before .before))
+    (c .before .before .before .before .before .before .visit .ensures) _ _ (omega arith) (c .before .before .before .if3 .left)
+    (c .before .all-marked .ensures) (c .if4 .taken)
 
 same-length-3 : tie.Need-same-length-3
 same-length-3 c = search needs
 
 returns-5 : tie.Need-returns-5
-returns-5 c = complete _ _ _ (c .before .before .before .before .before .before .visit .last .1 .0) (c .before .before .before .before .before .before .visit .result) (begun-at (c .before .before .before .before .before .before .before .before)) (c .before .before .before .before .before .before .visit .ensures) _ _ (omega arith) (c .before .before .before .if3 .left) (c .before .all-marked .ensures) (c .if4 .left)
+returns-5 c = complete _ _ _ (c .before .before .before .before .before .before .visit .last .1 .0)
+    (c .before .before .before .before .before .before .visit .result)
+    (begun-at (c .before .before .before .before .before .before .before .before))
+    (c .before .before .before .before .before .before .visit .ensures) _ _ (omega arith) (c .before .before .before .if3 .left)
+    (c .before .all-marked .ensures) (c .if4 .left)
 
 pub judge-spec : {M : Type 1} → statement M
 judge-spec =

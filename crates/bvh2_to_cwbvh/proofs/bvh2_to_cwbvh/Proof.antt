@@ -1,8 +1,8 @@
 use Prim.Native.Nat.{_<_}
 use native.Mathlib.Omega.{arith}
 use borrow.Author.Needs.{needs}
-use Rattle.tables.specs.Call.{Call, leafCount}
-use Rattle.bvh2_to_cwbvh.specs.Answer.{answerOf}
+use Rattle.bvh2_tables.specs.Call.{Call, leafCount}
+use Rattle.bvh2_to_cwbvh.specs.Answer.{conversionAnswer}
 use Rattle.bvh2_to_cwbvh.proofs.Endings.{Prepares, early-ends, empty-ends, level-ready, emit-ready, few-leaves, words-room, costs-room}
 use Rattle.bvh2_to_cwbvh.proofs.Endings.{deep-ends, written-ends, nodes-fit}
 use Rattle.bvh2_to_cwbvh.proofs.bvh2_to_cwbvh.Statement.{statement}
@@ -39,7 +39,7 @@ same-length-2 : tie.Need-same-length-2
 same-length-2 c = search needs
 
 returns : tie.Need-returns
-unfolding answerOf
+unfolding conversionAnswer
 returns c =
     let b = c .before .before in
     let q = b .before .before .before in
@@ -52,7 +52,7 @@ same-length-4 : tie.Need-same-length-4
 same-length-4 c = search needs
 
 returns-2 : tie.Need-returns-2
-unfolding answerOf
+unfolding conversionAnswer
 returns-2 c =
     let e = c .before in
     let b = e .before .before in
@@ -111,7 +111,7 @@ same-length-6 : tie.Need-same-length-6
 same-length-6 c = search needs
 
 returns-3 : tie.Need-returns-3
-unfolding answerOf
+unfolding conversionAnswer
 returns-3 c =
     let k = c .before .before in
     let l = k .before .before in
@@ -163,7 +163,7 @@ same-length-10 : tie.Need-same-length-10
 same-length-10 c = search needs
 
 returns-4 : tie.Need-returns-4
-unfolding answerOf
+unfolding conversionAnswer
 returns-4 c =
     let u = c .before .before in
     let w = u .before .before .before in

@@ -41,7 +41,10 @@ same-length-3 c = search needs
 
 returns-2 : tie.Need-returns-2
 returns-2 c =
-    wrote-checked _ _ _ _ _ _ _ (c .before .before .before .before .before .before .before .before .before .before .if1 .left) (c .before .before .before .before .before .before .before .before .before .load-u32 .ensures .value) (c .before .before .before .before .before .before .before .before .before .before .before .before .before .before .pre .0) (c .before .before .before .before .before .before .validate .ensures .0) (c .before .before .put-answer .ensures)
+    wrote-checked _ _ _ _ _ _ _ (c .before .before .before .before .before .before .before .before .before .before .if1 .left)
+    (c .before .before .before .before .before .before .before .before .before .load-u32 .ensures .value)
+    (c .before .before .before .before .before .before .before .before .before .before .before .before .before .before .pre .0)
+    (c .before .before .before .before .before .before .validate .ensures .0) (c .before .before .put-answer .ensures)
 
 pub check-text-spec : {M : Type 1} → statement M
 check-text-spec =

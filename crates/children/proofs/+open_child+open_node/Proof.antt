@@ -73,7 +73,8 @@ open-child-mul-word-2 : (t : ℕ) → open-child-lts.Need-mul-word-2 (child-give
 open-child-mul-word-2 t c = let h = child-known t (c .before .before .before) in let e = c .before .before .before .pre .1 .1 .entry in omega arith
 
 open-child-shared-slice-read-word : (t : ℕ) → open-child-lts.Need-shared-slice-read-word (child-given t) (open-child-at t) open-child.Post
-open-child-shared-slice-read-word t c = let h = child-known t (c .before .before .before .before) in let e = c .before .before .before .before .pre .1 .1 .entry in omega arith
+open-child-shared-slice-read-word t c = let h = child-known t (c .before .before .before .before) in let e =
+    c .before .before .before .before .pre .1 .1 .entry in omega arith
 
 open-child-cast-children : (t : ℕ) → open-child-lts.Need-cast-children (child-given t) (open-child-at t) open-child.Post
 open-child-cast-children t c = let h = child-known t (kept t c) in omega arith
@@ -94,13 +95,15 @@ open-child-returns : (t : ℕ) → open-child-lts.Need-returns (child-given t) (
 open-child-returns t c = let s = kept t c in λ limit h. stay (s .pre .1 .1) (s .args .children .now) (s .pre .1 .0) (c .if1 .taken) limit h
 
 open-child-open-node-requires : (t : ℕ) → open-child-lts.Need-open-node-requires (child-given t) (open-child-at t) open-child.Post
-open-child-open-node-requires t c κs = let s = opened t (c .before) in (omega (arith, s .pre .0), (s .pre .1 .0, divides (s .pre .1 .1) (c .before .if1 .left)))
+open-child-open-node-requires t c κs = let s = opened t (c .before) in
+    (omega (arith, s .pre .0), (s .pre .1 .0, divides (s .pre .1 .1) (c .before .if1 .left)))
 
 open-child-same-length-2 : (t : ℕ) → open-child-lts.Need-same-length-2 (child-given t) (open-child-at t) open-child.Post
 open-child-same-length-2 t c = c .before .before .open-node .kept .1 .1 .1 .1 .1 .0
 
 open-child-returns-2 : (t : ℕ) → open-child-lts.Need-returns-2 (child-given t) (open-child-at t) open-child.Post
-open-child-returns-2 t c = let n = c .before .before in let e = n .before .before in let s = opened t e in contributes (s .pre .1 .1) (e .if1 .left) (s .args .children .now) _ _ (n .open-node .ensures)
+open-child-returns-2 t c = let n = c .before .before in let e = n .before .before in let s = opened t e in contributes (s .pre .1 .1) (e .if1 .left)
+    (s .args .children .now) _ _ (n .open-node .ensures)
 
 -- ---- an opened node: the entry, its link read
 abbrev N : ℕ → Type 0
@@ -116,7 +119,8 @@ node-known : (t : ℕ) (s : N t) → Here (length (s .args .words .now)) (length
 node-known t s = here (s .pre .1 .1 .tabled)
 
 below : (t : ℕ) (w : W t) → let s = start t w in let x = getD (s .args .decisions .now) (s .args .v * 7 + s .args .entry) 0 in
-    Down (s .args .words .now) (s .args .decisions .now) (s .args .depth) (s .args .v) (w .link-word .result % 0x4000_0000) (x / 256 % 256) (x % 256) (s .args .count)
+    Down (s .args .words .now) (s .args .decisions .now) (s .args .depth) (s .args .v) (w .link-word .result % 0x4000_0000) (x / 256 % 256)
+    (x % 256) (s .args .count)
     (λ limit. gather limit (treeAt (s .args .words .now) (s .args .depth) (s .args .v)) (s .args .entry))
 below t w = down (start t w .pre .1 .1) (w .link-word .ensures)
 
@@ -130,7 +134,8 @@ open-node-mul-word-2 : (t : ℕ) → open-node-lts.Need-mul-word-2 (node-given t
 open-node-mul-word-2 t c = let h = node-known t (c .before .before .before) in let e = c .before .before .before .pre .1 .1 .entry in omega arith
 
 open-node-shared-slice-read-word : (t : ℕ) → open-node-lts.Need-shared-slice-read-word (node-given t) (open-node-at t) open-node.Post
-open-node-shared-slice-read-word t c = let h = node-known t (c .before .before .before .before) in let e = c .before .before .before .before .pre .1 .1 .entry in omega arith
+open-node-shared-slice-read-word t c = let h = node-known t (c .before .before .before .before) in let e =
+    c .before .before .before .before .pre .1 .1 .entry in omega arith
 
 open-node-cast-left : (t : ℕ) → open-node-lts.Need-cast-left (node-given t) (open-node-at t) open-node.Post
 open-node-cast-left t c = omega arith
@@ -148,7 +153,8 @@ open-node-sub-open-child : (t : ℕ) → open-node-lts.Need-sub-open-child (node
 open-node-sub-open-child t c = below t c .deep
 
 open-node-open-child-requires : (t : ℕ) → open-node-lts.Need-open-child-requires (node-given t) (open-node-at t) open-node.Post
-open-node-open-child-requires t c κs = let w = c .before in let s = start t w in let h = below t w in (omega (arith, s .pre .0, h .deep), (s .pre .1 .0, h .left))
+open-node-open-child-requires t c κs = let w = c .before in let s = start t w in let h = below t w in
+    (omega (arith, s .pre .0, h .deep), (s .pre .1 .0, h .left))
 
 open-node-add-open-child : (t : ℕ) → open-node-lts.Need-add-open-child (node-given t) (open-node-at t) open-node.Post
 open-node-add-open-child t c = omega arith

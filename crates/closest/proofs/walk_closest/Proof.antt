@@ -5,12 +5,12 @@ use native.Mathlib.Omega.{arith}
 use borrow.Author.Needs.{needs}
 use lib.Ieee.{Float}
 use lib.ListN.{length}
-use Rattle.slot.specs.Parts.{endsOf}
+use Rattle.node_slot.specs.Parts.{endsOf}
 use Rattle.record_shape.specs.Record.{nodeCount}
 use Rattle.walk.specs.Queries.{Found, none, closest}
 use Rattle.walk.specs.WordQueries.{OutcomeWords}
 use Rattle.walk.proofs.WordEnds.{stepsLeftWords}
-use Rattle.walk_record.specs.Beam.{Beam, beams}
+use Rattle.walk_record.specs.WalkRay.{WalkRay, byBoxes}
 use Rattle.walk_record.specs.Record.{FieldsFit, nodeWordsAt}
 use Rattle.walk_record.proofs.Laws.{bytes-fit}
 use Rattle.advance.specs.Turn.{walkerOf}
@@ -27,10 +27,10 @@ abbrev Inv-loop2 : tie.InvT-loop2
 Inv-loop2 bytes indices panes n octant e ray₀ walk₀ stack answer₀ ray walk answer =
     Held answer × (e ≡ endsOf (ray .direction))
     × (stepsLeftWords (nodeCount bytes) (walkerOf ray octant walk stack) ≤ stepsLeftWords (nodeCount bytes) (walkerOf ray₀ octant walk₀ stack))
-    × ((goal : OutcomeWords Beam (Found Float))
-    → Leads (nodeCount bytes) (nodeWordsAt bytes beams) n (closest (paneOf indices panes) nearer) goal
+    × ((goal : OutcomeWords WalkRay (Found Float))
+    → Leads (nodeCount bytes) (nodeWordsAt bytes byBoxes) n (closest (paneOf indices panes) nearer) goal
     (walkerOf ray₀ octant walk₀ stack) (foundBy answer₀)
-    → Leads (nodeCount bytes) (nodeWordsAt bytes beams) n (closest (paneOf indices panes) nearer) goal
+    → Leads (nodeCount bytes) (nodeWordsAt bytes byBoxes) n (closest (paneOf indices panes) nearer) goal
     (walkerOf ray octant walk stack) (foundBy answer))
 
 abbrev μ-loop2 : tie.MeasureT-loop2
@@ -39,11 +39,12 @@ abbrev μ-loop2 : tie.MeasureT-loop2
 abbrev Inv-loop : tie.InvT-loop
 Inv-loop bytes indices panes n octant e ray₀ walk₀ stack₀ answer₀ ray walk stack answer =
     Held answer × (length stack ≡ 32) × (e ≡ endsOf (ray .direction))
-    × Leads (nodeCount bytes) (nodeWordsAt bytes beams) n (closest (paneOf indices panes) nearer) (closestWalk bytes indices panes ray₀)
+    × Leads (nodeCount bytes) (nodeWordsAt bytes byBoxes) n (closest (paneOf indices panes) nearer) (closestWalk bytes indices panes ray₀)
     (walkerOf ray octant walk stack) (foundBy answer)
 
 abbrev μ-loop : tie.MeasureT-loop
-μ-loop bytes indices panes n octant e ray₀ walk₀ stack₀ answer₀ ray walk stack answer = stepsLeftWords (nodeCount bytes) (walkerOf ray octant walk stack)
+μ-loop bytes indices panes n octant e ray₀ walk₀ stack₀ answer₀ ray walk stack answer = stepsLeftWords (nodeCount bytes)
+    (walkerOf ray octant walk stack)
 
 -- ---- places further back
 
@@ -67,7 +68,7 @@ indicesAt l = entry l .before .args .indices .now
 abbrev panesAt : tie.At-loop2 Inv-loop2 μ-loop2 Inv-loop μ-loop → List Float
 panesAt l = entry l .before .args .panes .now
 
-abbrev goalAt : tie.At-loop2 Inv-loop2 μ-loop2 Inv-loop μ-loop → OutcomeWords Beam (Found Float)
+abbrev goalAt : tie.At-loop2 Inv-loop2 μ-loop2 Inv-loop μ-loop → OutcomeWords WalkRay (Found Float)
 goalAt l = closestWalk (bytesAt l) (indicesAt l) (panesAt l) (entry l .before .args .start)
 
 -- the head of the position loop, once a position is met, and after a search
@@ -81,7 +82,7 @@ soughtIn c = let s = c .before .before in let i = s .before .before .before in i
 
 -- at the head of the position loop: what is left leads to the outcome
 leads : (l : tie.At-loop2 Inv-loop2 μ-loop2 Inv-loop μ-loop)
-    → Leads (nodeCount (bytesAt l)) (nodeWordsAt (bytesAt l) beams) (length (indicesAt l)) (closest (paneOf (indicesAt l) (panesAt l)) nearer)
+    → Leads (nodeCount (bytesAt l)) (nodeWordsAt (bytesAt l) byBoxes) (length (indicesAt l)) (closest (paneOf (indicesAt l) (panesAt l)) nearer)
     (goalAt l) (walkerOf (l .loop2 .ray) (octantAt l) (l .loop2 .walk) (l .before .loop .stack)) (foundBy (l .loop2 .answer))
 leads l = l .loop2 .inv .3 _ (l .before .loop .inv .3)
 
@@ -89,8 +90,8 @@ fits : (c : tie.After-shared-slice-known Inv-loop2 μ-loop2 Inv-loop μ-loop) �
 fits c = bytes-fit _ (λ j. c .shared-slice-known .given j .fits)
 
 -- once a position is met, for any outcome to which the position loop led where it began
-atAny : (c : tie.After-rest-of Inv-loop2 μ-loop2 Inv-loop μ-loop) → let l = metIn c in (goal : OutcomeWords Beam (Found Float))
-    → Leads (nodeCount (bytesAt l)) (nodeWordsAt (bytesAt l) beams) (length (indicesAt l)) (closest (paneOf (indicesAt l) (panesAt l)) nearer) goal
+atAny : (c : tie.After-rest-of Inv-loop2 μ-loop2 Inv-loop μ-loop) → let l = metIn c in (goal : OutcomeWords WalkRay (Found Float))
+    → Leads (nodeCount (bytesAt l)) (nodeWordsAt (bytesAt l) byBoxes) (length (indicesAt l)) (closest (paneOf (indicesAt l) (panesAt l)) nearer) goal
     (walkerOf (l .before .loop .ray) (octantAt l) (l .before .loop .walk) (l .before .loop .stack)) (foundBy (l .before .loop .answer))
     → AtPosition (indicesAt l) (panesAt l) (bytesAt l) (closest (paneOf (indicesAt l) (panesAt l)) nearer) goal (l .loop2 .ray) (octantAt l)
     (l .loop2 .walk) (l .before .loop .stack) (foundBy (l .loop2 .answer))
@@ -122,7 +123,8 @@ after c = let l = soughtIn c in let s = c .before .before in record {
   none = s .before .before .before .if1 .left;
   most = 0xffff_ffff;
   search =
-      searched (nodeCount (bytesAt l)) (nodeWordsAt (bytesAt l) beams) 0xffff_ffff (length (indicesAt l)) (l .loop2 .ray) (octantAt l) (l .loop2 .walk)
+      searched (nodeCount (bytesAt l)) (nodeWordsAt (bytesAt l) byBoxes) 0xffff_ffff (length (indicesAt l)) (l .loop2 .ray) (octantAt l)
+      (l .loop2 .walk)
       (l .before .loop .stack) (s .before .before .before .if1 .left)
       (c .walk-after .result) (s .seek .result) (c .walk-after .ensures) _ (s .seek .ensures);
 }

@@ -5,12 +5,12 @@ use native.Mathlib.Omega.{arith}
 use borrow.Author.Needs.{needs}
 use lib.Ieee.{Float}
 use lib.ListN.{length}
-use Rattle.slot.specs.Parts.{endsOf}
+use Rattle.node_slot.specs.Parts.{endsOf}
 use Rattle.record_shape.specs.Record.{nodeCount}
 use Rattle.walk.specs.Queries.{Found, none, miss}
 use Rattle.walk.specs.WordQueries.{OutcomeWords}
 use Rattle.walk.proofs.WordEnds.{stepsLeftWords}
-use Rattle.walk_record.specs.Beam.{Beam, beams}
+use Rattle.walk_record.specs.WalkRay.{WalkRay, byBoxes}
 use Rattle.walk_record.specs.Record.{FieldsFit, nodeWordsAt}
 use Rattle.walk_record.proofs.Laws.{bytes-fit}
 use Rattle.advance.specs.Turn.{walkerOf}
@@ -28,7 +28,7 @@ abbrev Inv-loop : tie.InvT-loop
 Inv-loop bytes indices panes ray n octant e walk₀ stack answer₀ walk answer =
     (answer ≡ Missed)
     × (stepsLeftWords (nodeCount bytes) (walkerOf ray octant walk stack) ≤ stepsLeftWords (nodeCount bytes) (walkerOf ray octant walk₀ stack))
-    × Leads (nodeCount bytes) (nodeWordsAt bytes beams) n (miss (paneOf indices panes) nearer) (missWalk bytes indices panes ray)
+    × Leads (nodeCount bytes) (nodeWordsAt bytes byBoxes) n (miss (paneOf indices panes) nearer) (missWalk bytes indices panes ray)
     (walkerOf ray octant walk stack) none
 
 abbrev μ-loop : tie.MeasureT-loop
@@ -37,7 +37,7 @@ abbrev μ-loop : tie.MeasureT-loop
 abbrev Inv-walk : tie.InvT-walk
 Inv-walk bytes indices panes ray n octant e walk₀ stack₀ answer₀ walk stack answer =
     (answer ≡ Missed) × (length stack ≡ 32) × (e ≡ endsOf (ray .direction))
-    × Leads (nodeCount bytes) (nodeWordsAt bytes beams) n (miss (paneOf indices panes) nearer) (missWalk bytes indices panes ray)
+    × Leads (nodeCount bytes) (nodeWordsAt bytes byBoxes) n (miss (paneOf indices panes) nearer) (missWalk bytes indices panes ray)
     (walkerOf ray octant walk stack) none
 
 abbrev μ-walk : tie.MeasureT-walk
@@ -65,7 +65,7 @@ indicesAt l = entry l .before .args .indices .now
 abbrev panesAt : tie.At-loop Inv-loop μ-loop Inv-walk μ-walk → List Float
 panesAt l = entry l .before .args .panes .now
 
-abbrev goalAt : tie.At-loop Inv-loop μ-loop Inv-walk μ-walk → OutcomeWords Beam (Found Float)
+abbrev goalAt : tie.At-loop Inv-loop μ-loop Inv-walk μ-walk → OutcomeWords WalkRay (Found Float)
 goalAt l = missWalk (bytesAt l) (indicesAt l) (panesAt l) (entry l .before .args .ray)
 
 -- the head of the position loop, once a position is met, and after a search
@@ -105,7 +105,8 @@ after c = let l = soughtIn c in let s = c .before .before in record {
   none = s .before .before .before .if1 .left;
   most = 0xffff_ffff;
   search =
-      searched (nodeCount (bytesAt l)) (nodeWordsAt (bytesAt l) beams) 0xffff_ffff (length (indicesAt l)) (entry l .before .args .ray) (octantAt l) (l .loop .walk)
+      searched (nodeCount (bytesAt l)) (nodeWordsAt (bytesAt l) byBoxes) 0xffff_ffff (length (indicesAt l)) (entry l .before .args .ray)
+      (octantAt l) (l .loop .walk)
       (l .before .walk .stack) (s .before .before .before .if1 .left)
       (c .walk-after .result) (s .seek .result) (c .walk-after .ensures) _ (s .seek .ensures);
 }

@@ -38,8 +38,18 @@ calculate-cost-below t =
 
 -- what each callee asks and gives
 abbrev given : ℕ → calculate-cost-lts.Claims
-given t =
-    (node-area-reads.Asked, node-area-reads.Learnt, link-word-reads.Asked, link-word-reads.Learnt, calculate-cost-below t, calculate-cost.Post, inner-entries-reads.Asked, inner-entries-reads.Learnt, leaf-entries-reads.Asked, leaf-entries-reads.Learnt)
+given t = (
+  node-area-reads.Asked,
+  node-area-reads.Learnt,
+  link-word-reads.Asked,
+  link-word-reads.Learnt,
+  calculate-cost-below t,
+  calculate-cost.Post,
+  inner-entries-reads.Asked,
+  inner-entries-reads.Learnt,
+  leaf-entries-reads.Asked,
+  leaf-entries-reads.Learnt,
+)
 
 -- the places: the entry, the two branches, after the first call, after the second
 abbrev S : ℕ → Type 0
@@ -75,21 +85,25 @@ first t i = i .before .link-word .result % 0x4000_0000
 known : (t : ℕ) (s : S t) → Here (length (s .args .words .now)) (length (s .args .decisions .now)) (length (s .args .costs .now)) (s .args .v)
 known t s = here (s .pre .1)
 
-below : (t : ℕ) (i : I t) → Down (start t i .args .words .now) (length (start t i .args .decisions .now)) (length (start t i .args .costs .now)) (start t i .args .depth) (start t i .args .v) (first t i)
+below : (t : ℕ) (i : I t) → Down (start t i .args .words .now) (length (start t i .args .decisions .now)) (length (start t i .args .costs .now))
+    (start t i .args .depth) (start t i .args .v) (first t i)
 below t i = down (start t i .pre .1) (i .before .link-word .ensures) (i .if1 .taken)
 
 one : (t : ℕ) (c : C t) → let i = inner-of t c in
     Done (start t i .args .limit) (treeAt (start t i .args .words .now) (start t i .args .depth - 1) (first t i)) (c .calculate-cost .result)
-    (start t i .args .decisions .now) (start t i .args .costs .now) (c .calculate-cost .last .1 .1 .1 .1 .0) (c .calculate-cost .last .1 .1 .1 .1 .1 .0)
+    (start t i .args .decisions .now) (start t i .args .costs .now) (c .calculate-cost .last .1 .1 .1 .1 .0)
+    (c .calculate-cost .last .1 .1 .1 .1 .1 .0)
 one t c = record { counted = c .calculate-cost .ensures .0; decided = c .calculate-cost .ensures .1 .0; priced = c .calculate-cost .ensures .1 .1 }
 
 two : (t : ℕ) (d : D t) → let c = call-of t d in let i = inner-of t c in
     Done (start t i .args .limit) (treeAt (start t i .args .words .now) (start t i .args .depth - 1) (first t i + 1)) (d .calculate-cost2 .result)
-    (c .calculate-cost .last .1 .1 .1 .1 .0) (c .calculate-cost .last .1 .1 .1 .1 .1 .0) (d .calculate-cost2 .last .1 .1 .1 .1 .0) (d .calculate-cost2 .last .1 .1 .1 .1 .1 .0)
+    (c .calculate-cost .last .1 .1 .1 .1 .0) (c .calculate-cost .last .1 .1 .1 .1 .1 .0) (d .calculate-cost2 .last .1 .1 .1 .1 .0)
+    (d .calculate-cost2 .last .1 .1 .1 .1 .1 .0)
 two t d = record { counted = d .calculate-cost2 .ensures .0; decided = d .calculate-cost2 .ensures .1 .0; priced = d .calculate-cost2 .ensures .1 .1 }
 
 joint : (t : ℕ) (d : D t) → let c = call-of t d in let i = inner-of t c in
-    Both (start t i .args .limit) (first t i) (treeAt (start t i .args .words .now) (start t i .args .depth - 1) (first t i)) (treeAt (start t i .args .words .now) (start t i .args .depth - 1) (first t i + 1))
+    Both (start t i .args .limit) (first t i) (treeAt (start t i .args .words .now) (start t i .args .depth - 1) (first t i))
+    (treeAt (start t i .args .words .now) (start t i .args .depth - 1) (first t i + 1))
     (length (start t i .args .decisions .now)) (length (start t i .args .costs .now)) (c .calculate-cost .result) (d .calculate-cost2 .result)
     (d .calculate-cost2 .last .1 .1 .1 .1 .0) (d .calculate-cost2 .last .1 .1 .1 .1 .1 .0)
 joint t d =
@@ -118,7 +132,8 @@ calculate-cost-add-calculate-cost t c = omega arith
 calculate-cost-sub-calculate-cost-2 : (t : ℕ) → calculate-cost-lts.Need-sub-calculate-cost-2 (given t) (calculate-cost-at t) calculate-cost.Post
 calculate-cost-sub-calculate-cost-2 t c = below t (inner-of t (c .before .before .before .before)) .deep
 
-calculate-cost-calculate-cost-requires-2 : (t : ℕ) → calculate-cost-lts.Need-calculate-cost-requires-2 (given t) (calculate-cost-at t) calculate-cost.Post
+calculate-cost-calculate-cost-requires-2 : (t : ℕ) → calculate-cost-lts.Need-calculate-cost-requires-2 (given t) (calculate-cost-at t)
+    calculate-cost.Post
 calculate-cost-calculate-cost-requires-2 t c κs =
     let a = c .before .before .before .before .before .before in
     let h = below t (inner-of t a) in
@@ -135,10 +150,12 @@ calculate-cost-inner-entries-requires t c κs =
     (rw (h .words-length, h .costs-length) (below t (inner-of t (call-of t d)) .room), omega arith)
 
 calculate-cost-same-length : (t : ℕ) → calculate-cost-lts.Need-same-length (given t) (calculate-cost-at t) calculate-cost.Post
-calculate-cost-same-length t c = c .before .before .before .before .inner-entries .kept .0 ∙ joint t (c .before .before .before .before .before .before .before .before .before .before .before) .words-length
+calculate-cost-same-length t c = c .before .before .before .before .inner-entries .kept .0 ∙ joint t
+    (c .before .before .before .before .before .before .before .before .before .before .before) .words-length
 
 calculate-cost-same-length-2 : (t : ℕ) → calculate-cost-lts.Need-same-length-2 (given t) (calculate-cost-at t) calculate-cost.Post
-calculate-cost-same-length-2 t c = c .before .before .before .before .inner-entries .kept .1 .0 ∙ joint t (c .before .before .before .before .before .before .before .before .before .before .before) .costs-length
+calculate-cost-same-length-2 t c = c .before .before .before .before .inner-entries .kept .1 .0 ∙ joint t
+    (c .before .before .before .before .before .before .before .before .before .before .before) .costs-length
 
 calculate-cost-returns : (t : ℕ) → calculate-cost-lts.Need-returns (given t) (calculate-cost-at t) calculate-cost.Post
 calculate-cost-returns t c =
@@ -146,7 +163,8 @@ calculate-cost-returns t c =
     let d = e .before .before .before .before .before .before .before in
     let a = call-of t d in
     let i = inner-of t a in
-    let h = up (below t i) (start t i .args .limit) (one t a) (two t d) (joint t d) (i .before .before .node-area .ensures) (e .inner-entries .ensures .0) (e .inner-entries .ensures .1) in
+    let h = up (below t i) (start t i .args .limit) (one t a) (two t d) (joint t d) (i .before .before .node-area .ensures)
+    (e .inner-entries .ensures .0) (e .inner-entries .ensures .1) in
     (h .counted, (h .decided, h .priced))
 
 calculate-cost-leaf-entries-requires : (t : ℕ) → calculate-cost-lts.Need-leaf-entries-requires (given t) (calculate-cost-at t) calculate-cost.Post
@@ -163,7 +181,8 @@ calculate-cost-returns-2 t c =
     let e = c .before .before .before .before in
     let z = e .before .before .before in
     let s = start-leaf t z in
-    let h = leaf-done (s .pre .1) (z .before .link-word .ensures) (z .if1 .left) (s .args .limit) (z .before .before .node-area .ensures) (e .leaf-entries .ensures .0) (e .leaf-entries .ensures .1) in
+    let h = leaf-done (s .pre .1) (z .before .link-word .ensures) (z .if1 .left) (s .args .limit) (z .before .before .node-area .ensures)
+    (e .leaf-entries .ensures .0) (e .leaf-entries .ensures .1) in
     (h .counted, (h .decided, h .priced))
 
 pub +calculate-cost-spec : {M : Type 1} → statement M

@@ -11,7 +11,8 @@ use Rattle.cost.specs.Rows.{costsAt}
 use Rattle.cost.proofs.best_split.Statement.{statement}
 use Rattle.cost.proofs.best_split.Tie as tie
 
-step : (l r : ℕ → Float) (n : ℕ) (start : Float) (k : ℕ) {s t : Split} → s ≡ bestOf l r n start k → t ≡ better s (add binary32 (l k) (r (n - k))) k (n - k)
+step : (l r : ℕ → Float) (n : ℕ) (start : Float) (k : ℕ) {s t : Split} → s ≡ bestOf l r n start k → t
+    ≡ better s (add binary32 (l k) (r (n - k))) k (n - k)
     → t ≡ bestOf l r n start (k + 1)
 unfolding bestOf
 step l r n start k e g = rw (add-one k, ← e) g
@@ -74,13 +75,17 @@ loop-less c = omega arith
 loop-again : tie.Need-loop-again Inv-loop μ-loop
 loop-again c =
     let t = c .before .before .before in
-    let x = t .before .before .before .args in
-    (omega arith, step (costsAt (x .costs .now) (x .first)) (costsAt (x .costs .now) (x .first + 1)) (x .n) (x .start) (t .before .loop .k) (t .before .loop .inv .1) (c .better .ensures))
+    let x = t .before .before .before .args in (
+      omega arith,
+      step (costsAt (x .costs .now) (x .first)) (costsAt (x .costs .now) (x .first + 1)) (x .n) (x .start) (t .before .loop .k)
+          (t .before .loop .inv .1) (c .better .ensures),
+    )
 
 returns : tie.Need-returns Inv-loop μ-loop
 returns c =
     let x = c .before .before .before .args in
-    all (costsAt (x .costs .now) (x .first)) (costsAt (x .costs .now) (x .first + 1)) (x .n) (x .start) (c .before .loop .k) (c .before .loop .inv .0) (c .loop-test .left) (c .before .loop .inv .1)
+    all (costsAt (x .costs .now) (x .first)) (costsAt (x .costs .now) (x .first + 1)) (x .n) (x .start) (c .before .loop .k)
+    (c .before .loop .inv .0) (c .loop-test .left) (c .before .loop .inv .1)
 
 pub best-split-spec : {M : Type 1} → statement M
 best-split-spec =

@@ -10,7 +10,8 @@ use Rattle.cost.proofs.inner_entries.Statement.{statement}
 use Rattle.cost.proofs.inner_entries.Tie as tie
 
 abbrev Inv-loop : tie.InvT-loop
-Inv-loop decisions₀ costs₀ v first area count limit base e₀ i₀ decisions costs e i = Turn (entryFrom costs₀ first area count limit) (v * 7) i decisions₀ costs₀ decisions costs e
+Inv-loop decisions₀ costs₀ v first area count limit base e₀ i₀ decisions costs e i = Turn (entryFrom costs₀ first area count limit) (v * 7) i
+    decisions₀ costs₀ decisions costs e
 
 abbrev μ-loop : tie.MeasureT-loop
 μ-loop decisions₀ costs₀ v first area count limit base e₀ i₀ decisions costs e i = 6 - i
@@ -33,7 +34,8 @@ unfolding ofBits
 loop-holds c =
     let x = c .before .before .before .before .before .args in record {
       few = omega arith;
-      entry = first-stored (x .area) (x .count) (x .limit) (costsAt (x .costs .now) (x .first)) (costsAt (x .costs .now) (x .first + 1)) (c .before .best-split .ensures) (c .first-entry .ensures);
+      entry = first-stored (x .area) (x .count) (x .limit) (costsAt (x .costs .now) (x .first)) (costsAt (x .costs .now) (x .first + 1))
+          (c .before .best-split .ensures) (c .first-entry .ensures);
       filled = filled-none (entryFrom (x .costs .now) (x .first) (x .area) (x .count) (x .limit)) (x .v * 7) (x .decisions .now) (x .costs .now);
     }
 
@@ -81,7 +83,8 @@ loop-again c =
     let f = turn-writes h in record {
       few = omega arith;
       entry =
-          entry-next (x .area) (x .count) (x .limit) (costsAt (x .costs .now) (x .first)) (costsAt (x .costs .now) (x .first + 1)) _ _ (t .before .loop .i)
+          entry-next (x .area) (x .count) (x .limit) (costsAt (x .costs .now) (x .first)) (costsAt (x .costs .now) (x .first + 1)) _ _
+          (t .before .loop .i)
           (λ j u. child-stays (s .pre .0) _ _ (x .costs .now) (f .costs) (omega arith) (x .first) (omega arith) (omega arith) j (omega arith))
           (λ j u. child-stays (s .pre .0) _ _ (x .costs .now) (f .costs) (omega arith) (x .first + 1) (omega arith) (omega arith) j (omega arith))
           (h .entry) (b .best-split2 .ensures) (c .next-entry .ensures);

@@ -17,7 +17,8 @@ done : (f : ℕ → Decision) (base i : ℕ) {ds₀ ds : List ℕ} {cs₀ cs : L
 done f base i u v h = let e : i ≡ 7 = omega arith in (rw e at (h .words), rw e at (h .costs))
 
 abbrev Inv-loop : tie.InvT-loop
-Inv-loop decisions₀ costs₀ v area base cost i₀ decisions costs i = (i ≤ 7) × Filled (λ k. leafDecision area) (v * 7) i decisions₀ costs₀ decisions costs
+Inv-loop decisions₀ costs₀ v area base cost i₀ decisions costs i = (i ≤ 7)
+    × Filled (λ k. leafDecision area) (v * 7) i decisions₀ costs₀ decisions costs
 
 abbrev μ-loop : tie.MeasureT-loop
 μ-loop decisions₀ costs₀ v area base cost i₀ decisions costs i = 7 - i

@@ -48,10 +48,12 @@ start t i = i .before .before .before .before .before
 abbrev start-leaf : (t : ℕ) → Z t → S t
 start-leaf t i = i .before .before .before .before .before
 
-below : (t : ℕ) (i : I t) → Down (start t i .args .words .now) (length (start t i .args .indices .now)) (length (start t i .args .out .now)) (start t i .args .at) (start t i .args .depth) (start t i .args .v) (i .before .link-word .result % 0x4000_0000)
+below : (t : ℕ) (i : I t) → Down (start t i .args .words .now) (length (start t i .args .indices .now)) (length (start t i .args .out .now))
+    (start t i .args .at) (start t i .args .depth) (start t i .args .v) (i .before .link-word .result % 0x4000_0000)
 below t i = down (start t i .pre .1) (i .before .link-word .ensures) (i .if1 .taken)
 
-ended : (t : ℕ) (i : Z t) → Last (start-leaf t i .args .words .now) (start-leaf t i .args .indices .now) (start-leaf t i .args .at) (start-leaf t i .args .depth) (start-leaf t i .args .v) (i .before .link-word .result % 0x4000_0000) (start-leaf t i .args .out .now)
+ended : (t : ℕ) (i : Z t) → Last (start-leaf t i .args .words .now) (start-leaf t i .args .indices .now) (start-leaf t i .args .at)
+    (start-leaf t i .args .depth) (start-leaf t i .args .v) (i .before .link-word .result % 0x4000_0000) (start-leaf t i .args .out .now)
 ended t i = last (start-leaf t i .pre .1) (i .before .link-word .ensures) (i .if1 .left)
 
 write-leaves-link-word-requires : (t : ℕ) → write-leaves-lts.Need-link-word-requires (given t) (write-leaves-at t) write-leaves.Post
@@ -80,7 +82,8 @@ write-leaves-write-leaves-requires-2 t c κs =
     (omega arith, rw (f .kept .1 .1 .0, f .ensures .next) (h .right))
 
 write-leaves-same-length : (t : ℕ) → write-leaves-lts.Need-same-length (given t) (write-leaves-at t) write-leaves.Post
-write-leaves-same-length t c = c .before .before .write-leaves2 .kept .1 .1 .0 ∙ c .before .before .before .before .before .before .write-leaves .kept .1 .1 .0
+write-leaves-same-length t c = c .before .before .write-leaves2 .kept .1 .1 .0 ∙
+    c .before .before .before .before .before .before .write-leaves .kept .1 .1 .0
 
 write-leaves-returns : (t : ℕ) → write-leaves-lts.Need-returns (given t) (write-leaves-at t) write-leaves.Post
 write-leaves-returns t c =

@@ -7,7 +7,7 @@ use borrow.Author.Needs.{needs}
 use lib.ListN.{length, getD}
 use Rattle.bvh2.specs.Words.{boxAt}
 use Rattle.emit.specs.Grid.{gridOf}
-use Rattle.emit.specs.Own.{Cell, Own, State, made, withHeld, cellOf, firstSlots}
+use Rattle.emit.specs.Own.{Cell, Own, OwnState, made, withHeld, cellOf, firstSlots}
 use Rattle.emit.proofs.OwnSteps.{first-next, few-bits, corner-numbers, built}
 use Rattle.emit.proofs.build_node.Statement.{statement}
 use Rattle.emit.proofs.build_node.Tie as tie
@@ -15,7 +15,8 @@ use Rattle.emit.proofs.build_node.Tie as tie
 abbrev Inv-loop : tie.InvT-loop
 Inv-loop words indices decisions out₀ slots v count start depth b grid metas₀ boxes₀ imask₀ inner₀ at₀ i₀ out metas boxes imask inner at i =
     (i ≤ 8) × (length out ≡ length out₀)
-    × (made (record { metas = metas; boxes = boxes; imask = imask; inner = inner; at = at }) out ≡ firstSlots indices (boxAt words v) start (λ j. cellOf words decisions depth (getD slots j 0)) i out₀)
+    × (made (record { metas = metas; boxes = boxes; imask = imask; inner = inner; at = at }) out
+    ≡ firstSlots indices (boxAt words v) start (λ j. cellOf words decisions depth (getD slots j 0)) i out₀)
 
 abbrev μ-loop : tie.MeasureT-loop
 μ-loop words indices decisions out₀ slots v count start depth b grid metas₀ boxes₀ imask₀ inner₀ at₀ i₀ out metas boxes imask inner at i = 8 - i
@@ -39,20 +40,24 @@ own l = record { metas = l .loop .metas; boxes = l .loop .boxes; imask = l .loop
 abbrev cells : S → ℕ → Cell
 cells s j = cellOf (s .args .words .now) (s .args .decisions .now) (s .args .depth) (getD (s .args .slots .now) j 0)
 
-abbrev slotsUpto : S → ℕ → State
+abbrev slotsUpto : S → ℕ → OwnState
 slotsUpto s k = firstSlots (s .args .indices .now) (boxAt (s .args .words .now) (s .args .v)) (s .args .start) (cells s) k (s .args .out .now)
 
 -- the slots with one more
-next : (h : H) → let l = h .before .before .before .before in made (withHeld (l .loop .i) (h .own-slot .result) (own l)) (h .own-slot .last .1 .1 .1 .0) ≡ slotsUpto (start l) (suc (l .loop .i))
+next : (h : H) → let l = h .before .before .before .before in made (withHeld (l .loop .i) (h .own-slot .result) (own l))
+    (h .own-slot .last .1 .1 .1 .0) ≡ slotsUpto (start l) (suc (l .loop .i))
 next h =
     let l = h .before .before .before .before in
     let s = start l in
     let g = l .before in
-    first-next (s .args .indices .now) (boxAt (s .args .words .now) (s .args .v)) (s .args .start) (cells s) (s .args .out .now) (l .loop .i) (own l) (l .loop .out) _ _ (l .loop .inv .2)
-    (h .own-slot .ensures .0 (boxAt (s .args .words .now) (s .args .v)) (g .grid-of .ensures ∙ ap gridOf (g .before .node-box .ensures))) (h .own-slot .ensures .1)
+    first-next (s .args .indices .now) (boxAt (s .args .words .now) (s .args .v)) (s .args .start) (cells s) (s .args .out .now) (l .loop .i)
+    (own l) (l .loop .out) _ _ (l .loop .inv .2)
+    (h .own-slot .ensures .0 (boxAt (s .args .words .now) (s .args .v)) (g .grid-of .ensures ∙ ap gridOf (g .before .node-box .ensures)))
+    (h .own-slot .ensures .1)
 
 few : (s : S) (k : ℕ) (o : Own) (l : List ℕ) → k ≤ 8 → made o l ≡ slotsUpto s k → (o .imask < 256) × (o .inner ≤ 8)
-few s k o l h e = few-bits (s .args .indices .now) (boxAt (s .args .words .now) (s .args .v)) (s .args .start) (cells s) (s .args .out .now) k o h (ap (λ (x : State). x .own) e)
+few s k o l h e = few-bits (s .args .indices .now) (boxAt (s .args .words .now) (s .args .v)) (s .args .start) (cells s) (s .args .out .now) k o h
+    (ap (λ (x : OwnState). x .own) e)
 
 bits : (l : L) → (l .loop .imask < 256) × (l .loop .inner ≤ 8)
 bits l = few (start l) (l .loop .i) (own l) (l .loop .out) (l .loop .inv .0) (l .loop .inv .2)
@@ -78,7 +83,7 @@ own-slot-requires c κs =
     let t = c .before .before in
     let l = t .before in
     let s = start l in
-    let e = ap (λ (x : State). x .own .at) (l .loop .inv .2) in
+    let e = ap (λ (x : OwnState). x .own .at) (l .loop .inv .2) in
     (t .loop-test .taken, rw (l .loop .inv .1, e) (s .pre .4 .each (l .loop .i) (t .loop-test .taken)))
 
 array-write-metas : tie.Need-array-write-metas Inv-loop μ-loop
@@ -91,10 +96,12 @@ array-set-from-boxes : tie.Need-array-set-from-boxes Inv-loop μ-loop
 array-set-from-boxes c = omega arith
 
 add-imask : tie.Need-add-imask Inv-loop μ-loop
-add-imask c = let h = c .before .before .before .before in let l = h .before .before .before .before in omega (arith, few (start l) (suc (l .loop .i)) _ _ (omega arith) (next h) .0)
+add-imask c = let h = c .before .before .before .before in let l = h .before .before .before .before in omega
+    (arith, few (start l) (suc (l .loop .i)) _ _ (omega arith) (next h) .0)
 
 add-inner : tie.Need-add-inner Inv-loop μ-loop
-add-inner c = let h = c .before .before .before .before .before in let l = h .before .before .before .before in omega (arith, few (start l) (suc (l .loop .i)) _ _ (omega arith) (next h) .1)
+add-inner c = let h = c .before .before .before .before .before in let l = h .before .before .before .before in omega
+    (arith, few (start l) (suc (l .loop .i)) _ _ (omega arith) (next h) .1)
 
 add-i : tie.Need-add-i Inv-loop μ-loop
 add-i c = omega arith
@@ -110,13 +117,16 @@ loop-again c =
 
 -- the box is an accepted one
 float-to-bits-t33 : tie.Need-float-to-bits-t33 Inv-loop μ-loop
-float-to-bits-t33 c = let n = c .before .before .before .before in rw (n .node-box .ensures) (corner-numbers (boxAt _ _) (n .before .before .before .before .before .pre .1) .0)
+float-to-bits-t33 c = let n = c .before .before .before .before in rw (n .node-box .ensures)
+    (corner-numbers (boxAt _ _) (n .before .before .before .before .before .pre .1) .0)
 
 float-to-bits-t34 : tie.Need-float-to-bits-t34 Inv-loop μ-loop
-float-to-bits-t34 c = let n = c .before .before .before .before .before in rw (n .node-box .ensures) (corner-numbers (boxAt _ _) (n .before .before .before .before .before .pre .1) .1)
+float-to-bits-t34 c = let n = c .before .before .before .before .before in rw (n .node-box .ensures)
+    (corner-numbers (boxAt _ _) (n .before .before .before .before .before .pre .1) .1)
 
 float-to-bits-t35 : tie.Need-float-to-bits-t35 Inv-loop μ-loop
-float-to-bits-t35 c = let n = c .before .before .before .before .before .before in rw (n .node-box .ensures) (corner-numbers (boxAt _ _) (n .before .before .before .before .before .pre .1) .2)
+float-to-bits-t35 c = let n = c .before .before .before .before .before .before in rw (n .node-box .ensures)
+    (corner-numbers (boxAt _ _) (n .before .before .before .before .before .pre .1) .2)
 
 cast-t36 : tie.Need-cast-t36 Inv-loop μ-loop
 cast-t36 c = omega (arith, bits (c .before .before .before .before) .0)
@@ -139,11 +149,12 @@ returns c =
     let a = l .loop .inv .2 ∙ ap (slotsUpto s) e in
     record {
       node =
-          (built (s .args .words .now) (s .args .v) (s .args .count) (s .args .start) (g .before .node-box .result) (g .grid-of .result) (own l) _ (g .before .node-box .ensures)
-          (g .grid-of .ensures ∙ ap gridOf (g .before .node-box .ensures)) (ap (λ (x : State). x .own) a));
-      inner = ap (λ (x : State). x .own .inner) a;
-      at = ap (λ (x : State). x .own .at) a;
-      list = ap (λ (x : State). x .list) a;
+          (built (s .args .words .now) (s .args .v) (s .args .count) (s .args .start) (g .before .node-box .result) (g .grid-of .result) (own l) _
+          (g .before .node-box .ensures)
+          (g .grid-of .ensures ∙ ap gridOf (g .before .node-box .ensures)) (ap (λ (x : OwnState). x .own) a));
+      inner = ap (λ (x : OwnState). x .own .inner) a;
+      at = ap (λ (x : OwnState). x .own .at) a;
+      list = ap (λ (x : OwnState). x .list) a;
     }
 
 pub build-node-spec : {M : Type 1} → statement M

@@ -29,7 +29,14 @@ returns c =
     let c3 = c4 .before .before .before .before in
     let c2 = c3 .before .before .before .before in
     let c1 = c2 .before .before .before .before in
-    rw (c .quantize-max3 .ensures, c5 .quantize-max2 .ensures, c4 .quantize-max .ensures, c3 .quantize-min3 .ensures, c2 .quantize-min2 .ensures, c1 .quantize-min .ensures)
+    rw (
+      c .quantize-max3 .ensures,
+      c5 .quantize-max2 .ensures,
+      c4 .quantize-max .ensures,
+      c3 .quantize-min3 .ensures,
+      c2 .quantize-min2 .ensures,
+      c1 .quantize-min .ensures,
+    )
 
 pub grid-box-spec : {M : Type 1} → statement M
 grid-box-spec =

@@ -5,7 +5,7 @@ use Rattle.words.proofs.Masks.{one-shl}
 use Rattle.bvh2.proofs.Subtree.{node}
 use Rattle.bvh2.specs.Words.{boxAt, treeAt}
 use Rattle.emit.specs.Grid.{boxOn}
-use Rattle.emit.specs.Own.{heldIn, listWith, CellReady, asLeaf}
+use Rattle.emit.specs.Own.{heldIn, leafWordsIn, CellReady, asLeaf}
 use Rattle.emit.proofs.GridBox.{on-grid}
 use Rattle.emit.proofs.OwnSteps.{cell-none, cell-leaf, cell-node, leaf-ready, leaf-held, leaf-listed}
 use borrow.Author.Needs.{needs}
@@ -13,7 +13,7 @@ use Rattle.emit.proofs.own_slot.Statement.{statement}
 use Rattle.emit.proofs.own_slot.Tie as tie
 
 returns : tie.Need-returns
-unfolding heldIn listWith
+unfolding heldIn leafWordsIn
 returns c =
     let s = c .before .before .before .before .before in
     let e = cell-none (s .args .words .now) (s .args .decisions .now) (s .args .depth) (s .args .v) (c .if1 .taken) in
@@ -44,7 +44,8 @@ write-leaves-requires c κs =
     let t = c .before in
     let e = t .before .before .before .before in
     let s = e .before .before .before .before .before in
-    leaf-ready (s .args .words .now) (s .args .decisions .now) (s .args .depth) (s .args .v) (e .if1 .left) (length (s .args .indices .now)) (length (s .args .out .now)) (s .args .start) (s .args .at) (s .pre .1) (t .if2 .taken) .0
+    leaf-ready (s .args .words .now) (s .args .decisions .now) (s .args .depth) (s .args .v) (e .if1 .left) (length (s .args .indices .now))
+    (length (s .args .out .now)) (s .args .start) (s .args .at) (s .pre .1) (t .if2 .taken) .0
 
 sub-leaf-meta : tie.Need-sub-leaf-meta
 sub-leaf-meta c = search needs
@@ -56,10 +57,12 @@ abbrev entry : tie.After-slice-known2 → tie.Start
 entry c = other c .before .before .before .before .before
 
 -- a leaf child's words have room, and its place fits the meta byte
-ready : (c : tie.After-slice-known2) → CellReady (length (entry c .args .out .now)) (entry c .args .start) (entry c .args .at) (asLeaf (boxAt (entry c .args .words .now) (entry c .args .v)) (treeAt (entry c .args .words .now) (entry c .args .depth) (entry c .args .v)))
+ready : (c : tie.After-slice-known2) → CellReady (length (entry c .args .out .now)) (entry c .args .start) (entry c .args .at)
+    (asLeaf (boxAt (entry c .args .words .now) (entry c .args .v)) (treeAt (entry c .args .words .now) (entry c .args .depth) (entry c .args .v)))
 ready c =
     let s = entry c in
-    leaf-ready (s .args .words .now) (s .args .decisions .now) (s .args .depth) (s .args .v) (other c .if1 .left) (length (s .args .indices .now)) (length (s .args .out .now)) (s .args .start) (s .args .at) (s .pre .1) (c .before .before .before .before .if2 .taken) .1
+    leaf-ready (s .args .words .now) (s .args .decisions .now) (s .args .depth) (s .args .v) (other c .if1 .left) (length (s .args .indices .now))
+    (length (s .args .out .now)) (s .args .start) (s .args .at) (s .pre .1) (c .before .before .before .before .if2 .taken) .1
 
 sub-leaf-meta-2 : tie.Need-sub-leaf-meta-2
 unfolding CellReady
@@ -80,7 +83,8 @@ returns-2 c =
     let e = other (c .before) in
     let s = entry (c .before) in
     let k = cell-leaf (s .args .words .now) (s .args .decisions .now) (s .args .depth) (s .args .v) (e .if1 .left) (t .if2 .taken) in (
-      λ b q. leaf-held b _ (s .args .start) (s .args .i) (s .args .at) _ _ _ _ _ k (w .write-leaves .ensures .next) (c .leaf-meta .ensures) (g .grid-box .ensures ∙ ap₂ boxOn q (g .before .node-box .ensures) ∙ on-grid b _),
+      λ b q. leaf-held b _ (s .args .start) (s .args .i) (s .args .at) _ _ _ _ _ k (w .write-leaves .ensures .next) (c .leaf-meta .ensures)
+          (g .grid-box .ensures ∙ ap₂ boxOn q (g .before .node-box .ensures) ∙ on-grid b _),
       leaf-listed _ _ _ _ _ _ _ k (w .write-leaves .ensures .list),
     )
 
@@ -97,7 +101,7 @@ shl-t21 : tie.Need-shl-t21
 shl-t21 c = search needs
 
 returns-3 : tie.Need-returns-3
-unfolding heldIn listWith
+unfolding heldIn leafWordsIn
 returns-3 c =
     let g = c .before .before in
     let e = g .before .before in

@@ -8,8 +8,8 @@ use borrow.Fn.Kinds.{In}
 use borrow.Fn.PlainCycle.{Measures, is, falls, and}
 use Rattle.bvh2.specs.Words.{treeAt}
 use Rattle.bvh2.proofs.Subtree.{node}
-use Rattle.wide.specs.Conversion.{convert}
-use Rattle.emit_tree.specs.Emission.{Reached, Emits, Room, slotsAt, slotWords, writeEntry}
+use Rattle.wide_layout.specs.Conversion.{convert}
+use Rattle.emit_tree.specs.Emission.{EmitNode, Emits, EmitRoom, wideSlotsAt, slotWords, writeEntry}
 use Rattle.emit_tree.proofs.Entering.{own-ready, build-asks, node-room, free-nodes, node-entered, room-begun}
 use Rattle.emit_tree.proofs.Emitting.{Loop, loop-begun, loop-reads, loop-child, loop-inner, loop-other, loop-end, loop-as, tabled}
 use Rattle.emit_tree.proofs.emit_node.Reads as emit-node
@@ -87,19 +87,26 @@ abbrev wrote : (t : ℕ) → I t → W t
 wrote t l = l .before .before .before .before .before .before
 
 -- the slots' words, for whatever tables the decisions are
-words-are : (t : ℕ) (x : X t) → (h : Reached (start t x .args .words .now) (start t x .args .decisions .now) (length (start t x .args .indices .now)) (start t x .args .depth) (start t x .args .v))
-    → x .slots-of .result ≡ slotWords (start t x .args .ordered) (h .limit) (treeAt (start t x .args .words .now) (start t x .args .depth) (start t x .args .v))
+words-are : (t : ℕ) (x : X t) → (h : EmitNode (start t x .args .words .now) (start t x .args .decisions .now)
+    (length (start t x .args .indices .now)) (start t x .args .depth) (start t x .args .v))
+    → x .slots-of .result ≡ slotWords (start t x .args .ordered) (h .limit)
+    (treeAt (start t x .args .words .now) (start t x .args .depth) (start t x .args .v))
 words-are t x h = x .slots-of .ensures (h .limit) (h .holds)
 
 room-at : (t : ℕ) (w : W t) → let b = built t w in let x = slots t b in let s = start t x in
-    (h : Emits (s .args .words .now) (s .args .decisions .now) (length (s .args .indices .now)) (s .args .depth) (s .args .v) (s .args .ordered) (length (s .args .bytes .now)) (length (s .args .out .now)) (s .args .number) (s .args .next))
-    → Room (slotsAt (s .args .words .now) (s .args .ordered) (h .at .limit) (s .args .depth) (s .args .v)) (length (w .write-node .last .0)) (length (b .build-node .last .1 .1 .1 .0)) (s .args .next .nodes) (record { nodes = s .args .next .nodes + b .build-node .result .inner; positions = b .build-node .result .at })
+    (h : Emits (s .args .words .now) (s .args .decisions .now) (length (s .args .indices .now)) (s .args .depth) (s .args .v) (s .args .ordered)
+    (length (s .args .bytes .now)) (length (s .args .out .now)) (s .args .number) (s .args .next))
+    → EmitRoom (wideSlotsAt (s .args .words .now) (s .args .ordered) (h .at .limit) (s .args .depth) (s .args .v)) (length (w .write-node .last .0))
+    (length (b .build-node .last .1 .1 .1 .0)) (s .args .next .nodes)
+    (record { nodes = s .args .next .nodes + b .build-node .result .inner; positions = b .build-node .result .at })
 room-at t w h =
     let b = built t w in
     let x = slots t b in
     let s = start t x in
-    room-begun (s .args .words .now) (s .args .decisions .now) (s .args .indices .now) (s .args .bytes .now) (s .args .out .now) (x .slots-of .result) (s .args .depth) (s .args .v) (s .args .number) (s .args .ordered) (s .args .next) h (words-are t x (h .at))
-    (b .build-node .result) (w .write-node .last .0) (b .build-node .last .1 .1 .1 .0) (b .build-node .ensures) (w .write-node .ensures) (w .write-node .kept .0) (b .build-node .kept .1 .1 .1 .0)
+    room-begun (s .args .words .now) (s .args .decisions .now) (s .args .indices .now) (s .args .bytes .now) (s .args .out .now)
+    (x .slots-of .result) (s .args .depth) (s .args .v) (s .args .number) (s .args .ordered) (s .args .next) h (words-are t x (h .at))
+    (b .build-node .result) (w .write-node .last .0) (b .build-node .last .1 .1 .1 .0) (b .build-node .ensures) (w .write-node .ensures)
+    (w .write-node .kept .0) (b .build-node .kept .1 .1 .1 .0)
 
 emit-node-slots-of-requires : (t : ℕ) → lts.Need-slots-of-requires (given t) (emit-node-at t) emit-node.Post Inv μ
 emit-node-slots-of-requires t c κs =
@@ -109,14 +116,25 @@ emit-node-build-node-requires : (t : ℕ) → lts.Need-build-node-requires (give
 emit-node-build-node-requires t c κs =
     let x = c .before .before in
     let s = start t x in
-    let a = build-asks (s .args .words .now) (s .args .decisions .now) (s .args .indices .now) (s .args .bytes .now) (s .args .out .now) (x .slots-of .result) (s .args .depth) (s .args .v) (s .args .number) (s .args .ordered) (s .args .next) (s .pre .1) (words-are t x (s .pre .1 .at)) in
-    (a .0, a .1, a .2, a .3, own-ready (s .args .words .now) (s .args .decisions .now) (s .args .indices .now) (s .args .bytes .now) (s .args .out .now) (x .slots-of .result) (s .args .depth) (s .args .v) (s .args .number) (s .args .ordered) (s .args .next) (s .pre .1) (words-are t x (s .pre .1 .at)))
+    let a = build-asks (s .args .words .now) (s .args .decisions .now) (s .args .indices .now) (s .args .bytes .now) (s .args .out .now)
+    (x .slots-of .result) (s .args .depth) (s .args .v) (s .args .number) (s .args .ordered) (s .args .next) (s .pre .1)
+    (words-are t x (s .pre .1 .at)) in (
+      a .0,
+      a .1,
+      a .2,
+      a .3,
+      own-ready (s .args .words .now) (s .args .decisions .now) (s .args .indices .now) (s .args .bytes .now)
+          (s .args .out .now) (x .slots-of .result) (s .args .depth) (s .args .v) (s .args .number) (s .args .ordered) (s .args .next) (s .pre .1)
+          (words-are t x (s .pre .1 .at)),
+    )
 
 emit-node-write-node-requires : (t : ℕ) → lts.Need-write-node-requires (given t) (emit-node-at t) emit-node.Post Inv μ
 emit-node-write-node-requires t c κs =
     let x = slots t (c .before .before .before .before) in
     let s = start t x in
-    node-room (s .args .words .now) (s .args .decisions .now) (s .args .indices .now) (s .args .bytes .now) (s .args .out .now) (x .slots-of .result) (s .args .depth) (s .args .v) (s .args .number) (s .args .ordered) (s .args .next) (s .pre .1) (words-are t x (s .pre .1 .at))
+    node-room (s .args .words .now) (s .args .decisions .now) (s .args .indices .now) (s .args .bytes .now) (s .args .out .now)
+    (x .slots-of .result) (s .args .depth) (s .args .v) (s .args .number) (s .args .ordered) (s .args .next) (s .pre .1)
+    (words-are t x (s .pre .1 .at))
 
 emit-node-add-t25 : (t : ℕ) → lts.Need-add-t25 (given t) (emit-node-at t) emit-node.Post Inv μ
 emit-node-add-t25 t c =
@@ -124,7 +142,10 @@ emit-node-add-t25 t c =
     let b = built t w in
     let x = slots t b in
     let s = start t x in
-    let e = free-nodes (s .args .words .now) (s .args .decisions .now) (s .args .indices .now) (s .args .bytes .now) (s .args .out .now) (x .slots-of .result) (s .args .depth) (s .args .v) (s .args .number) (s .args .ordered) (s .args .next) (s .pre .1) (words-are t x (s .pre .1 .at)) (b .build-node .result) (w .write-node .last .0) (b .build-node .last .1 .1 .1 .0) (b .build-node .ensures) (w .write-node .ensures) in
+    let e = free-nodes (s .args .words .now) (s .args .decisions .now) (s .args .indices .now) (s .args .bytes .now) (s .args .out .now)
+    (x .slots-of .result) (s .args .depth) (s .args .v) (s .args .number) (s .args .ordered) (s .args .next) (s .pre .1)
+    (words-are t x (s .pre .1 .at)) (b .build-node .result) (w .write-node .last .0) (b .build-node .last .1 .1 .1 .0) (b .build-node .ensures)
+    (w .write-node .ensures) in
     let f = s .pre .1 .room .few in
     omega arith
 
@@ -145,7 +166,11 @@ begun t l = start t (slots t (built t (wrote t l)))
 
 -- the invariant with a slot to go
 turn : (t : ℕ) (l : I t) → let w = wrote t l in let b = built t w in let s = begun t l in
-    Loop (s .args .words .now) (s .args .decisions .now) (s .args .indices .now) (s .args .depth) (s .args .v) (s .args .number) (s .args .ordered) (w .write-node .last .0) (b .build-node .last .1 .1 .1 .0) (record { nodes = s .args .next .nodes + b .build-node .result .inner; positions = b .build-node .result .at }) (s .args .next .nodes) (l .before .loop .bytes) (l .before .loop .out) (l .before .loop .free) (l .before .loop .child) (suc (8 - (l .before .loop .i + 1))) (l .before .loop .i)
+    Loop (s .args .words .now) (s .args .decisions .now) (s .args .indices .now) (s .args .depth) (s .args .v) (s .args .number) (s .args .ordered)
+    (w .write-node .last .0) (b .build-node .last .1 .1 .1 .0)
+    (record { nodes = s .args .next .nodes + b .build-node .result .inner; positions = b .build-node .result .at }) (s .args .next .nodes)
+    (l .before .loop .bytes) (l .before .loop .out) (l .before .loop .free) (l .before .loop .child) (suc (8 - (l .before .loop .i + 1)))
+    (l .before .loop .i)
 turn t l = rw (one-less (l .before .loop .i) (l .loop-test .taken)) at (l .before .loop .inv .3)
 
 emit-node-is-inner-requires : (t : ℕ) → lts.Need-is-inner-requires (given t) (emit-node-at t) emit-node.Post Inv μ
@@ -157,7 +182,8 @@ emit-node-cast-emit-node : (t : ℕ) → lts.Need-cast-emit-node (given t) (emit
 emit-node-cast-emit-node t c =
     let k = c .before .before .before in
     let l = k .before in
-    let h = loop-child (turn t l) (l .loop-test .taken) (λ h. words-are t (slots t (built t (wrote t l))) h) (begun t l .pre .1 .at) 0 (room-at t (wrote t l) (begun t l .pre .1)) (sym (k .is-inner .ensures) ∙ c .before .before .if1 .taken) in
+    let h = loop-child (turn t l) (l .loop-test .taken) (λ h. words-are t (slots t (built t (wrote t l))) h) (begun t l .pre .1 .at) 0
+    (room-at t (wrote t l) (begun t l .pre .1)) (sym (k .is-inner .ensures) ∙ c .before .before .if1 .taken) in
     let n = node (h .1 .at .tree) in
     let b = n .below in
     let f = h .1 .at .tree .few in
@@ -167,7 +193,8 @@ emit-node-sub-emit-node : (t : ℕ) → lts.Need-sub-emit-node (given t) (emit-n
 emit-node-sub-emit-node t c =
     let k = c .before .before .before in
     let l = k .before in
-    let h = loop-child (turn t l) (l .loop-test .taken) (λ h. words-are t (slots t (built t (wrote t l))) h) (begun t l .pre .1 .at) 0 (room-at t (wrote t l) (begun t l .pre .1)) (sym (k .is-inner .ensures) ∙ c .before .before .if1 .taken) in
+    let h = loop-child (turn t l) (l .loop-test .taken) (λ h. words-are t (slots t (built t (wrote t l))) h) (begun t l .pre .1 .at) 0
+    (room-at t (wrote t l) (begun t l .pre .1)) (sym (k .is-inner .ensures) ∙ c .before .before .if1 .taken) in
     let z = h .0 in
     omega arith
 
@@ -175,7 +202,8 @@ emit-node-emit-node-requires : (t : ℕ) → lts.Need-emit-node-requires (given 
 emit-node-emit-node-requires t c κs =
     let k = c .before .before .before in
     let l = k .before in
-    let h = loop-child (turn t l) (l .loop-test .taken) (λ h. words-are t (slots t (built t (wrote t l))) h) (begun t l .pre .1 .at) 0 (room-at t (wrote t l) (begun t l .pre .1)) (sym (k .is-inner .ensures) ∙ c .before .before .if1 .taken) in
+    let h = loop-child (turn t l) (l .loop-test .taken) (λ h. words-are t (slots t (built t (wrote t l))) h) (begun t l .pre .1 .at) 0
+    (room-at t (wrote t l) (begun t l .pre .1)) (sym (k .is-inner .ensures) ∙ c .before .before .if1 .taken) in
     let z = h .0 in
     let u = begun t l .pre .0 in
     (omega arith, h .1)
@@ -184,7 +212,9 @@ emit-node-add-child : (t : ℕ) → lts.Need-add-child (given t) (emit-node-at t
 emit-node-add-child t c =
     let k = c .before .before .before .before .before .before .before .before in
     let l = k .before in
-    let h = loop-child (turn t l) (l .loop-test .taken) (λ h. words-are t (slots t (built t (wrote t l))) h) (begun t l .pre .1 .at) 0 (room-at t (wrote t l) (begun t l .pre .1)) (sym (k .is-inner .ensures) ∙ c .before .before .before .before .before .before .before .if1 .taken) in
+    let h = loop-child (turn t l) (l .loop-test .taken) (λ h. words-are t (slots t (built t (wrote t l))) h) (begun t l .pre .1 .at) 0
+    (room-at t (wrote t l) (begun t l .pre .1)) (sym (k .is-inner .ensures) ∙
+    c .before .before .before .before .before .before .before .if1 .taken) in
     let a = h .1 .room .mine in
     let b = h .1 .room .few in
     omega arith
@@ -209,10 +239,17 @@ emit-node-loop-again t c =
       omega arith,
       ap length (w .8) ∙ w .3 .kept .1 .1 .1 .0 ∙ p,
       ap length (w .9) ∙ w .3 .kept .1 .1 .1 .1 .0 ∙ u,
-      loop-as (w .8) (w .9) (w .10) (w .11) (loop-inner (turn t l) h (λ h. words-are t (slots t (built t (wrote t l))) h) (sym (k .is-inner .ensures) ∙ w .0 .taken) (w .3 .last .1 .1 .1 .0) (w .3 .last .1 .1 .1 .1 .0) (w .3 .result) (w .3 .kept .1 .1 .1 .0) (w .3 .kept .1 .1 .1 .1 .0) (w .3 .ensures)),
+      loop-as (w .8) (w .9) (w .10) (w .11) (loop-inner (turn t l) h (λ h. words-are t (slots t (built t (wrote t l))) h)
+          (sym (k .is-inner .ensures) ∙ w .0 .taken) (w .3 .last .1 .1 .1 .0) (w .3 .last .1 .1 .1 .1 .0) (w .3 .result) (w .3 .kept .1 .1 .1 .0)
+          (w .3 .kept .1 .1 .1 .1 .0) (w .3 .ensures)),
     ))
-    (λ w.
-    (omega arith, ap length (w .1) ∙ p, ap length (w .2) ∙ u, loop-as (w .1) (w .2) (w .3) (w .4) (loop-other (turn t l) h (λ h. words-are t (slots t (built t (wrote t l))) h) (sym (k .is-inner .ensures) ∙ w .0 .left))))
+    (λ w. (
+      omega arith,
+      ap length (w .1) ∙ p,
+      ap length (w .2) ∙ u,
+      loop-as (w .1) (w .2) (w .3) (w .4)
+          (loop-other (turn t l) h (λ h. words-are t (slots t (built t (wrote t l))) h) (sym (k .is-inner .ensures) ∙ w .0 .left)),
+    ))
     (c .if1 .came)
 
 emit-node-same-length : (t : ℕ) → lts.Need-same-length (given t) (emit-node-at t) emit-node.Post Inv μ
@@ -232,10 +269,16 @@ emit-node-returns t c =
     let s = start t x in
     let z : 8 - l .loop .i ≡ 0 = let h = c .loop-test .left in omega arith in
     λ h m p k.
-    loop-end (s .args .words .now) (s .args .decisions .now) (s .args .indices .now) (s .args .depth) (s .args .v) (s .args .number) (s .args .ordered) (w .write-node .last .0) (b .build-node .last .1 .1 .1 .0) (record { nodes = s .args .next .nodes + b .build-node .result .inner; positions = b .build-node .result .at }) (s .args .next .nodes) (l .loop .bytes) (l .loop .out) (l .loop .free) (l .loop .child) (l .loop .i)
+    loop-end (s .args .words .now) (s .args .decisions .now) (s .args .indices .now) (s .args .depth) (s .args .v) (s .args .number)
+    (s .args .ordered) (w .write-node .last .0) (b .build-node .last .1 .1 .1 .0)
+    (record { nodes = s .args .next .nodes + b .build-node .result .inner; positions = b .build-node .result .at }) (s .args .next .nodes)
+    (l .loop .bytes) (l .loop .out) (l .loop .free) (l .loop .child) (l .loop .i)
     (rw z at (l .loop .inv .3)) (h .at) (m + 1) (room-at t w h)
-    ∙ ap (convert (writeEntry (s .args .indices .now)) (slotsAt (s .args .words .now) (s .args .ordered) (h .at .limit) (s .args .depth) (s .args .v)) (m + 1) (s .args .number) 0 (s .args .next .nodes))
-    (node-entered (s .args .words .now) (s .args .decisions .now) (s .args .indices .now) (s .args .bytes .now) (s .args .out .now) (x .slots-of .result) (s .args .depth) (s .args .v) (s .args .number) (s .args .ordered) (s .args .next) h (words-are t x (h .at))
+    ∙ ap (convert (writeEntry (s .args .indices .now))
+    (wideSlotsAt (s .args .words .now) (s .args .ordered) (h .at .limit) (s .args .depth) (s .args .v)) (m + 1) (s .args .number) 0
+    (s .args .next .nodes))
+    (node-entered (s .args .words .now) (s .args .decisions .now) (s .args .indices .now) (s .args .bytes .now) (s .args .out .now)
+    (x .slots-of .result) (s .args .depth) (s .args .v) (s .args .number) (s .args .ordered) (s .args .next) h (words-are t x (h .at))
     (b .build-node .result) (w .write-node .last .0) (b .build-node .last .1 .1 .1 .0) (b .build-node .ensures) (w .write-node .ensures) m p k)
 
 pub +emit-node-spec : {M : Type 1} → statement M

@@ -50,8 +50,11 @@ loop-again c =
     let l = c .before .before in
     let s = l .before .before in
     let h = s .pre .0 in
-    let e : length (s .args .t3) ≡ 8 = omega arith in
-    (omega arith, map-next (boxAt (s .args .words .now)) _ 0 (s .args .t3) (l .loop .i) (l .loop .boxes) (c .node-box .result) e (omega arith) (l .loop .inv .1) (c .node-box .ensures))
+    let e : length (s .args .t3) ≡ 8 = omega arith in (
+      omega arith,
+      map-next (boxAt (s .args .words .now)) _ 0 (s .args .t3) (l .loop .i) (l .loop .boxes) (c .node-box .result) e (omega arith)
+          (l .loop .inv .1) (c .node-box .ensures),
+    )
 
 returns : tie.Need-returns Inv-loop μ-loop
 returns c =

@@ -5,7 +5,8 @@ use Rattle.emit_tree.proofs.emit.Statement.{statement}
 use Rattle.emit_tree.proofs.emit.Tie as tie
 
 emit-node-requires : tie.Need-emit-node-requires
-emit-node-requires c κs = let s = c .before .before .before .before .before .before .before in whole-ready (s .args .words .now) (s .args .decisions .now) (length (s .args .indices .now)) (s .args .ordered) (length (s .args .bytes .now)) (length (s .args .out .now)) (s .pre)
+emit-node-requires c κs = let s = c .before .before .before .before .before .before .before in whole-ready (s .args .words .now)
+    (s .args .decisions .now) (length (s .args .indices .now)) (s .args .ordered) (length (s .args .bytes .now)) (length (s .args .out .now)) (s .pre)
 
 same-length : tie.Need-same-length
 same-length c = search needs
@@ -17,7 +18,8 @@ returns : tie.Need-returns
 returns c =
     let e = c .before .before .before .before in
     let s = e .before .before .before .before .before .before .before .before in
-    λ h. whole-done (s .args .words .now) (s .args .decisions .now) (s .args .indices .now) (s .args .ordered) (s .args .bytes .now) (s .args .out .now) (e .emit-node .last .1 .1 .1 .0) (e .emit-node .last .1 .1 .1 .1 .0) (e .emit-node .result) h
+    λ h. whole-done (s .args .words .now) (s .args .decisions .now) (s .args .indices .now) (s .args .ordered) (s .args .bytes .now)
+    (s .args .out .now) (e .emit-node .last .1 .1 .1 .0) (e .emit-node .last .1 .1 .1 .1 .0) (e .emit-node .result) h
     (e .emit-node .ensures)
 
 pub emit-spec : {M : Type 1} → statement M

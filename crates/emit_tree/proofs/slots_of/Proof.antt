@@ -38,7 +38,8 @@ returns-2 c =
     let g = p .before .before .before in
     let s = g .before .before .before .before in
     λ limit z.
-    c .order-children .ensures ∙ found-slots (s .pre) (g .get-children .ensures) (s .args .ordered) (not-false _ (p .before .if1 .left)) (p .node-box .result) (b .child-boxes .result) (p .node-box .ensures) (b .child-boxes .ensures) limit z
+    c .order-children .ensures ∙ found-slots (s .pre) (g .get-children .ensures) (s .args .ordered) (not-false _ (p .before .if1 .left))
+    (p .node-box .result) (b .child-boxes .result) (p .node-box .ensures) (b .child-boxes .ensures) limit z
 
 pub slots-of-spec : {M : Type 1} → statement M
 slots-of-spec =

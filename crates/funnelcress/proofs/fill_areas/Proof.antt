@@ -37,8 +37,11 @@ loop-less : tie.Need-loop-less Inv-loop μ-loop
 loop-less c = search needs
 
 loop-again : tie.Need-loop-again Inv-loop μ-loop
-loop-again c =
-    (omega arith, filling-turn (c .before .before .before .loop .inv .1) _ (omega arith) (c .half-area .ensures ∙ ap halfArea (c .before .box-at .ensures)))
+loop-again c = (
+  omega arith,
+  filling-turn (c .before .before .before .loop .inv .1) _ (omega arith)
+      (c .half-area .ensures ∙ ap halfArea (c .before .box-at .ensures)),
+)
 
 same-length : tie.Need-same-length Inv-loop μ-loop
 same-length c = c .before .loop .inv .1 .as-long

@@ -21,7 +21,12 @@ same-length : tie.Need-same-length
 same-length c = search needs
 
 returns-2 : tie.Need-returns-2
-returns-2 c = (c .before .before .before .before .before .before .list-refusal .ensures ∙ eight _ _ _ (c .before .before .before .before .before .before .before .before .if1 .left), (rw (c .before .before .before .before .ray-at .ensures) at (c .before .before .fill-entries .ensures)) ∙ answered-all _ _ _ _ (c .before .before .before .before .before .if2 .taken))
+returns-2 c = (
+  c .before .before .before .before .before .before .list-refusal .ensures ∙ eight _ _ _
+      (c .before .before .before .before .before .before .before .before .if1 .left),
+  (rw (c .before .before .before .before .ray-at .ensures) at (c .before .before .fill-entries .ensures)) ∙ answered-all _ _ _ _
+      (c .before .before .before .before .before .if2 .taken),
+)
 
 same-length-2 : tie.Need-same-length-2
 same-length-2 c = search needs

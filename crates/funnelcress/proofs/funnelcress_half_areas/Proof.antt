@@ -14,7 +14,11 @@ same-length : tie.Need-same-length
 same-length c = search needs
 
 returns : tie.Need-returns
-returns c = (c .before .before .before .before .before .list-refusal .ensures, c .before .before .fill-areas .ensures ∙ answered-all _ _ _ _ (c .before .before .before .before .if1 .taken))
+returns c = (
+  c .before .before .before .before .before .list-refusal .ensures,
+  c .before .before .fill-areas .ensures ∙ answered-all _ _ _ _
+      (c .before .before .before .before .if1 .taken),
+)
 
 same-length-2 : tie.Need-same-length-2
 same-length-2 c = search needs

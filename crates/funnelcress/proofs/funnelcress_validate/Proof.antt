@@ -14,7 +14,10 @@ same-length : tie.Need-same-length
 same-length c = search needs
 
 returns : tie.Need-returns
-returns c = (c .answer-number .ensures ∙ ap answerNumber (c .before .before .before .validate .ensures .0), c .before .before .before .validate .ensures .1)
+returns c = (
+  c .answer-number .ensures ∙ ap answerNumber (c .before .before .before .validate .ensures .0),
+  c .before .before .before .validate .ensures .1,
+)
 
 pub funnelcress-validate-spec : {M : Type 1} → statement M
 funnelcress-validate-spec =

@@ -3,7 +3,7 @@ use mathlib.Core.Path.{_≡_}
 use Prim.Native.Nat.{_-_}
 use lib.ListN.{length}
 use borrow.Author.Needs.{needs}
-use Rattle.slot.specs.Parts.{endsOf}
+use Rattle.node_slot.specs.Parts.{endsOf}
 use Rattle.measured.proofs.fill_masks.Statement.{statement}
 use Rattle.measured.proofs.fill_masks.Tie as tie
 

@@ -41,7 +41,8 @@ loop-again c =
     let e = eight-at (λ i. getD (a .t3) i 0) 0 (l .loop .i) (c .loop-test .taken) in (
       omega arith,
       simp length-set (l .loop .inv .1),
-      ap (set (l .loop .s) (a .at + l .loop .i)) (sym e) ∙ part-next (a .s .now) (a .at) b (l .loop .s) (l .loop .i) (l .loop .inv .2) (omega arith) (omega arith),
+      ap (set (l .loop .s) (a .at + l .loop .i)) (sym e) ∙ part-next (a .s .now) (a .at) b (l .loop .s) (l .loop .i) (l .loop .inv .2) (omega arith)
+          (omega arith),
     )
 
 same-length : tie.Need-same-length Inv-loop μ-loop

@@ -56,9 +56,11 @@ returns c =
     let c₁ = c₂ .before .before .before .before in
     let o = c₁ .before .before .before in
     let a = o .args in
-    head-written (a .s .now) (a .o) (a .n) (c₁ .store-u32 .last .0) (c₂ .store-u322 .last .0) (c₃ .store-u323 .last .0) (c₄ .put4 .last .0) (c₅ .store-u324 .last .0)
+    head-written (a .s .now) (a .o) (a .n) (c₁ .store-u32 .last .0) (c₂ .store-u322 .last .0) (c₃ .store-u323 .last .0) (c₄ .put4 .last .0)
+    (c₅ .store-u324 .last .0)
     (c₆ .store-u325 .last .0) (c₇ .put8 .last .0) (o .pre)
-    (c₁ .store-u32 .ensures) (c₂ .store-u322 .ensures) (c₃ .store-u323 .ensures) (c₄ .put4 .ensures) (c₅ .store-u324 .ensures) (c₆ .store-u325 .ensures) (c₇ .put8 .ensures)
+    (c₁ .store-u32 .ensures) (c₂ .store-u322 .ensures) (c₃ .store-u323 .ensures) (c₄ .put4 .ensures) (c₅ .store-u324 .ensures)
+    (c₆ .store-u325 .ensures) (c₇ .put8 .ensures)
 
 pub write-head-spec : {M : Type 1} → statement M
 write-head-spec =

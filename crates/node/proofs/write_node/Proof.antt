@@ -24,7 +24,8 @@ returns c =
     let h = w .before .before .before .before in
     let o = h .before .before .before .before in
     let a = o .args in
-    w .write-slots .ensures ∙ ap (λ s. putSlots 8 s (80 * a .i) (a .n .slots)) (h .write-head .ensures) ∙ node-written (a .s .now) (80 * a .i) (a .n) (o .pre)
+    w .write-slots .ensures ∙ ap (λ s. putSlots 8 s (80 * a .i) (a .n .slots)) (h .write-head .ensures) ∙ node-written (a .s .now) (80 * a .i)
+    (a .n) (o .pre)
 
 pub write-node-spec : {M : Type 1} → statement M
 write-node-spec =

@@ -33,7 +33,14 @@ returns c =
     let c₃ = c₄ .before .before .before .before in
     let c₂ = c₃ .before .before .before .before in
     let c₁ = c₂ .before .before .before .before in
-    rw (c₆ .set-corner6 .ensures, c₅ .set-corner5 .ensures, c₄ .set-corner4 .ensures, c₃ .set-corner3 .ensures, c₂ .set-corner2 .ensures, c₁ .set-corner .ensures)
+    rw (
+      c₆ .set-corner6 .ensures,
+      c₅ .set-corner5 .ensures,
+      c₄ .set-corner4 .ensures,
+      c₃ .set-corner3 .ensures,
+      c₂ .set-corner2 .ensures,
+      c₁ .set-corner .ensures,
+    )
 
 pub write-slot-spec : {M : Type 1} → statement M
 write-slot-spec =

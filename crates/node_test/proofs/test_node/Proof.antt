@@ -1,5 +1,5 @@
 use borrow.Author.Needs.{needs}
-use Rattle.rule.proofs.Answers.{wrong, right}
+use Rattle.node_rule.proofs.Answers.{wrong, right}
 use Rattle.node_test.specs.Test.{tested}
 use Rattle.node_test.proofs.test_node.Statement.{statement}
 use Rattle.node_test.proofs.test_node.Tie as tie
@@ -38,7 +38,13 @@ returns-2 c =
     let b = c .before in
     let m = b .before in
     let t = m .before in
-    rw (right _ _ (t .before .meets-rule .ensures) (t .if1 .left), c .primitive-base-idx .ensures, b .child-base-idx .ensures, m .intersect-ray .ensures, t .before .before .imask .ensures)
+    rw (
+      right _ _ (t .before .meets-rule .ensures) (t .if1 .left),
+      c .primitive-base-idx .ensures,
+      b .child-base-idx .ensures,
+      m .intersect-ray .ensures,
+      t .before .before .imask .ensures,
+    )
 
 pub test-node-spec : {M : Type 1} → statement M
 test-node-spec =

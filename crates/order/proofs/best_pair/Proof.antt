@@ -50,9 +50,16 @@ loop-again c =
     let l = c .before .before .before in
     let a = l .before .args in
     elim (c .if1 .came) [
-      | inl w ↦
-          (omega arith, pair-taken (a .cost .now) (a .slot .now) (a .child .now) (l .loop .c) (l .loop .b) (w .2 .result) (c .if1 .b) (w .0 .taken) (l .loop .inv .1) (w .2 .ensures) (w .4 ∙ w .3 .ensures))
-      | inr w ↦ (omega arith, pair-left (a .cost .now) (a .slot .now) (a .child .now) (l .loop .c) (l .loop .b) (c .if1 .b) (w .0 .left) (l .loop .inv .1) (w .1))
+      | inl w ↦ (
+        omega arith,
+        pair-taken (a .cost .now) (a .slot .now) (a .child .now) (l .loop .c) (l .loop .b) (w .2 .result) (c .if1 .b) (w .0 .taken)
+            (l .loop .inv .1) (w .2 .ensures) (w .4 ∙ w .3 .ensures),
+      )
+      | inr w ↦ (
+        omega arith,
+        pair-left (a .cost .now) (a .slot .now) (a .child .now) (l .loop .c) (l .loop .b) (c .if1 .b) (w .0 .left)
+            (l .loop .inv .1) (w .1),
+      )
     ]
 
 returns : tie.Need-returns Inv-loop μ-loop

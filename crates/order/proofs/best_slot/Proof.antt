@@ -47,8 +47,11 @@ loop-again c =
     let l = c .before .before .before in
     let a = l .before .args in
     elim (c .if1 .came) [
-      | inl w ↦
-          (omega arith, slot-taken (a .t1) (a .child .now) (a .c) (l .loop .s) (l .loop .b) (c .if1 .b) (w .0 .taken) (l .loop .inv .1) (w .2 ∙ w .1 .ensures))
+      | inl w ↦ (
+        omega arith,
+        slot-taken (a .t1) (a .child .now) (a .c) (l .loop .s) (l .loop .b) (c .if1 .b) (w .0 .taken) (l .loop .inv .1)
+            (w .2 ∙ w .1 .ensures),
+      )
       | inr w ↦ (omega arith, slot-left (a .t1) (a .child .now) (a .c) (l .loop .s) (l .loop .b) (c .if1 .b) (w .0 .left) (l .loop .inv .1) (w .1))
     ]
 

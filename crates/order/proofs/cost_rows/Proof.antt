@@ -52,8 +52,11 @@ loop-again c =
     let v = c .before in
     let l = v .before .before .before in
     let a = l .before .args in
-    let e : length (a .t2) ≡ 8 = omega arith in
-    (omega arith, map-next (λ b. eightOf (directionCost (a .p) b)) noRow _ (a .t2) (l .loop .c) (l .loop .cost) (c .cost-row .result) e (omega arith) (l .loop .inv .1) (c .cost-row .ensures ∙ ap (λ (z : Vec3). eightOf (λ s. dotOf (directionOf s) z)) (v .offset .ensures)))
+    let e : length (a .t2) ≡ 8 = omega arith in (
+      omega arith,
+      map-next (λ b. eightOf (directionCost (a .p) b)) noRow _ (a .t2) (l .loop .c) (l .loop .cost) (c .cost-row .result) e
+          (omega arith) (l .loop .inv .1) (c .cost-row .ensures ∙ ap (λ (z : Vec3). eightOf (λ s. dotOf (directionOf s) z)) (v .offset .ensures)),
+    )
 
 returns : tie.Need-returns Inv-loop μ-loop
 returns c =

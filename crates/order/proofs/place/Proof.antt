@@ -45,8 +45,11 @@ loop-again : tie.Need-loop-again Inv-loop μ-loop
 loop-again c =
     let l = c .before .before in
     let a = l .before .args in
-    let e : length (a .t2) ≡ 8 = omega arith in
-    (omega arith, map-next (λ c. getD (a .children) c 0xffff_ffff) 0xffff_ffff 0 (a .t2) (l .loop .s) (l .loop .out) (c .child-or-none .result) e (omega arith) (l .loop .inv .1) (c .child-or-none .ensures))
+    let e : length (a .t2) ≡ 8 = omega arith in (
+      omega arith,
+      map-next (λ c. getD (a .children) c 0xffff_ffff) 0xffff_ffff 0 (a .t2) (l .loop .s) (l .loop .out) (c .child-or-none .result) e
+          (omega arith) (l .loop .inv .1) (c .child-or-none .ensures),
+    )
 
 returns : tie.Need-returns Inv-loop μ-loop
 returns c =

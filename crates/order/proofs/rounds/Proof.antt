@@ -26,11 +26,13 @@ returns c =
     let b = c .before .best-pair in
     let l = c .before .before .before .before .before .before in
     let a = l .before .args in
-    kept-last (a .t1) (a .n) (l .before .pre) (l .loop .k) (l .loop .slot) (l .loop .child) (b .result) (l .loop .inv .1) (b .ensures) (c .if1 .taken) (l .loop .inv .0)
+    kept-last (a .t1) (a .n) (l .before .pre) (l .loop .k) (l .loop .slot) (l .loop .child) (b .result) (l .loop .inv .1) (b .ensures)
+    (c .if1 .taken) (l .loop .inv .0)
 
 -- the pair that the round found
 pair : (c : tie.Else1 Inv-loop μ-loop)
-    → let l = c .before .before .before .before .before .before in Found (l .before .args .t1) (l .before .args .n) (l .loop .k) (c .before .best-pair .result)
+    → let l = c .before .before .before .before .before .before in Found (l .before .args .t1) (l .before .args .n) (l .loop .k)
+    (c .before .best-pair .result)
 pair c =
     let b = c .before .best-pair in
     let l = c .before .before .before .before .before .before in
@@ -58,8 +60,11 @@ loop-less c = search needs
 loop-again : tie.Need-loop-again Inv-loop μ-loop
 loop-again c =
     let l = c .before .before .before .before .before .before in
-    let a = l .before .args in
-    (omega arith, kept-next (a .t1) (a .n) (l .before .pre) (l .loop .k) (l .loop .slot) (l .loop .child) _ _ (c .before .best-pair .result) (l .loop .inv .1) (pair c) refl refl)
+    let a = l .before .args in (
+      omega arith,
+      kept-next (a .t1) (a .n) (l .before .pre) (l .loop .k) (l .loop .slot) (l .loop .child) _ _ (c .before .best-pair .result)
+          (l .loop .inv .1) (pair c) refl refl,
+    )
 
 returns-2 : tie.Need-returns-2 Inv-loop μ-loop
 returns-2 c =

@@ -13,10 +13,12 @@ add-result : tie.Need-add-result
 add-result c = search needs
 
 returns : tie.Need-returns
-returns c = let q = c .before .before .before in one-more (q .before .args .x) (q .quantize-min .result) (q .quantize-min .ensures) (c .before .before .if1 .taken) (c .if2 .taken)
+returns c = let q = c .before .before .before in one-more (q .before .args .x) (q .quantize-min .result) (q .quantize-min .ensures)
+    (c .before .before .if1 .taken) (c .if2 .taken)
 
 returns-2 : tie.Need-returns-2
-returns-2 c = let q = c .before .before .before in the-same (q .before .args .x) (q .quantize-min .result) (q .quantize-min .ensures) (c .before .before .if1 .taken) (c .if2 .left)
+returns-2 c = let q = c .before .before .before in the-same (q .before .args .x) (q .quantize-min .result) (q .quantize-min .ensures)
+    (c .before .before .if1 .taken) (c .if2 .left)
 
 returns-3 : tie.Need-returns-3
 returns-3 c = let q = c .before in the-top (q .before .args .x) (q .quantize-min .result) (q .quantize-min .ensures) (c .if1 .left)

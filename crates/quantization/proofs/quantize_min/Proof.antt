@@ -17,7 +17,8 @@ truncating-f32-to-u64-requires : tie.Need-truncating-f32-to-u64-requires
 truncating-f32-to-u64-requires c κs = let x = c .before .before .args .x in (above-minus-one x (within c), below-two-64 x (within c))
 
 cast-result : tie.Need-cast-result
-cast-result c = let w = whole-part (c .before .before .before .args .x) (within (c .before)) in let e = c .truncating-f32-to-u64 .ensures in omega arith
+cast-result c = let w = whole-part (c .before .before .before .args .x) (within (c .before)) in let e = c .truncating-f32-to-u64 .ensures in omega
+    arith
 
 returns-2 : tie.Need-returns-2
 returns-2 c = c .truncating-f32-to-u64 .ensures ∙ whole-part (c .before .before .before .args .x) (within (c .before)) .0

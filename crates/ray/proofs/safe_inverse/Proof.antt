@@ -41,14 +41,17 @@ unfolding ofBits neg
 returns c =
     let v = c .before .before .before .args .v in
     near v true (c .before .before .if1 .taken) (c .before .if2 .taken)
-    (sign-of-bits binary32 v (held (c .before .before .before)) (no-nan-le-r lo v (c .before .before .if1 .taken)) ∙ is-true (leb 2147483648 (toBits binary32 v)) (le→leb 2147483648 (toBits binary32 v) (c .if3 .taken)))
+    (sign-of-bits binary32 v (held (c .before .before .before)) (no-nan-le-r lo v (c .before .before .if1 .taken)) ∙ is-true
+    (leb 2147483648 (toBits binary32 v)) (le→leb 2147483648 (toBits binary32 v) (c .if3 .taken)))
 
 returns-2 : tie.Need-returns-2
 unfolding ofBits neg
 returns-2 c =
     let v = c .before .before .before .args .v in
     near v false (c .before .before .if1 .taken) (c .before .if2 .taken)
-    (sign-of-bits binary32 v (held (c .before .before .before)) (no-nan-le-r lo v (c .before .before .if1 .taken)) ∙ is-false (leb 2147483648 (toBits binary32 v)) (not-T (leb 2147483648 (toBits binary32 v)) (λ (t : T (leb 2147483648 (toBits binary32 v))). not-le-of-lt (c .if3 .left) (leb→le 2147483648 (toBits binary32 v) t))))
+    (sign-of-bits binary32 v (held (c .before .before .before)) (no-nan-le-r lo v (c .before .before .if1 .taken)) ∙ is-false
+    (leb 2147483648 (toBits binary32 v)) (not-T (leb 2147483648 (toBits binary32 v))
+    (λ (t : T (leb 2147483648 (toBits binary32 v))). not-le-of-lt (c .if3 .left) (leb→le 2147483648 (toBits binary32 v) t))))
 
 returns-3 : tie.Need-returns-3
 unfolding ofBits neg

@@ -23,7 +23,8 @@ put-indices-requires c κs =
     let a = c .before .before .before .before .before .before .before .before .before .args in
     let l = take (a .n) (a .indices .now) in
     let lines = lines-most (a .«record» .now) (a .m) 0 (omega arith) in
-    let list = spaced-most l (take-words (a .n) (a .indices .now) (λ k. c .before .before .before .before .before .before .before .shared-slice-known2 .given k .fits)) in
+    let list = spaced-most l (take-words (a .n) (a .indices .now)
+    (λ k. c .before .before .before .before .before .before .before .shared-slice-known2 .given k .fits)) in
     omega (arith, length-take-le (a .n) (a .indices .now) (omega arith), length-indices l)
 
 same-length : tie.Need-same-length
@@ -35,7 +36,8 @@ returns c =
     let a = c .before .before .before .before .before .before .before .before .before .before .before .before .args in
     let l = take (a .n) (a .indices .now) in
     let lines = lines-most (a .«record» .now) (a .m) 0 (omega arith) in
-    let list = spaced-most l (take-words (a .n) (a .indices .now) (λ k. c .before .before .before .before .before .before .before .before .before .before .shared-slice-known2 .given k .fits)) in
+    let list = spaced-most l (take-words (a .n) (a .indices .now)
+    (λ k. c .before .before .before .before .before .before .before .before .before .before .shared-slice-known2 .given k .fits)) in
     put-first
     (put-next
     (omega (arith, length-take-le (a .n) (a .indices .now) (omega arith), length-indices l))

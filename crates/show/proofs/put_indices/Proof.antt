@@ -19,7 +19,11 @@ put-spaced-requires : tie.Need-put-spaced-requires
 put-spaced-requires c κs = omega (arith, length-indices (c .before .before .before .before .before .before .before .before .args .indices .now))
 
 put-byte-requires : tie.Need-put-byte-requires
-put-byte-requires c κs = omega (arith, length-indices (c .before .before .before .before .before .before .before .before .before .before .before .before .args .indices .now))
+put-byte-requires c κs = omega (
+  arith,
+  length-indices
+      (c .before .before .before .before .before .before .before .before .before .before .before .before .args .indices .now),
+)
 
 same-length : tie.Need-same-length
 same-length c = search needs
@@ -30,7 +34,8 @@ returns c =
     let a = c .before .before .before .before .before .before .before .before .before .before .before .before .before .before .before .args in
     let list = spaced (a .indices .now) in
     let whole = rest-all (a .out .now) (a .at) (indicesLine (a .indices .now)) (omega arith) in
-    let word = rest-put whole (chars "indices") (list ++ chars "\n") refl (c .before .before .before .before .before .before .before .before .before .before .put-bytes .ensures) in
+    let word = rest-put whole (chars "indices") (list ++ chars "\n") refl
+    (c .before .before .before .before .before .before .before .before .before .before .put-bytes .ensures) in
     let indices = rest-put word list (chars "\n") refl (c .before .before .before .before .before .before .put-spaced .ensures) in
     rest-none (rest-put indices (chars "\n") [] refl (c .before .before .put-byte .ensures)) refl
 

@@ -14,13 +14,27 @@ put-decimal-requires : tie.Need-put-decimal-requires
 put-decimal-requires c κs = omega (arith, length-node (c .before .before .before .args .i) (c .before .before .before .args .node .now))
 
 put-byte-requires : tie.Need-put-byte-requires
-put-byte-requires c κs = omega (arith, length-node (c .before .before .before .before .before .before .before .args .i) (c .before .before .before .before .before .before .before .args .node .now))
+put-byte-requires c κs = omega (
+  arith,
+  length-node (c .before .before .before .before .before .before .before .args .i)
+      (c .before .before .before .before .before .before .before .args .node .now),
+)
 
 put-hex-requires : tie.Need-put-hex-requires
-put-hex-requires c κs = omega (arith, length-node (c .before .before .before .before .before .before .before .before .before .before .before .args .i) (c .before .before .before .before .before .before .before .before .before .before .before .args .node .now))
+put-hex-requires c κs = omega (
+  arith,
+  length-node (c .before .before .before .before .before .before .before .before .before .before .before .args .i)
+      (c .before .before .before .before .before .before .before .before .before .before .before .args .node .now),
+)
 
 put-byte-requires-2 : tie.Need-put-byte-requires-2
-put-byte-requires-2 c κs = omega (arith, length-node (c .before .before .before .before .before .before .before .before .before .before .before .before .before .before .before .args .i) (c .before .before .before .before .before .before .before .before .before .before .before .before .before .before .before .args .node .now), length-hex (c .before .before .before .before .before .before .before .before .before .before .before .before .before .before .before .args .node .now))
+put-byte-requires-2 c κs = omega (
+  arith,
+  length-node
+      (c .before .before .before .before .before .before .before .before .before .before .before .before .before .before .before .args .i)
+      (c .before .before .before .before .before .before .before .before .before .before .before .before .before .before .before .args .node .now),
+  length-hex (c .before .before .before .before .before .before .before .before .before .before .before .before .before .before .before .args .node .now),
+)
 
 same-length : tie.Need-same-length
 same-length c = search needs
@@ -31,8 +45,10 @@ returns c =
     let a = c .before .before .before .before .before .before .before .before .before .before .before .before .before .before .before .before .before .before .args in
     let bytes = hex (a .node .now) in
     let whole = rest-all (a .out .now) (a .at) (nodeLine (a .i) (a .node .now)) (omega arith) in
-    let index = rest-put whole (decimal (a .i)) (chars " " ++ (bytes ++ chars "\n")) refl (c .before .before .before .before .before .before .before .before .before .before .before .before .before .before .put-decimal .ensures) in
-    let space = rest-put index (chars " ") (bytes ++ chars "\n") refl (c .before .before .before .before .before .before .before .before .before .before .put-byte .ensures) in
+    let index = rest-put whole (decimal (a .i)) (chars " " ++ (bytes ++ chars "\n")) refl
+    (c .before .before .before .before .before .before .before .before .before .before .before .before .before .before .put-decimal .ensures) in
+    let space = rest-put index (chars " ") (bytes ++ chars "\n") refl
+    (c .before .before .before .before .before .before .before .before .before .before .put-byte .ensures) in
     let digits = rest-put space bytes (chars "\n") refl (c .before .before .before .before .before .before .put-hex .ensures) in
     rest-none (rest-put digits (chars "\n") [] refl (c .before .before .put-byte2 .ensures)) refl
 

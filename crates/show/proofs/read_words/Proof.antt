@@ -10,7 +10,8 @@ use Rattle.show.proofs.read_words.Statement.{statement}
 use Rattle.show.proofs.read_words.Tie as tie
 
 abbrev Inv-loop : tie.InvT-loop
-Inv-loop input from count words₀ k₀ words k = (k ≤ count) × Rest words₀ 0 (inputWords input from count) k (inputWords input (from + 4 * k) (count - k)) words
+Inv-loop input from count words₀ k₀ words k = (k ≤ count)
+    × Rest words₀ 0 (inputWords input from count) k (inputWords input (from + 4 * k) (count - k)) words
 
 abbrev μ-loop : tie.MeasureT-loop
 μ-loop input from count words₀ k₀ words k = count - k

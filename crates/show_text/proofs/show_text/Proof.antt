@@ -14,7 +14,9 @@ same-length : tie.Need-same-length
 same-length c = search needs
 
 returns : tie.Need-returns
-returns c = wrote-as _ _ _ _ _ (text-short (c .before .before .before .before .before .before .before .before .before .before .before .before .before .args .input .now) (c .before .before .before .before .if1 .taken)) (c .before .before .print-refusal .ensures)
+returns c = wrote-as _ _ _ _ _
+    (text-short (c .before .before .before .before .before .before .before .before .before .before .before .before .before .args .input .now)
+    (c .before .before .before .before .if1 .taken)) (c .before .before .print-refusal .ensures)
 
 load-u32-requires : tie.Need-load-u32-requires
 load-u32-requires c κs = search needs
@@ -32,7 +34,8 @@ returns-2 : tie.Need-returns-2
 returns-2 c =
     let q = c .before .before .before .before in
     wrote-as _ _ _ _ _
-    (text-many (q .before .before .before .before .before .before .before .before .before .before .before .args .input .now) _ (q .before .before .if1 .left) (q .before .load-u32 .ensures .value) (q .if2 .taken))
+    (text-many (q .before .before .before .before .before .before .before .before .before .before .before .args .input .now) _
+    (q .before .before .if1 .left) (q .before .load-u32 .ensures .value) (q .if2 .taken))
     (c .before .before .print-refusal2 .ensures)
 
 tree-size-requires : tie.Need-tree-size-requires
@@ -57,7 +60,9 @@ returns-3 : tie.Need-returns-3
 returns-3 c =
     let q = c .before .before .before .before in
     wrote-as _ _ _ _ _
-    (text-unfit (q .before .before .before .before .before .before .before .before .before .before .before .before .before .args .input .now) _ (q .before .before .before .before .if1 .left) (q .before .before .before .load-u32 .ensures .value) (q .before .before .if2 .left) _ (q .before .tree-size .ensures) (q .if3 .taken))
+    (text-unfit (q .before .before .before .before .before .before .before .before .before .before .before .before .before .args .input .now) _
+    (q .before .before .before .before .if1 .left) (q .before .before .before .load-u32 .ensures .value) (q .before .before .if2 .left) _
+    (q .before .tree-size .ensures) (q .if3 .taken))
     (c .before .before .print-refusal3 .ensures)
 
 load-u32-requires-2 : tie.Need-load-u32-requires-2
@@ -77,7 +82,10 @@ returns-4 c =
     let q = c .before .before .before .before in
     let s = q .before .before .before in
     wrote-as _ _ _ _ _
-    (text-disorder (s .before .before .before .before .before .before .before .before .before .before .before .before .before .args .input .now) _ (s .before .before .before .before .if1 .left) (s .before .before .before .load-u32 .ensures .value) (s .before .before .if2 .left) _ (s .before .tree-size .ensures) (s .if3 .left) _ _ (q .before .before .load-u322 .ensures .value) (q .before .load-u323 .ensures .value) (omega (arith, q .if4 .taken)))
+    (text-disorder (s .before .before .before .before .before .before .before .before .before .before .before .before .before .args .input .now) _
+    (s .before .before .before .before .if1 .left) (s .before .before .before .load-u32 .ensures .value) (s .before .before .if2 .left) _
+    (s .before .tree-size .ensures) (s .if3 .left) _ _ (q .before .before .load-u322 .ensures .value) (q .before .load-u323 .ensures .value)
+    (omega (arith, q .if4 .taken)))
     (c .before .before .print-refusal4 .ensures)
 
 read-words-requires : tie.Need-read-words-requires
@@ -135,7 +143,11 @@ returns-5 c =
     let q = c .before .before .before .before .before .before .before .before .before .before .before .before .before .before .before .before .before .before .before .before .before .before .before .before .before .before in
     let s = q .before .before .before in
     wrote-as _ _ _ _ _
-    (text-tree (s .before .before .before .before .before .before .before .before .before .before .before .before .before .args .input .now) _ (s .before .before .before .before .if1 .left) (s .before .before .before .load-u32 .ensures .value) (s .before .before .if2 .left) _ (s .before .tree-size .ensures) (s .if3 .left) _ _ (q .before .before .load-u322 .ensures .value) (q .before .load-u323 .ensures .value) (omega (arith, q .if4 .left)) _ _ _ _ (c .before .before .before .before .before .before .before .before .before .before .before .before .before .before .before .before .before .before .before .before .before .before .before .before .read-words .ensures) (c .before .before .before .before .before .before .before .before .before .before .before .before .before .before .before .before .before .before .before .before .read-words2 .ensures))
+    (text-tree (s .before .before .before .before .before .before .before .before .before .before .before .before .before .args .input .now) _
+    (s .before .before .before .before .if1 .left) (s .before .before .before .load-u32 .ensures .value) (s .before .before .if2 .left) _
+    (s .before .tree-size .ensures) (s .if3 .left) _ _ (q .before .before .load-u322 .ensures .value) (q .before .load-u323 .ensures .value)
+    (omega (arith, q .if4 .left)) _ _ _ _
+    (c .before .before .before .before .before .before .before .before .before .before .before .before .before .before .before .before .before .before .before .before .before .before .before .before .read-words .ensures) (c .before .before .before .before .before .before .before .before .before .before .before .before .before .before .before .before .before .before .before .before .read-words2 .ensures))
     (c .before .before .before .before .before .before .before .before .before .before .tree-text .ensures)
 
 pub show-text-spec : {M : Type 1} → statement M

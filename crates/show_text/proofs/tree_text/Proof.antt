@@ -1,10 +1,10 @@
 use mathlib.Core.Path.{_≡_}
 use Prim.Native.Nat.{ℕ, _≤_}
 use lib.ListN.{length}
-use Rattle.tables.specs.Call.{Call, leafCount}
+use Rattle.bvh2_tables.specs.Call.{Call, leafCount}
 use Rattle.bvh2_to_cwbvh.specs.declared.Conversion.the-variants.{Converted}
 use Rattle.show_text.specs.ShowText.{mostLeaves}
-use Rattle.show_text.specs.Room.{Room}
+use Rattle.show_text.specs.Room.{TextRoom}
 use Rattle.show_text.proofs.Trees.{Converts, converts, print-ready}
 use Rattle.show_text.proofs.Texts.{wrote-as, record-shown, refusal-shown}
 use borrow.Author.Needs.{needs}
@@ -44,7 +44,7 @@ few q =
     f .before .before .before .pre .0
 
 room : (q : tie.After-bvh2-to-cwbvh) → let c = call q in
-    Room (length (c .decisions)) (length (c .costs)) (length (c .bytes)) (length (c .list)) (out q)
+    TextRoom (length (c .decisions)) (length (c .costs)) (length (c .bytes)) (length (c .list)) (out q)
 room q =
     let b = q .before .before .before in
     let d = b .before .before .before in

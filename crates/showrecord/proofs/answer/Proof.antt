@@ -36,7 +36,8 @@ array-share-prefix-text : tie.Need-array-share-prefix-text
 array-share-prefix-text c = wrote-fits _ _ _ _ (c .before .before .before .before .before .before .before .show-text .ensures)
 
 slice-aggregate-write-all : tie.Need-slice-aggregate-write-all
-slice-aggregate-write-all c = sym (length-take-le _ _ (wrote-fits _ _ _ _ (c .before .before .before .before .before .before .before .before .show-text .ensures)))
+slice-aggregate-write-all c = sym (length-take-le _ _
+    (wrote-fits _ _ _ _ (c .before .before .before .before .before .before .before .before .show-text .ensures)))
 
 write-all-requires : tie.Need-write-all-requires
 write-all-requires c κs = search needs

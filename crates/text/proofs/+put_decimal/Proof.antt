@@ -61,7 +61,8 @@ put-decimal-returns : (t : ℕ) → put-decimal-lts.Need-returns (
   put-decimal-below t,
   put-decimal.Post,
 ) (put-decimal-at t) put-decimal.Post
-put-decimal-returns t c = rw (decimal-one (c .before .before .before .before .before .before .args .n) (omega arith)) (c .before .before .put-byte .ensures)
+put-decimal-returns t c = rw (decimal-one (c .before .before .before .before .before .before .args .n) (omega arith))
+    (c .before .before .put-byte .ensures)
 
 put-decimal-put-decimal-requires : (t : ℕ) → put-decimal-lts.Need-put-decimal-requires (
   put-byte-reads.Asked,

@@ -37,8 +37,11 @@ loop-less c = omega arith
 loop-again : tie.Need-loop-again Inv-loop μ-loop
 loop-again c =
     let i = c .before .before .before .before .before .before .loop in
-    let b = c .before .before .before .before .before .before .before .before .before .args .bytes .now in
-    (omega arith, rest-put (i .inv .1) (hex (getD b (i .i) 0 ∷ [])) (hex (drop (i .i + 1) b)) (hex-next b (i .i) (omega arith)) (c .before .before .put-hex-byte .ensures))
+    let b = c .before .before .before .before .before .before .before .before .before .args .bytes .now in (
+      omega arith,
+      rest-put (i .inv .1) (hex (getD b (i .i) 0 ∷ [])) (hex (drop (i .i + 1) b)) (hex-next b (i .i) (omega arith))
+          (c .before .before .put-hex-byte .ensures),
+    )
 
 same-length : tie.Need-same-length Inv-loop μ-loop
 same-length c = omega arith

@@ -1,10 +1,10 @@
 use mathlib.Core.Path.{refl}
-use Rattle.advance.specs.Turn.{answerOf}
+use Rattle.advance.specs.Turn.{stepAnswer}
 use Rattle.traverse.proofs.emptied.Statement.{statement}
 use Rattle.traverse.proofs.emptied.Tie as tie
 
 returns : tie.Need-returns
-unfolding answerOf
+unfolding stepAnswer
 returns c = refl
 
 pub emptied-spec : {M : Type 1} → statement M

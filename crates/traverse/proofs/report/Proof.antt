@@ -1,5 +1,5 @@
 use mathlib.Core.Path.{_≡_}
-use Rattle.advance.specs.Turn.{groupOf, walkerOf, answerOf}
+use Rattle.advance.specs.Turn.{groupOf, walkerOf, stepAnswer}
 use Rattle.traverse.proofs.Reports.{report-past, report-made}
 use borrow.Author.Needs.{needs}
 use Rattle.traverse.proofs.report.Statement.{statement}
@@ -9,7 +9,7 @@ first-position-requires : tie.Need-first-position-requires
 first-position-requires c κs = search needs
 
 returns : tie.Need-returns
-unfolding answerOf
+unfolding stepAnswer
 returns c = λ ray octant stack.
     let a = c .before .before .before .args in
     report-past (a .n) (walkerOf ray octant (a .walk) stack) (c .before .first-position .result) (c .before .first-position .ensures) (c .if1 .taken)
@@ -21,10 +21,12 @@ cast-t12 : tie.Need-cast-t12
 cast-t12 c = search needs
 
 returns-2 : tie.Need-returns-2
-unfolding answerOf
+unfolding stepAnswer
 returns-2 c = λ ray octant stack.
     let a = c .before .before .before .before .before .args in
-    report-made (a .n) (walkerOf ray octant (a .walk) stack) (c .before .before .before .first-position .result) (groupOf (c .before .rest-of .result)) (c .before .before .before .first-position .ensures) (c .before .rest-of .ensures) (c .before .before .if1 .left)
+    report-made (a .n) (walkerOf ray octant (a .walk) stack) (c .before .before .before .first-position .result)
+    (groupOf (c .before .rest-of .result)) (c .before .before .before .first-position .ensures) (c .before .rest-of .ensures)
+    (c .before .before .if1 .left)
 
 pub report-spec : {M : Type 1} → statement M
 report-spec =

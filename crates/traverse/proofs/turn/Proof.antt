@@ -1,9 +1,9 @@
 use mathlib.Core.Path.{refl, ap, _∙_}
 use native.Mathlib.Omega.{arith}
 use Rattle.record_shape.specs.Record.{nodeCount}
-use Rattle.walk_record.specs.Beam.{beams}
+use Rattle.walk_record.specs.WalkRay.{byBoxes}
 use Rattle.walk_record.specs.Record.{nodeWordsAt}
-use Rattle.slot.specs.Parts.{endsOf}
+use Rattle.node_slot.specs.Parts.{endsOf}
 use Rattle.walk.specs.WordStep.{seekWords}
 use Rattle.advance.specs.Turn.{walkerOf}
 use Rattle.advance.proofs.Seeks.{seeking-from}
@@ -20,7 +20,7 @@ returns c =
     let a = c .before .before .before .before .args in
     c .report .ensures (a .ray) (a .octant) (a .stack .now)
     ∙ report-due (a .n) (walkerOf (a .ray) (a .octant) (a .walk) (a .stack .now)) (nodeCount (a .«record» .now))
-    (nodeWordsAt (a .«record» .now) beams) refl refl
+    (nodeWordsAt (a .«record» .now) byBoxes) refl refl
     (c .before .if1 .taken)
 
 near-ends-requires : tie.Need-near-ends-requires
@@ -45,7 +45,7 @@ returns-2 c =
     let i = c .before .before .before .before in
     let a = i .before .before .before .args in
     let m = nodeCount (a .«record» .now) in
-    let N = nodeWordsAt (a .«record» .now) beams in
+    let N = nodeWordsAt (a .«record» .now) byBoxes in
     c .seek .ensures
     ∙ ap (seekWords m N 0 (a .n)) (seeking-from (a .ray) (a .octant) (a .stack .now) (a .walk) (omega (arith, i .if1 .left)))
     ∙ one-turn (a .n) (walkerOf (a .ray) (a .octant) (a .walk) (a .stack .now)) m N

@@ -20,31 +20,54 @@ mul-if1 : tie.Need-mul-if1 Inv-loop μ-loop
 mul-if1 c = omega (arith, filling-room _ _ _ _ _ _ (c .before .loop .inv) (c .before .before .pre) (c .loop-test .taken))
 
 slice-read-if1 : tie.Need-slice-read-if1 Inv-loop μ-loop
-slice-read-if1 c = omega (arith, filling-room _ _ _ _ _ _ (c .before .before .loop .inv) (c .before .before .before .pre) (c .before .loop-test .taken))
+slice-read-if1 c = omega (
+  arith,
+  filling-room _ _ _ _ _ _ (c .before .before .loop .inv) (c .before .before .before .pre)
+      (c .before .loop-test .taken),
+)
 
 same-length : tie.Need-same-length Inv-loop μ-loop
 same-length c = c .before .before .before .loop .inv .long
 
 returns : tie.Need-returns Inv-loop μ-loop
-returns c = filling-blocked _ _ _ _ _ _ (c .before .before .before .loop .inv) _ (c .before .before .loop-test .taken) (λ e. omega (arith, c .if1 .taken))
+returns c = filling-blocked _ _ _ _ _ _ (c .before .before .before .loop .inv) _ (c .before .before .loop-test .taken)
+    (λ e. omega (arith, c .if1 .taken))
 
 add-work : tie.Need-add-work Inv-loop μ-loop
-add-work c = omega (arith, filling-room _ _ _ _ _ _ (c .before .before .before .loop .inv) (c .before .before .before .before .pre) (c .before .before .loop-test .taken))
+add-work c = omega (
+  arith,
+  filling-room _ _ _ _ _ _ (c .before .before .before .loop .inv) (c .before .before .before .before .pre)
+      (c .before .before .loop-test .taken),
+)
 
 mul-work : tie.Need-mul-work Inv-loop μ-loop
-mul-work c = omega (arith, filling-room _ _ _ _ _ _ (c .before .before .before .loop .inv) (c .before .before .before .before .pre) (c .before .before .loop-test .taken))
+mul-work c = omega (
+  arith,
+  filling-room _ _ _ _ _ _ (c .before .before .before .loop .inv) (c .before .before .before .before .pre)
+      (c .before .before .loop-test .taken),
+)
 
 slice-write-work : tie.Need-slice-write-work Inv-loop μ-loop
-slice-write-work c = omega (arith, filling-room _ _ _ _ _ _ (c .before .before .before .loop .inv) (c .before .before .before .before .pre) (c .before .before .loop-test .taken))
+slice-write-work c = omega (
+  arith,
+  filling-room _ _ _ _ _ _ (c .before .before .before .loop .inv) (c .before .before .before .before .pre)
+      (c .before .before .loop-test .taken),
+)
 
 add-j : tie.Need-add-j Inv-loop μ-loop
-add-j c = omega (arith, filling-room _ _ _ _ _ _ (c .before .before .before .loop .inv) (c .before .before .before .before .pre) (c .before .before .loop-test .taken))
+add-j c = omega (
+  arith,
+  filling-room _ _ _ _ _ _ (c .before .before .before .loop .inv) (c .before .before .before .before .pre)
+      (c .before .before .loop-test .taken),
+)
 
 loop-less : tie.Need-loop-less Inv-loop μ-loop
 loop-less c = omega arith
 
 loop-again : tie.Need-loop-again Inv-loop μ-loop
-loop-again c = filling-next _ _ _ _ _ _ (c .before .before .before .loop .inv) (c .before .before .loop-test .taken) (filling-room _ _ _ _ _ _ (c .before .before .before .loop .inv) (c .before .before .before .before .pre) (c .before .before .loop-test .taken)) (c .if1 .left)
+loop-again c = filling-next _ _ _ _ _ _ (c .before .before .before .loop .inv) (c .before .before .loop-test .taken)
+    (filling-room _ _ _ _ _ _ (c .before .before .before .loop .inv) (c .before .before .before .before .pre) (c .before .before .loop-test .taken))
+    (c .if1 .left)
 
 same-length-2 : tie.Need-same-length-2 Inv-loop μ-loop
 same-length-2 c = c .before .loop .inv .long

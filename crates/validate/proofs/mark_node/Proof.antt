@@ -34,13 +34,18 @@ add-fill : tie.Need-add-fill
 add-fill c = search needs
 
 fill-requires : tie.Need-fill-requires
-fill-requires c κs = children-room _ _ _ _ _ (c .before .before .before .before .before .before .before .pre .0) _ _ (c .before .before .before .child-base-idx .ensures) (c .before .child-count .ensures .0 ∙ ap (λ (x : ℕ). onesBelow 8 x) (c .before .before .imask .ensures))
+fill-requires c κs = children-room _ _ _ _ _ (c .before .before .before .before .before .before .before .pre .0) _ _
+    (c .before .before .before .child-base-idx .ensures)
+    (c .before .child-count .ensures .0 ∙ ap (λ (x : ℕ). onesBelow 8 x) (c .before .before .imask .ensures))
 
 same-length : tie.Need-same-length
 same-length c = search needs
 
 returns : tie.Need-returns
-returns c = children-taken _ _ _ _ _ (c .before .before .before .before .before .before .before .before .before .before .before .pre .0) _ _ (c .before .before .before .before .before .before .before .child-base-idx .ensures) (c .before .before .before .before .before .child-count .ensures .0 ∙ ap (λ (x : ℕ). onesBelow 8 x) (c .before .before .before .before .before .before .imask .ensures)) _ _ _ _ (c .before .before .before .fill .ensures) (c .if1 .taken)
+returns c = children-taken _ _ _ _ _ (c .before .before .before .before .before .before .before .before .before .before .before .pre .0) _ _
+    (c .before .before .before .before .before .before .before .child-base-idx .ensures)
+    (c .before .before .before .before .before .child-count .ensures .0 ∙ ap (λ (x : ℕ). onesBelow 8 x)
+    (c .before .before .before .before .before .before .imask .ensures)) _ _ _ _ (c .before .before .before .fill .ensures) (c .if1 .taken)
 
 mark-positions-requires : tie.Need-mark-positions-requires
 mark-positions-requires c κs = search needs
@@ -49,7 +54,13 @@ same-length-2 : tie.Need-same-length-2
 same-length-2 c = search needs
 
 returns-2 : tie.Need-returns-2
-returns-2 c = node-ends _ _ _ _ _ (c .before .before .before .before .before .before .before .before .before .before .before .before .before .before .before .pre .0) _ _ (c .before .before .before .before .before .before .before .before .before .before .before .child-base-idx .ensures) (c .before .before .before .before .before .before .before .before .before .child-count .ensures .0 ∙ ap (λ (x : ℕ). onesBelow 8 x) (c .before .before .before .before .before .before .before .before .before .before .imask .ensures)) _ _ _ _ (c .before .before .before .before .before .before .before .fill .ensures) _ (c .before .before .before .before .if1 .left) (c .before .before .mark-positions .ensures)
+returns-2 c = node-ends _ _ _ _ _
+    (c .before .before .before .before .before .before .before .before .before .before .before .before .before .before .before .pre .0) _ _
+    (c .before .before .before .before .before .before .before .before .before .before .before .child-base-idx .ensures)
+    (c .before .before .before .before .before .before .before .before .before .child-count .ensures .0 ∙ ap (λ (x : ℕ). onesBelow 8 x)
+    (c .before .before .before .before .before .before .before .before .before .before .imask .ensures)) _ _ _ _
+    (c .before .before .before .before .before .before .before .fill .ensures) _ (c .before .before .before .before .if1 .left)
+    (c .before .before .mark-positions .ensures)
 
 pub mark-node-spec : {M : Type 1} → statement M
 mark-node-spec =

@@ -32,8 +32,12 @@ cast-fill c = search needs
 
 fill-requires : tie.Need-fill-requires
 fill-requires c κs =
-    slot-room _ _ _ _ _ (c .before .before .before .before .before .before .before .before .pre .0) _ _ _ (c .before .before .before .before .before .before .before .before .pre .1)
-    (slot-read _ _ _ _ _ _ _ _ _ _ (c .before .before .before .before .before .before .before .before .pre .0 .sized .nodes) (c .before .before .before .before .imask .ensures) (c .before .before .primitive-base-idx .ensures) (c .before .before .before .before .before .child-meta .ensures) (c .before .child-primitives .ensures .0) (c .before .before .before .leaf-count .ensures))
+    slot-room _ _ _ _ _ (c .before .before .before .before .before .before .before .before .pre .0) _ _ _
+    (c .before .before .before .before .before .before .before .before .pre .1)
+    (slot-read _ _ _ _ _ _ _ _ _ _ (c .before .before .before .before .before .before .before .before .pre .0 .sized .nodes)
+    (c .before .before .before .before .imask .ensures) (c .before .before .primitive-base-idx .ensures)
+    (c .before .before .before .before .before .child-meta .ensures) (c .before .child-primitives .ensures .0)
+    (c .before .before .before .leaf-count .ensures))
 
 same-length : tie.Need-same-length
 same-length c = search needs
@@ -41,7 +45,11 @@ same-length c = search needs
 returns : tie.Need-returns
 returns c =
     slot-marked _ _ _ _ _ _ _ _ _
-    (slot-read _ _ _ _ _ _ _ _ _ _ (c .before .before .before .before .before .before .before .before .before .before .before .pre .0 .sized .nodes) (c .before .before .before .before .before .before .before .imask .ensures) (c .before .before .before .before .before .primitive-base-idx .ensures) (c .before .before .before .before .before .before .before .before .child-meta .ensures) (c .before .before .before .before .child-primitives .ensures .0) (c .before .before .before .before .before .before .leaf-count .ensures))
+    (slot-read _ _ _ _ _ _ _ _ _ _ (c .before .before .before .before .before .before .before .before .before .before .before .pre .0 .sized .nodes)
+    (c .before .before .before .before .before .before .before .imask .ensures)
+    (c .before .before .before .before .before .primitive-base-idx .ensures)
+    (c .before .before .before .before .before .before .before .before .child-meta .ensures)
+    (c .before .before .before .before .child-primitives .ensures .0) (c .before .before .before .before .before .before .leaf-count .ensures))
     (c .before .before .fill .ensures)
 
 pub mark-slot-spec : {M : Type 1} → statement M

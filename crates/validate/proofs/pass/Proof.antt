@@ -2,7 +2,8 @@ use mathlib.Core.Path.{sym, _∙_}
 use Prim.Native.Nat.{_-_}
 use native.Mathlib.Omega.{arith}
 use borrow.Author.Needs.{needs}
-use Rattle.validate.proofs.Answering.{Passing, passing-begins, rule-fails, parent-missing, level-over, node-ready, word-twice, passing-next, not-all, all-passed}
+use Rattle.validate.proofs.Answering.{Passing, passing-begins, rule-fails, parent-missing, level-over, node-ready, word-twice, passing-next}
+use Rattle.validate.proofs.Answering.{not-all, all-passed}
 use Rattle.validate.proofs.pass.Statement.{statement}
 use Rattle.validate.proofs.pass.Tie as tie
 
@@ -25,7 +26,8 @@ same-length : tie.Need-same-length Inv-loop μ-loop
 same-length c = c .before .before .before .loop .inv .words ∙ sym (c .before .before .before .before .before .before .pre .sized .words)
 
 returns : tie.Need-returns Inv-loop μ-loop
-returns c = rule-fails _ _ _ _ (c .before .before .before .before .before .before .pre) _ _ _ (c .before .before .before .loop .inv) (c .before .before .loop-test .taken) _ (c .before .node-rule .ensures) (c .if1 .taken)
+returns c = rule-fails _ _ _ _ (c .before .before .before .before .before .before .pre) _ _ _ (c .before .before .before .loop .inv)
+    (c .before .before .loop-test .taken) _ (c .before .node-rule .ensures) (c .if1 .taken)
 
 mul-v : tie.Need-mul-v Inv-loop μ-loop
 mul-v c = let e = c .before .before .before .loop .inv .words in let l = c .before .before .loop-test .taken in omega arith
@@ -34,25 +36,42 @@ slice-read-v : tie.Need-slice-read-v Inv-loop μ-loop
 slice-read-v c = let e = c .before .before .before .before .loop .inv .words in let l = c .before .before .before .loop-test .taken in omega arith
 
 same-length-2 : tie.Need-same-length-2 Inv-loop μ-loop
-same-length-2 c = c .before .before .before .before .before .loop .inv .words ∙ sym (c .before .before .before .before .before .before .before .before .pre .sized .words)
+same-length-2 c = c .before .before .before .before .before .loop .inv .words ∙ sym
+    (c .before .before .before .before .before .before .before .before .pre .sized .words)
 
 returns-2 : tie.Need-returns-2 Inv-loop μ-loop
-returns-2 c = parent-missing _ _ _ _ (c .before .before .before .before .before .before .before .before .pre) _ _ _ (c .before .before .before .before .before .loop .inv) (c .before .before .before .before .loop-test .taken) (c .if2 .taken)
+returns-2 c = parent-missing _ _ _ _ (c .before .before .before .before .before .before .before .before .pre) _ _ _
+    (c .before .before .before .before .before .loop .inv) (c .before .before .before .before .loop-test .taken) (c .if2 .taken)
 
 same-length-3 : tie.Need-same-length-3 Inv-loop μ-loop
-same-length-3 c = c .before .before .before .before .before .before .loop .inv .words ∙ sym (c .before .before .before .before .before .before .before .before .before .pre .sized .words)
+same-length-3 c = c .before .before .before .before .before .before .loop .inv .words ∙ sym
+    (c .before .before .before .before .before .before .before .before .before .pre .sized .words)
 
 returns-3 : tie.Need-returns-3 Inv-loop μ-loop
-returns-3 c = level-over _ _ _ _ (c .before .before .before .before .before .before .before .before .before .pre) _ _ _ (c .before .before .before .before .before .before .loop .inv) (c .before .before .before .before .before .loop-test .taken) (omega (arith, c .if3 .taken))
+returns-3 c = level-over _ _ _ _ (c .before .before .before .before .before .before .before .before .before .pre) _ _ _
+    (c .before .before .before .before .before .before .loop .inv) (c .before .before .before .before .before .loop-test .taken)
+    (omega (arith, c .if3 .taken))
 
 mark-node-requires : tie.Need-mark-node-requires Inv-loop μ-loop
-mark-node-requires c κs = (node-ready _ _ _ _ (c .before .before .before .before .before .before .before .before .before .before .pre) _ _ _ (c .before .before .before .before .before .before .before .loop .inv) (c .before .before .before .before .before .before .loop-test .taken) _ (c .before .before .before .before .before .node-rule .ensures) (c .before .before .before .before .if1 .left), omega (arith, c .before .if3 .left))
+mark-node-requires c κs = (
+  node-ready _ _ _ _ (c .before .before .before .before .before .before .before .before .before .before .pre) _ _ _
+      (c .before .before .before .before .before .before .before .loop .inv) (c .before .before .before .before .before .before .loop-test .taken) _
+      (c .before .before .before .before .before .node-rule .ensures) (c .before .before .before .before .if1 .left),
+  omega
+      (arith, c .before .if3 .left),
+)
 
 same-length-4 : tie.Need-same-length-4 Inv-loop μ-loop
-same-length-4 c = c .before .before .before .mark-node .kept .1 .1 .1 .1 .0 ∙ (c .before .before .before .before .before .before .before .before .before .before .before .loop .inv .words ∙ sym (c .before .before .before .before .before .before .before .before .before .before .before .before .before .before .pre .sized .words))
+same-length-4 c = c .before .before .before .mark-node .kept .1 .1 .1 .1 .0 ∙
+    (c .before .before .before .before .before .before .before .before .before .before .before .loop .inv .words ∙ sym
+    (c .before .before .before .before .before .before .before .before .before .before .before .before .before .before .pre .sized .words))
 
 returns-4 : tie.Need-returns-4 Inv-loop μ-loop
-returns-4 c = word-twice _ _ _ _ (c .before .before .before .before .before .before .before .before .before .before .before .before .before .before .pre) _ _ _ (c .before .before .before .before .before .before .before .before .before .before .before .loop .inv) (c .before .before .before .before .before .before .before .before .before .before .loop-test .taken) _ _ (c .before .before .before .mark-node .ensures) (c .if4 .taken)
+returns-4 c = word-twice _ _ _ _
+    (c .before .before .before .before .before .before .before .before .before .before .before .before .before .before .pre) _ _ _
+    (c .before .before .before .before .before .before .before .before .before .before .before .loop .inv)
+    (c .before .before .before .before .before .before .before .before .before .before .loop-test .taken) _ _
+    (c .before .before .before .mark-node .ensures) (c .if4 .taken)
 
 sub-greater : tie.Need-sub-greater Inv-loop μ-loop
 sub-greater c = search needs
@@ -61,28 +80,43 @@ greater-requires : tie.Need-greater-requires Inv-loop μ-loop
 greater-requires c κs = search needs
 
 add-i : tie.Need-add-i Inv-loop μ-loop
-add-i c = omega (arith, c .before .before .before .before .before .before .before .before .before .before .before .before .before .before .before .pre .sized .few)
+add-i c = omega (
+  arith,
+  c .before .before .before .before .before .before .before .before .before .before .before .before .before .before .before .pre .sized .few,
+)
 
 loop-less : tie.Need-loop-less Inv-loop μ-loop
 loop-less c = search needs
 
 loop-again : tie.Need-loop-again Inv-loop μ-loop
-loop-again c = passing-next _ _ _ _ (c .before .before .before .before .before .before .before .before .before .before .before .before .before .before .before .pre) _ _ _ (c .before .before .before .before .before .before .before .before .before .before .before .before .loop .inv) (c .before .before .before .before .before .before .before .before .before .before .before .loop-test .taken) _ _ (c .before .before .before .before .mark-node .ensures) _ _ (c .before .before .before .before .before .before .before .before .before .before .node-rule .ensures) (c .before .before .before .before .before .before .before .before .before .if1 .left) (c .before .before .before .before .before .before .before .if2 .left) (c .before .before .before .before .before .before .if3 .left) (c .before .if4 .left) (c .before .before .before .before .mark-node .kept .1 .1 .1 .1 .0) (c .greater .ensures)
+loop-again c = passing-next _ _ _ _
+    (c .before .before .before .before .before .before .before .before .before .before .before .before .before .before .before .pre) _ _ _
+    (c .before .before .before .before .before .before .before .before .before .before .before .before .loop .inv)
+    (c .before .before .before .before .before .before .before .before .before .before .before .loop-test .taken) _ _
+    (c .before .before .before .before .mark-node .ensures) _ _
+    (c .before .before .before .before .before .before .before .before .before .before .node-rule .ensures)
+    (c .before .before .before .before .before .before .before .before .before .if1 .left)
+    (c .before .before .before .before .before .before .before .if2 .left) (c .before .before .before .before .before .before .if3 .left)
+    (c .before .if4 .left) (c .before .before .before .before .mark-node .kept .1 .1 .1 .1 .0) (c .greater .ensures)
 
 all-marked-requires : tie.Need-all-marked-requires Inv-loop μ-loop
 all-marked-requires c κs = let e = c .before .before .loop .inv .words in omega arith
 
 same-length-5 : tie.Need-same-length-5 Inv-loop μ-loop
-same-length-5 c = c .before .before .before .before .loop .inv .words ∙ sym (c .before .before .before .before .before .before .before .pre .sized .words)
+same-length-5 c = c .before .before .before .before .loop .inv .words ∙ sym
+    (c .before .before .before .before .before .before .before .pre .sized .words)
 
 returns-5 : tie.Need-returns-5 Inv-loop μ-loop
-returns-5 c = not-all _ _ _ _ (c .before .before .before .before .before .before .before .pre) _ _ _ (c .before .before .before .before .loop .inv) (c .before .before .before .loop-test .left) _ (c .before .all-marked .ensures) (c .if5 .taken)
+returns-5 c = not-all _ _ _ _ (c .before .before .before .before .before .before .before .pre) _ _ _ (c .before .before .before .before .loop .inv)
+    (c .before .before .before .loop-test .left) _ (c .before .all-marked .ensures) (c .if5 .taken)
 
 same-length-6 : tie.Need-same-length-6 Inv-loop μ-loop
-same-length-6 c = c .before .before .before .before .loop .inv .words ∙ sym (c .before .before .before .before .before .before .before .pre .sized .words)
+same-length-6 c = c .before .before .before .before .loop .inv .words ∙ sym
+    (c .before .before .before .before .before .before .before .pre .sized .words)
 
 returns-6 : tie.Need-returns-6 Inv-loop μ-loop
-returns-6 c = all-passed _ _ _ _ (c .before .before .before .before .before .before .before .pre) _ _ _ (c .before .before .before .before .loop .inv) (c .before .before .before .loop-test .left) _ (c .before .all-marked .ensures) (c .if5 .left)
+returns-6 c = all-passed _ _ _ _ (c .before .before .before .before .before .before .before .pre) _ _ _
+    (c .before .before .before .before .loop .inv) (c .before .before .before .loop-test .left) _ (c .before .all-marked .ensures) (c .if5 .left)
 
 pub pass-spec : {M : Type 1} → statement M
 pass-spec =

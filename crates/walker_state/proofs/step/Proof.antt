@@ -1,6 +1,6 @@
 use mathlib.Core.Path.{sym, ap, _∙_}
 use Rattle.walk.specs.WordStep.{SteppedWords}
-use Rattle.walk_record.specs.Beam.{Beam}
+use Rattle.walk_record.specs.WalkRay.{WalkRay}
 use Rattle.traverse.specs.Walker.{stepBytes}
 use Rattle.walker_state.proofs.Left.{kept, holds}
 use borrow.Author.Needs.{needs}
@@ -21,7 +21,7 @@ returns c =
     let r = c .before in
     let s = r .before in
     let e = s .step .ensures ∙ ap (stepBytes _ _) (s .before .walker-in .ensures) in
-    (ap (λ (x : SteppedWords Beam). x .answer) e, kept _ _ _ (sym (r .is-refused .ensures) ∙ c .if1 .taken))
+    (ap (λ (x : SteppedWords WalkRay). x .answer) e, kept _ _ _ (sym (r .is-refused .ensures) ∙ c .if1 .taken))
 
 put-walker-requires : tie.Need-put-walker-requires
 put-walker-requires c κs = search needs
@@ -32,8 +32,8 @@ returns-2 c =
     let r = l .before in
     let s = r .before in
     let e = s .step .ensures ∙ ap (stepBytes _ _) (s .before .walker-in .ensures) in (
-      ap (λ (x : SteppedWords Beam). x .answer) e,
-      holds _ _ _ _ (sym (r .is-refused .ensures) ∙ l .if1 .left) (c .put-walker .ensures ∙ ap (λ (x : SteppedWords Beam). x .walker) e),
+      ap (λ (x : SteppedWords WalkRay). x .answer) e,
+      holds _ _ _ _ (sym (r .is-refused .ensures) ∙ l .if1 .left) (c .put-walker .ensures ∙ ap (λ (x : SteppedWords WalkRay). x .walker) e),
     )
 
 pub step-spec : {M : Type 1} → statement M

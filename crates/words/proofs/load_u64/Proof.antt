@@ -75,7 +75,8 @@ returns : tie.Need-returns
 returns c =
     let k = c .before .before .before .before .before .before .before .before .before .before in
     let a = k .before .args in
-    let e = ap₂ (λ (x y : ℕ). x * 0x1_0000_0000 + y) (c .join42 .ensures .sum) (c .before .before .before .before .before .join4 .ensures .sum) ∙ sym (le8 (a .s .now) (a .at)) in
+    let e = ap₂ (λ (x y : ℕ). x * 0x1_0000_0000 + y) (c .join42 .ensures .sum) (c .before .before .before .before .before .join4 .ensures .sum) ∙
+    sym (le8 (a .s .now) (a .at)) in
     record { value = e; bytes = λ i l. ap (field 8 i) e ∙ le-byte 8 (a .s .now) (a .at) (λ j m. k .shared-slice-known .given (a .at + j) .fits) i l }
 
 pub load-u64-spec : {M : Type 1} → statement M

@@ -19,7 +19,12 @@ unsigned-zero-requires c κs = search needs
 
 returns : tie.Need-returns
 unfolding entryDistance ofBits
-returns c = let f = c .before .before .before in rw (← (f .before .near .ensures), ← (f .far .ensures), c .before .before .if1 .taken, c .before .if2 .taken) (c .unsigned-zero .ensures)
+returns c = let f = c .before .before .before in rw (
+  ← (f .before .near .ensures),
+  ← (f .far .ensures),
+  c .before .before .if1 .taken,
+  c .before .if2 .taken,
+) (c .unsigned-zero .ensures)
 
 returns-2 : tie.Need-returns-2
 unfolding entryDistance ofBits

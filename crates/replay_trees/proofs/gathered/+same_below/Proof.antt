@@ -39,7 +39,8 @@ start t i = i .before .before .before .before .before .before .before
 known : (t : ℕ) (s : S t) → Number (s .args .words .now) (s .args .v)
 known t s = number (s .pre .1 .1)
 
-down : (t : ℕ) (i : I t) → let s = start t i in Below (s .args .words .now) (s .args .decisions .now) (s .args .depth) (i .before .link-word .result % 0x4000_0000)
+down : (t : ℕ) (i : I t) → let s = start t i in Below (s .args .words .now) (s .args .decisions .now) (s .args .depth)
+    (i .before .link-word .result % 0x4000_0000)
 down t i = below (start t i .pre .1 .1) (i .before .link-word .ensures) (i .if2 .left)
 
 same-below-mul-same-children : (t : ℕ) → same-below-lts.Need-mul-same-children (given t) (same-below-at t) same-below.Post

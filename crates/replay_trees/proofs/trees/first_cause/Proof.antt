@@ -24,7 +24,8 @@ all-are-requires : tie.Need-all-are-requires
 all-are-requires c κs = search needs
 
 returns-2 : tie.Need-returns-2
-returns-2 c = λ e. no-cause _ _ (sized _ _ (c .before .before .before .before .before .before .before .sizes .ensures) (c .before .before .before .before .before .before .if1 .left)) (c .before .before .before .before .structure .ensures .0) e
+returns-2 c = λ e. no-cause _ _ (sized _ _ (c .before .before .before .before .before .before .before .sizes .ensures)
+    (c .before .before .before .before .before .before .if1 .left)) (c .before .before .before .before .structure .ensures .0) e
 
 returns-3 : tie.Need-returns-3
 returns-3 c = search needs

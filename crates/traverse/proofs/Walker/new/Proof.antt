@@ -22,13 +22,16 @@ returns : tie.Need-returns
 unfolding rayOf
 returns c =
     let a = c .before .before .before .before .before .args in
-    starts (rayOf (a .origin) (a .direction) (a .tmin) (a .tmax)) (c .before .before .before .before .new .result) (c .before .octant .result) (c .begin .result) (c .before .before .before .before .new .ensures) (c .before .octant .ensures) (c .begin .ensures) (sym (c .before .before .before .accepted .ensures) ∙ c .before .before .if1 .taken)
+    starts (rayOf (a .origin) (a .direction) (a .tmin) (a .tmax)) (c .before .before .before .before .new .result) (c .before .octant .result)
+    (c .begin .result) (c .before .before .before .before .new .ensures) (c .before .octant .ensures) (c .begin .ensures)
+    (sym (c .before .before .before .accepted .ensures) ∙ c .before .before .if1 .taken)
 
 returns-2 : tie.Need-returns-2
 unfolding ofBits
 returns-2 c =
     let a = c .before .before .before .args in
-    refuses (rayOf (a .origin) (a .direction) (a .tmin) (a .tmax)) (c .before .before .new .result) (c .before .before .new .ensures) (sym (c .before .accepted .ensures) ∙ c .if1 .left)
+    refuses (rayOf (a .origin) (a .direction) (a .tmin) (a .tmax)) (c .before .before .new .result) (c .before .before .new .ensures)
+    (sym (c .before .accepted .ensures) ∙ c .if1 .left)
 
 pub new-spec : {M : Type 1} → statement M
 new-spec = tie.close (tie.spec new-requires accepted-requires octant-requires begin-requires returns returns-2)

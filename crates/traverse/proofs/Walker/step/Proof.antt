@@ -1,8 +1,8 @@
 use mathlib.Core.Path.{refl, sym, _∙_}
 use lib.ListN.{length}
 use Rattle.causes.proofs.Sizes.{Fit, none-record}
-use Rattle.advance.specs.Turn.{answerOf}
-use Rattle.traverse.specs.Walker.{wordsOf}
+use Rattle.advance.specs.Turn.{stepAnswer}
+use Rattle.traverse.specs.Walker.{walkerWords}
 use Rattle.traverse.proofs.Steps.{step-sizes, step-forged, step-over, step-advances, walks}
 use borrow.Author.Needs.{needs}
 use Rattle.traverse.proofs.Walker.step.Statement.{statement}
@@ -16,27 +16,27 @@ record-cause-requires : tie.Need-record-cause-requires
 record-cause-requires c κs = search needs
 
 returns : tie.Need-returns
-unfolding answerOf
+unfolding stepAnswer
 returns c =
     let s = c .before in
     let a = s .before .before .args in
-    step-sizes (a .«record» .now) (a .n) (wordsOf (a .self)) (s .record-cause .result) (s .record-cause .ensures) (c .if1 .taken)
+    step-sizes (a .«record» .now) (a .n) (walkerWords (a .self)) (s .record-cause .result) (s .record-cause .ensures) (c .if1 .taken)
 
 is-forged-requires : tie.Need-is-forged-requires
 is-forged-requires c κs = search needs
 
 returns-2 : tie.Need-returns-2
-unfolding answerOf
+unfolding stepAnswer
 returns-2 c =
     let s = c .before .before .before in
     let a = s .before .before .before .args in
-    step-forged (a .«record» .now) (a .n) (wordsOf (a .self)) (fit s) (sym (c .before .is-forged .ensures) ∙ c .if2 .taken)
+    step-forged (a .«record» .now) (a .n) (walkerWords (a .self)) (fit s) (sym (c .before .is-forged .ensures) ∙ c .if2 .taken)
 
 is-over-requires : tie.Need-is-over-requires
 is-over-requires c κs =
     let s = c .before .before .before in
     let a = s .before .before .before .args in
-    walks (a .«record» .now) (a .n) (wordsOf (a .self)) (fit s) (sym (c .before .is-forged .ensures) ∙ c .if2 .left) _ refl .eight
+    walks (a .«record» .now) (a .n) (walkerWords (a .self)) (fit s) (sym (c .before .is-forged .ensures) ∙ c .if2 .left) _ refl .eight
 
 emptied-requires : tie.Need-emptied-requires
 emptied-requires c κs = search needs
@@ -48,7 +48,7 @@ returns-3 c =
     let s = f .before .before .before in
     let a = s .before .before .before .args in
     c .emptied .ensures
-    ∙ step-over (a .«record» .now) (a .n) (wordsOf (a .self)) (fit s) (sym (f .before .is-forged .ensures) ∙ f .if2 .left)
+    ∙ step-over (a .«record» .now) (a .n) (walkerWords (a .self)) (fit s) (sym (f .before .is-forged .ensures) ∙ f .if2 .left)
     (sym (o .before .is-over .ensures) ∙ o .if3 .taken)
 
 turn-requires : tie.Need-turn-requires
@@ -57,7 +57,7 @@ turn-requires c κs =
     let f = o .before .before in
     let s = f .before .before .before in
     let a = s .before .before .before .args in
-    walks (a .«record» .now) (a .n) (wordsOf (a .self)) (fit s) (sym (f .before .is-forged .ensures) ∙ f .if2 .left)
+    walks (a .«record» .now) (a .n) (walkerWords (a .self)) (fit s) (sym (f .before .is-forged .ensures) ∙ f .if2 .left)
 
 returns-4 : tie.Need-returns-4
 returns-4 c =
@@ -67,7 +67,7 @@ returns-4 c =
     let s = f .before .before .before in
     let a = s .before .before .before .args in
     t .turn .ensures
-    ∙ step-advances (a .«record» .now) (a .n) (wordsOf (a .self)) (fit s) (sym (f .before .is-forged .ensures) ∙ f .if2 .left)
+    ∙ step-advances (a .«record» .now) (a .n) (walkerWords (a .self)) (fit s) (sym (f .before .is-forged .ensures) ∙ f .if2 .left)
     (sym (o .before .is-over .ensures) ∙ o .if3 .left)
 
 pub step-spec : {M : Type 1} → statement M

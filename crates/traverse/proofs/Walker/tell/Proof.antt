@@ -1,6 +1,6 @@
 use mathlib.Core.Path.{sym, _∙_}
 use borrow.Author.Needs.{needs}
-use Rattle.traverse.specs.Walker.{wordsOf}
+use Rattle.traverse.specs.Walker.{walkerWords}
 use Rattle.traverse.proofs.Steps.{told-nearer, told-farther}
 use Rattle.traverse.proofs.Walker.tell.Statement.{statement}
 use Rattle.traverse.proofs.Walker.tell.Tie as tie
@@ -14,13 +14,13 @@ returns c =
     let t = i .before .before in
     let k = t .before in
     let a = k .before .before .args in
-    told-nearer (wordsOf (a .self)) (a .distance) (sym (k .counts .ensures) ∙ t .if1 .taken)
+    told-nearer (walkerWords (a .self)) (a .distance) (sym (k .counts .ensures) ∙ t .if1 .taken)
 
 returns-2 : tie.Need-returns-2
 returns-2 c =
     let k = c .before in
     let a = k .before .before .args in
-    told-farther (wordsOf (a .self)) (a .distance) (sym (k .counts .ensures) ∙ c .if1 .left)
+    told-farther (walkerWords (a .self)) (a .distance) (sym (k .counts .ensures) ∙ c .if1 .left)
 
 pub tell-spec : {M : Type 1} → statement M
 tell-spec = tie.close (tie.spec counts-requires returns returns-2)

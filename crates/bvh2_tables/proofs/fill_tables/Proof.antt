@@ -1,0 +1,104 @@
+use mathlib.Core.Path.{sym, _∙_}
+use native.Mathlib.Omega.{arith}
+use Rattle.cost.specs.Table.{wordOf, costOf}
+use Rattle.cost.proofs.Start.{ready}
+use Rattle.bvh2_tables.proofs.Filled.{still-cleared, tabled-filled, tabled-cleared, decoded}
+use borrow.Author.Needs.{needs}
+use Rattle.bvh2_tables.proofs.fill_tables.Statement.{statement}
+use Rattle.bvh2_tables.proofs.fill_tables.Tie as tie
+
+mul-k : tie.Need-mul-k
+mul-k c = search needs
+
+sub-k : tie.Need-sub-k
+sub-k c = search needs
+
+mul-k-2 : tie.Need-mul-k-2
+mul-k-2 c = search needs
+
+clear-words-requires : tie.Need-clear-words-requires
+clear-words-requires c κs = search needs
+
+clear-costs-requires : tie.Need-clear-costs-requires
+clear-costs-requires c κs = search needs
+
+structure-requires : tie.Need-structure-requires
+structure-requires c κs = search needs
+
+same-length : tie.Need-same-length
+same-length c = search needs
+
+same-length-2 : tie.Need-same-length-2
+same-length-2 c = search needs
+
+returns : tie.Need-returns
+returns c =
+    let x = c .before .before .before in
+    let y = x .before .before .before .before in
+    let w = y .before .before .before .before in
+    let s = w .before .before .before .before .before in
+    let n = s .args .n in
+    let ws = s .args .words .now in
+    let e = x .structure .ensures .0 in (
+      e,
+      (
+        tabled-cleared (wordOf (s .args .limit)) ws _ _ _ (λ q. c .if1 .taken (e ∙ q))
+            (still-cleared n (s .args .decisions .now) _ _ (s .pre .1) (w .clear-words .ensures) (x .structure .ensures .1)),
+        tabled-cleared (costOf (s .args .limit)) ws _ _ _ (λ q. c .if1 .taken (e ∙ q)) (y .clear-costs .ensures),
+      ),
+    )
+
+calculate-cost-requires : tie.Need-calculate-cost-requires
+calculate-cost-requires c κs =
+    let i = c .before .before in
+    let x = i .before .before .before in
+    let y = x .before .before .before .before in
+    let w = y .before .before .before .before in
+    let s = w .before .before .before .before .before in
+    let d = decoded (s .args .words .now) (s .args .n) (s .pre .0) (s .pre .1) (sym (x .structure .ensures .0) ∙ i .if1 .left) in
+    ready (s .args .words .now) (s .args .n) _ _ d (omega (arith, x .structure .kept .1 .1 .0, w .clear-words .kept .0))
+    (omega (arith, y .clear-costs .kept .0))
+
+same-length-3 : tie.Need-same-length-3
+same-length-3 c = search needs
+
+same-length-4 : tie.Need-same-length-4
+same-length-4 c = search needs
+
+returns-2 : tie.Need-returns-2
+returns-2 c =
+    let k = c .before .before .before .before in
+    let i = k .before .before .before in
+    let x = i .before .before .before in
+    let y = x .before .before .before .before in
+    let w = y .before .before .before .before in
+    let s = w .before .before .before .before .before in
+    let n = s .args .n in
+    let ws = s .args .words .now in
+    let e = sym (x .structure .ensures .0) ∙ i .if1 .left in (
+      sym e,
+      (
+        tabled-filled (wordOf (s .args .limit)) ws _ _ _ _ e
+            (still-cleared n (s .args .decisions .now) _ _ (s .pre .1) (w .clear-words .ensures) (x .structure .ensures .1))
+            (k .calculate-cost .ensures .1 .0),
+        tabled-filled (costOf (s .args .limit)) ws _ _ _ _ e (y .clear-costs .ensures) (k .calculate-cost .ensures .1 .1),
+      ),
+    )
+
+pub fill-tables-spec : {M : Type 1} → statement M
+fill-tables-spec =
+    tie.close
+    (tie.spec
+    mul-k
+    sub-k
+    mul-k-2
+    clear-words-requires
+    clear-costs-requires
+    structure-requires
+    same-length
+    same-length-2
+    returns
+    calculate-cost-requires
+    same-length-3
+    same-length-4
+    returns-2)

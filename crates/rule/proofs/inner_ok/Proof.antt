@@ -1,9 +1,0 @@
-use Rattle.rule.proofs.MetaWords.{inner-tells}
-use Rattle.rule.proofs.inner_ok.Statement.{statement}
-use Rattle.rule.proofs.inner_ok.Tie as tie
-
-returns : tie.Need-returns
-returns c = inner-tells _ _ _ (c .pre)
-
-pub inner-ok-spec : {M : Type 1} → statement M
-inner-ok-spec = tie.close (tie.spec returns)

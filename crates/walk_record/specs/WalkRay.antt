@@ -1,0 +1,46 @@
+-- The ray that a walker holds, with its octant beside it, what telling does to it, and when it is forged (01, "Walking"; "Causes of refusal").
+use mathlib.Core.Bool.{Bool, true, false, not, _&&_, cond}
+use Prim.Native.Nat.{ℕ}
+use lib.Dec.{eqb}
+use lib.Ieee.{Float, eq}
+use Rattle.ray.specs.declared.Ray.{Ray}
+use Rattle.ray.specs.Ray.{safeInverse, octantOf, counts, acceptedRay}
+use Rattle.node_slot.specs.Mask.{passesSlot}
+use Rattle.walk_record.specs.Record.{Rays}
+
+pub record WalkRay : Type 0 where
+  pub ray : Ray
+  pub octant : ℕ
+
+-- the ray of a walker just begun
+abbrev pub walkRay : Ray → WalkRay
+walkRay r = record { ray = r; octant = octantOf (r .direction) }
+
+-- the inverse is the direction's
+abbrev pub ownInverse : Ray → Bool
+ownInverse r =
+    eq (r .inverse .x) (safeInverse (r .direction .x)) && eq (r .inverse .y) (safeInverse (r .direction .y)) && eq (r .inverse .z)
+    (safeInverse (r .direction .z))
+
+-- forged: cause 9 holds of the ray, or its inverse or its octant is not its direction's
+abbrev pub forgedRay : WalkRay → Bool
+forgedRay b = not (acceptedRay (b .ray) && ownInverse (b .ray) && eqb (b .octant) (octantOf (b .ray .direction)))
+
+-- a ray with another reach
+abbrev pub reaching : Float → Ray → Ray
+reaching t r = record { origin = r .origin; direction = r .direction; inverse = r .inverse; tmin = r .tmin; tmax = t }
+
+-- a distance that counts becomes the reach; any other does nothing
+abbrev pub toldWalkRay : Float → WalkRay → WalkRay
+toldWalkRay t b = record { ray = cond (counts (b .ray) t) (reaching t (b .ray)) (b .ray); octant = b .octant }
+
+-- slots are passed by their boxes alone, and no position is passed over or absent
+abbrev pub byBoxes : Rays WalkRay Float
+byBoxes = record {
+  passes = λ b v node j. passesSlot node (b .ray) j;
+  admits = λ b p. true;
+  absent = λ b p. false;
+  octant = λ b. b .octant;
+  told = toldWalkRay;
+  forged = forgedRay;
+}
