@@ -23,7 +23,8 @@ use Rattle.node.specs.declared.Slot.{Slot}
 use Rattle.node.specs.declared.Node.{Node}
 use Rattle.node_rule.specs.Rule.{pointOk, Exponent, Head}
 use Rattle.node_rule.proofs.PointBits.{point-bits}
-use Rattle.node_slot.specs.Slot.{nearLimit, adjustedInverse, adjustedOrigin, planeAt, nearByte, farByte, nearX, nearY, nearZ, farX, farY, farZ, nearOf}
+use Rattle.node_slot.specs.Slot.{nearLimit, adjustedInverse, adjustedOrigin, planeAt, nearByte, farByte, nearX, nearY, nearZ, farX, farY, farZ}
+use Rattle.node_slot.specs.Slot.{nearOf}
 use Rattle.node_slot.specs.Slot.{farOf}
 
 -- the inverse is the direction's

@@ -6,7 +6,8 @@ use native.Mathlib.Omega.{arith}
 use lib.ListN.{length, take, drop, length-append}
 use lib.Seq.{take-at, drop-at}
 use Rattle.wide_layout.specs.Wide.{Slots, end, empty, leaf, inner, Wide}
-use Rattle.wide_layout.specs.Sizes.{innerChildren, nodesBelow, ownPositions, ownCount, ownBefore, ownAt, positionsAt, positionsBelow, countBelow}
+use Rattle.wide_layout.specs.Sizes.{innerChildren, nodesBelow, ownPositions, ownCount, ownBefore, ownAt, positionsAt, positionsBelow}
+use Rattle.wide_layout.specs.Sizes.{countBelow}
 use Rattle.wide_layout.specs.Layout.{Entry, entry, entries, layout, EachEntry, indexList}
 use Rattle.wide_layout.specs.Ranges.{Holding}
 use Rattle.wide_layout.proofs.Sizes.{own-length, below-length}

@@ -23,7 +23,10 @@ cast-top : tie.Need-cast-top
 cast-top c = search needs
 
 top-requires : tie.Need-top-requires
-top-requires c κs = c .before .before .before .before .before .pre .1
+top-requires c κs =
+    let back3 = c .before .before .before in
+    let at-start = back3 .before .before in
+    at-start .pre .1
 
 cast-t11 : tie.Need-cast-t11
 cast-t11 c = search needs

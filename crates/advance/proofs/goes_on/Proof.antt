@@ -8,13 +8,17 @@ enum-told c = search needs
 
 returns : tie.Need-returns
 returns c =
-    let a = c .before .before .before .before .args in
-    found-some (a .turn) (a .left) _ (c .before .before .enum-told .given .1) (c .if1 .taken)
+    let at-enum-told = c .before .before in
+    let at-start = at-enum-told .before .before in
+    let a = at-start .args in
+    found-some (a .turn) (a .left) _ (at-enum-told .enum-told .given .1) (c .if1 .taken)
 
 returns-2 : tie.Need-returns-2
 returns-2 c =
-    let a = c .before .before .before .before .args in
-    found-none (a .turn) (a .left) _ (c .before .before .enum-told .given .1) (c .if1 .left)
+    let at-enum-told = c .before .before in
+    let at-start = at-enum-told .before .before in
+    let a = at-start .args in
+    found-none (a .turn) (a .left) _ (at-enum-told .enum-told .given .1) (c .if1 .left)
 
 returns-3 : tie.Need-returns-3
 returns-3 c = found-end (c .before .args .turn) (c .before .args .left) (c .match .keys2)

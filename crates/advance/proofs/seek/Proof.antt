@@ -83,8 +83,10 @@ loop-holds c = let s = c .before .before in (refl, s .pre .deep, refl, refl)
 
 test-due-requires : tie.Need-test-due-requires Inv-loop μ-loop
 test-due-requires c κs =
+    let back3 = c .before .before .before in
+    let back4 = back3 .before in
     let l = c .before .loop in
-    let s = c .before .before .before .before in
+    let s = back4 in
     let p = s .pre in (
       record {
         whole = p .whole;

@@ -71,26 +71,37 @@ returns-3 c =
 
 wait-requires : tie.Need-wait-requires
 wait-requires c κs =
-    let room = c .before .before .before .before .before .before .before in
+    let back3 = c .before .before .before in
+    let at-if1 = back3 .before .before .before in
+    let back7 = at-if1 .before in
+    let room = back7 in
     let s = room .before .before .before .before .before .before in
-    (sym (room .lacks-room .ensures) ∙ c .before .before .before .before .before .before .if1 .left, s .pre .0 .deep, s .pre .0 .stack)
+    (sym (room .lacks-room .ensures) ∙ at-if1 .if1 .left, s .pre .0 .deep, s .pre .0 .stack)
 
 cast-t24 : tie.Need-cast-t24
 cast-t24 c =
-    let past = c .before .before .before .before .before .before .before .before in
+    let back3 = c .before .before .before in
+    let back6 = back3 .before .before .before in
+    let at-if2 = back6 .before in
+    let back8 = at-if2 .before in
+    let past = back8 in
     let child = past .before .before .before in
     let s = child .before .before .before .before .before in
     let h = not-past (child .first-child .result) (s .args .walk .tests) (nodeCount (s .args .«record» .now))
-    (sym (past .is-past .ensures) ∙ c .before .before .before .before .before .before .before .if2 .left) in
+    (sym (past .is-past .ensures) ∙ at-if2 .if2 .left) in
     omega (arith, h .0, s .pre .0 .nodes)
 
 follow-requires : tie.Need-follow-requires
 follow-requires c κs =
-    let past = c .before .before .before .before .before .before .before .before in
+    let back3 = c .before .before .before in
+    let back6 = back3 .before .before .before in
+    let at-if2 = back6 .before in
+    let back8 = at-if2 .before in
+    let past = back8 in
     let child = past .before .before .before in
     let s = child .before .before .before .before .before in
     let h = not-past (child .first-child .result) (s .args .walk .tests) (nodeCount (s .args .«record» .now))
-    (sym (past .is-past .ensures) ∙ c .before .before .before .before .before .before .before .if2 .left) in
+    (sym (past .is-past .ensures) ∙ at-if2 .if2 .left) in
     omega (arith, h .1, s .pre .0 .nodes)
 
 same-length : tie.Need-same-length

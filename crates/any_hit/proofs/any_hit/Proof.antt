@@ -17,7 +17,10 @@ use Rattle.any_hit.proofs.any_hit.Tie as tie
 
 -- the ray that was asked for
 abbrev ray : tie.After-entry-cause → Ray
-ray c = let a = c .before .before .before .before .args in rayOf (a .origin) (a .direction) (a .tmin) (a .tmax)
+ray c =
+    let back3 = c .before .before .before in
+    let at-start = back3 .before in
+    let a = at-start .args in rayOf (a .origin) (a .direction) (a .tmin) (a .tmax)
 
 cause : (c : tie.After-entry-cause) → let a = c .before .before .before .before .args in
     c .entry-cause .result ≡ entryCause true (length (a .«record» .now)) (a .n) 0 (ray c)
@@ -38,7 +41,9 @@ entry-cause-requires c κs = search needs
 returns : tie.Need-returns
 unfolding anyHitAnswer
 returns c =
-    let a = c .before .before .before .before .before .args in
+    let back3 = c .before .before .before in
+    let at-start = back3 .before .before in
+    let a = at-start .args in
     answers-entry (a .«record» .now) (a .n) (ray (c .before)) (a .list .now) (c .before .entry-cause .result) (cause (c .before)) (c .if1 .taken)
 
 returns-2 : tie.Need-returns-2

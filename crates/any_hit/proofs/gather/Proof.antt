@@ -130,11 +130,14 @@ noted : (c : tie.After-t38 Inv-loop2 μ-loop2 Inv-loop μ-loop) → let p = c .b
     (p .before .first-position .result) (p .before .first-position .ensures)
     (groupOf (c .before .rest-of .result)) (c .before .before .before .before .note .last .0)
 noted c =
-    let p = c .before .before .before .before .before .before in
+    let back3 = c .before .before .before in
+    let at-note = back3 .before in
+    let back6 = at-note .before .before in
+    let p = back6 in
     let j = head (p .before) in
     walk-notes (sized (l (k j))) (fit (l (k j))) (within j) (p .before .before .before .if1 .taken)
     (p .before .first-position .result) (p .before .first-position .ensures)
-    (p .if2 .left) _ (c .before .rest-of .ensures) _ (c .before .before .before .before .note .ensures)
+    (p .if2 .left) _ (c .before .rest-of .ensures) _ (at-note .note .ensures)
 
 -- ---- the needs
 
@@ -213,7 +216,9 @@ note-requires c κs = search needs
 
 add-count : tie.Need-add-count Inv-loop2 μ-loop2 Inv-loop μ-loop
 add-count c =
-    let j = head (c .before .before .before .before .before) in
+    let back3 = c .before .before .before in
+    let back5 = back3 .before .before in
+    let j = head (back5) in
     let h = sized (l (k j)) .nodes in
     let f = within j .few in
     search needs
@@ -226,7 +231,10 @@ loop2-less c = let h = noted c .1 in omega (arith, h)
 
 loop2-again : tie.Need-loop2-again Inv-loop2 μ-loop2 Inv-loop μ-loop
 loop2-again c =
-    let j = head (c .before .before .before .before .before .before .before) in
+    let back3 = c .before .before .before in
+    let back6 = back3 .before .before .before in
+    let back7 = back6 .before in
+    let j = head (back7) in
     let h = noted c in
     (omega (arith, j .loop2 .inv .0), omega (arith, h .1, j .loop2 .inv .1), omega (arith, h .1, j .loop2 .inv .2), h .0)
 

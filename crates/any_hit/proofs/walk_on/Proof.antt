@@ -42,7 +42,9 @@ module _ (c : tie.After-gather) where
 
 done : (c : tie.At-match-keys2) → At (c .before .before .before .before) Done
 done c =
-    let k = c .before .before .before .before in
+    let back3 = c .before .before .before in
+    let back4 = back3 .before in
+    let k = back4 in
     let a = s k .args in
     let g = k .gather .result in
     counted-only (a .«record» .now) (a .n) (a .ray) (g .state) 0xffff_0000 (w k) (g .count) (moved k) (kept k) (c .match .keys2)
@@ -105,7 +107,9 @@ same-length-3 c = search needs
 returns-2 : tie.Need-returns-2
 unfolding anyHitAnswer
 returns-2 c =
-    let k = c .before .before .before .before .before .before in
+    let back3 = c .before .before .before in
+    let back6 = back3 .before .before .before in
+    let k = back6 in
     let a = s k .args in
     let g = c .before .state .given in
     ends-refused (a .«record» .now) (a .n) (a .ray) (a .list .now) (g .0 .0) (subst (At k) (g .1) (k .gather .ensures .1))

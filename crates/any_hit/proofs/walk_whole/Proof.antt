@@ -116,7 +116,9 @@ returns c =
 returns-2 : tie.Need-returns-2
 unfolding anyHitAnswer
 returns-2 c =
-    let k = c .before .before .before .before .before in
+    let back3 = c .before .before .before in
+    let back5 = back3 .before .before in
+    let k = back5 in
     let g = c .before .state .given in
     ends-refused (s k .args .«record» .now) (s k .args .n) (s k .args .ray) (s k .args .list .now) (g .0 .0) (stands k (g .1))
 

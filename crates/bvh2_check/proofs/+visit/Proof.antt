@@ -46,7 +46,10 @@ abbrev B : ℕ → Type 0
 B t = visit-lts.Else4 (claims t) (visit-at t) visit.Post
 
 abbrev start : (t : ℕ) → E t → S t
-start t c = c .before .before .before .before
+start t c =
+    let back3 = c .before .before .before in
+    let back4 = back3 .before in
+    back4
 
 ready : (t : ℕ) (s : S t) → MarkReady (s .args .words .now) (s .args .n) (length (s .args .marks .now)) (s .args .node)
 ready t s = s .pre .1
@@ -109,21 +112,33 @@ visit-same-length : (t : ℕ) → visit-lts.Need-same-length (claims t) (visit-a
 visit-same-length t c = simp length-set
 
 visit-returns-2 : (t : ℕ) → visit-lts.Need-returns-2 (claims t) (visit-at t) visit.Post
-visit-returns-2 t c = let g = leaf-of t (c .before .before) in held-before _ _ _ _ _ (fresh t (c .before .before .before .before)) _ _ (g .tree)
+visit-returns-2 t c =
+    let back2 = c .before .before in
+    let back4 = back2 .before .before in
+    let g = leaf-of t (back2) in held-before _ _ _ _ _ (fresh t (back4)) _ _ (g .tree)
     (g .ends) (λ e. omega arith)
 
 visit-mul-marks-2 : (t : ℕ) → visit-lts.Need-mul-marks-2 (claims t) (visit-at t) visit.Post
-visit-mul-marks-2 t c = let h = ready t (start t (c .before .before .before .before)) in let g = leaf-of t (c .before .before) in omega arith
+visit-mul-marks-2 t c =
+    let back2 = c .before .before in
+    let back4 = back2 .before .before in
+    let h = ready t (start t (back4)) in let g = leaf-of t (back2) in omega arith
 
 visit-slice-write-marks-2 : (t : ℕ) → visit-lts.Need-slice-write-marks-2 (claims t) (visit-at t) visit.Post
-visit-slice-write-marks-2 t c = let h = ready t (start t (c .before .before .before .before)) in let g = leaf-of t (c .before .before) in simp
+visit-slice-write-marks-2 t c =
+    let back2 = c .before .before in
+    let back4 = back2 .before .before in
+    let h = ready t (start t (back4)) in let g = leaf-of t (back2) in simp
     length-set (omega arith)
 
 visit-same-length-2 : (t : ℕ) → visit-lts.Need-same-length-2 (claims t) (visit-at t) visit.Post
 visit-same-length-2 t c = simp length-set
 
 visit-returns-3 : (t : ℕ) → visit-lts.Need-returns-3 (claims t) (visit-at t) visit.Post
-visit-returns-3 t c = let g = leaf-of t (c .before .before) in held-now _ _ _ _ _ (fresh t (c .before .before .before .before)) _ _ (g .tree)
+visit-returns-3 t c =
+    let back2 = c .before .before in
+    let back4 = back2 .before .before in
+    let g = leaf-of t (back2) in held-now _ _ _ _ _ (fresh t (back4)) _ _ (g .tree)
     (g .ends) (omega arith)
 
 visit-same-length-3 : (t : ℕ) → visit-lts.Need-same-length-3 (claims t) (visit-at t) visit.Post
@@ -142,31 +157,52 @@ visit-visit-requires : (t : ℕ) → visit-lts.Need-visit-requires (claims t) (v
 visit-visit-requires t c κs = let h = fork-of t (c .before) in (omega arith, simp length-set (h .left))
 
 visit-add-visit : (t : ℕ) → visit-lts.Need-add-visit (claims t) (visit-at t) visit.Post
-visit-add-visit t c = let h = fork-of t (c .before .before .before .before .before .before) in omega arith
+visit-add-visit t c =
+    let back3 = c .before .before .before in
+    let back6 = back3 .before .before .before in
+    let h = fork-of t (back6) in omega arith
 
 visit-sub-visit-2 : (t : ℕ) → visit-lts.Need-sub-visit-2 (claims t) (visit-at t) visit.Post
 visit-sub-visit-2 t c = omega arith
 
 visit-visit-requires-2 : (t : ℕ) → visit-lts.Need-visit-requires-2 (claims t) (visit-at t) visit.Post
-visit-visit-requires-2 t c κs = let h = fork-of t (c .before .before .before .before .before .before) in
-    (omega arith, rw (c .before .before .before .before .visit .kept .1 .0) (simp length-set (h .right)))
+visit-visit-requires-2 t c κs =
+    let back3 = c .before .before .before in
+    let at-visit = back3 .before in
+    let back6 = at-visit .before .before in
+    let h = fork-of t (back6) in
+    (omega arith, rw (at-visit .visit .kept .1 .0) (simp length-set (h .right)))
 
 visit-same-length-4 : (t : ℕ) → visit-lts.Need-same-length-4 (claims t) (visit-at t) visit.Post
-visit-same-length-4 t c = c .before .before .visit2 .kept .1 .0 ∙ c .before .before .before .before .before .before .before .visit .kept .1 .0 ∙
+visit-same-length-4 t c =
+    let at-visit2 = c .before .before in
+    let back5 = at-visit2 .before .before .before in
+    let at-visit = back5 .before .before in
+    at-visit2 .visit2 .kept .1 .0 ∙ at-visit .visit .kept .1 .0 ∙
     simp length-set
 
 visit-returns-5 : (t : ℕ) → visit-lts.Need-returns-5 (claims t) (visit-at t) visit.Post
-visit-returns-5 t c = both _ _ _ _ _ (fresh t (c .before .before .before .before .before .before .before .before .before .before .before .before)) _
-    _ _ _ _ _ (fork-of t (c .before .before .before .before .before .before .before .before .before) .tree)
-    (c .before .before .before .before .if5 .taken) (c .before .before .before .before .before .before .before .visit .ensures)
-    (c .before .before .visit2 .ensures)
+visit-returns-5 t c =
+    let at-visit2 = c .before .before in
+    let at-if5 = at-visit2 .before .before in
+    let at-visit = at-if5 .before .before .before in
+    let back9 = at-visit .before .before in
+    let back12 = back9 .before .before .before in
+    both _ _ _ _ _ (fresh t (back12)) _
+    _ _ _ _ _ (fork-of t (back9) .tree)
+    (at-if5 .if5 .taken) (at-visit .visit .ensures)
+    (at-visit2 .visit2 .ensures)
 
 visit-same-length-5 : (t : ℕ) → visit-lts.Need-same-length-5 (claims t) (visit-at t) visit.Post
 visit-same-length-5 t c = c .before .before .before .visit .kept .1 .0 ∙ simp length-set
 
 visit-returns-6 : (t : ℕ) → visit-lts.Need-returns-6 (claims t) (visit-at t) visit.Post
-visit-returns-6 t c = left-stops _ _ _ _ _ (fresh t (c .before .before .before .before .before .before .before .before)) _ _ _ _ _
-    (fork-of t (c .before .before .before .before .before) .tree) (c .if5 .left) (c .before .before .before .visit .ensures)
+visit-returns-6 t c =
+    let at-visit = c .before .before .before in
+    let back5 = at-visit .before .before in
+    let back8 = back5 .before .before .before in
+    left-stops _ _ _ _ _ (fresh t (back8)) _ _ _ _ _
+    (fork-of t (back5) .tree) (c .if5 .left) (at-visit .visit .ensures)
 
 pub +visit-spec : {M : Type 1} → statement M
 +visit-spec =

@@ -33,8 +33,11 @@ accepted-requires : tie.Need-accepted-requires Inv-loop μ-loop
 accepted-requires c κs = search needs
 
 returns : tie.Need-returns Inv-loop μ-loop
-returns c = sym (one-fails _ _ (c .before .before .before .before .loop .node) (omega arith)
-    (was-false _ _ (read-box _ _ _ (c .before .accepted .ensures) (c .before .before .node-box .ensures)) (c .if1 .taken)))
+returns c =
+    let at-node-box = c .before .before in
+    let at-loop = at-node-box .before .before in
+    sym (one-fails _ _ (at-loop .loop .node) (omega arith)
+    (was-false _ _ (read-box _ _ _ (c .before .accepted .ensures) (at-node-box .node-box .ensures)) (c .if1 .taken)))
 
 add-node : tie.Need-add-node Inv-loop μ-loop
 add-node c = omega arith
@@ -43,11 +46,13 @@ loop-less : tie.Need-loop-less Inv-loop μ-loop
 loop-less c = omega arith
 
 loop-again : tie.Need-loop-again Inv-loop μ-loop
-loop-again c = (
-  omega arith,
-  below-more _ _ (c .before .before .before .before .loop .inv .1)
-      (was-true _ _ (read-box _ _ _ (c .before .accepted .ensures) (c .before .before .node-box .ensures)) (c .if1 .left)),
-)
+loop-again c =
+    let at-node-box = c .before .before in
+    let at-loop = at-node-box .before .before in (
+      omega arith,
+      below-more _ _ (at-loop .loop .inv .1)
+          (was-true _ _ (read-box _ _ _ (c .before .accepted .ensures) (at-node-box .node-box .ensures)) (c .if1 .left)),
+    )
 
 returns-2 : tie.Need-returns-2 Inv-loop μ-loop
 returns-2 c = sym (all-pass _ _ (λ u l. c .before .loop .inv .1 u (omega arith)))

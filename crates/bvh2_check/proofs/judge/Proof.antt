@@ -25,21 +25,30 @@ Else2 = lts.Else2 (
 
 begun-at : (c : Else2) → Begun (c .before .before .before .before .before .before .args .words .now)
     (c .before .before .before .before .before .before .args .n) (c .before .before .before .before .before .before .args .marks .now)
-begun-at c = begun _ _ _ _ _ (c .before .before .before .before .before .before .pre) (c .before .before .before .links-inside .ensures)
+begun-at c =
+    let at-links-inside = c .before .before .before in
+    let at-start = at-links-inside .before .before .before in
+    begun _ _ _ _ _ (at-start .pre) (at-links-inside .links-inside .ensures)
     (c .before .before .if1 .left) (c .before .boxes-accepted .ensures) (c .if2 .left)
 
 links-inside-requires : tie.Need-links-inside-requires
 links-inside-requires c κs = search needs
 
 returns : tie.Need-returns
-returns c = judge-5 _ _ (c .before .before .before .before .pre .1) (was-false _ _ (c .before .links-inside .ensures) (c .if1 .taken))
+returns c =
+    let back3 = c .before .before .before in
+    let at-start = back3 .before in
+    judge-5 _ _ (at-start .pre .1) (was-false _ _ (c .before .links-inside .ensures) (c .if1 .taken))
 
 boxes-accepted-requires : tie.Need-boxes-accepted-requires
 boxes-accepted-requires c κs = search needs
 
 returns-2 : tie.Need-returns-2
-returns-2 c = judge-6 _ _ (c .before .before .before .before .before .before .pre .1)
-    (was-true _ _ (c .before .before .before .links-inside .ensures) (c .before .before .if1 .left))
+returns-2 c =
+    let at-links-inside = c .before .before .before in
+    let at-start = at-links-inside .before .before .before in
+    judge-6 _ _ (at-start .pre .1)
+    (was-true _ _ (at-links-inside .links-inside .ensures) (c .before .before .if1 .left))
     (was-false _ _ (c .before .boxes-accepted .ensures) (c .if2 .taken))
 
 visit-requires : tie.Need-visit-requires
@@ -49,8 +58,11 @@ same-length : tie.Need-same-length
 same-length c = search needs
 
 returns-3 : tie.Need-returns-3
-returns-3 c = stopped _ _ _ (c .before .before .before .visit .last .1 .0) (c .before .before .before .visit .result)
-    (begun-at (c .before .before .before .before .before)) (c .before .before .before .visit .ensures) (c .if3 .taken)
+returns-3 c =
+    let at-visit = c .before .before .before in
+    let back5 = at-visit .before .before in
+    stopped _ _ _ (at-visit .visit .last .1 .0) (at-visit .visit .result)
+    (begun-at (back5)) (at-visit .visit .ensures) (c .if3 .taken)
 
 mul-all-marked : tie.Need-mul-all-marked
 mul-all-marked c = search needs
@@ -60,28 +72,39 @@ sub-all-marked c = search needs
 
 all-marked-requires : tie.Need-all-marked-requires
 all-marked-requires c κs =
-    let e = marks-enough (c .before .before .before .before .visit .last .1 .0) (begun-at (c .before .before .before .before .before .before))
-    (c .before .before .before .before .visit .kept .1 .0) in
+    let back3 = c .before .before .before in
+    let at-visit = back3 .before in
+    let back6 = at-visit .before .before in
+    let e = marks-enough (at-visit .visit .last .1 .0) (begun-at (back6))
+    (at-visit .visit .kept .1 .0) in
     omega arith
 
 same-length-2 : tie.Need-same-length-2
 same-length-2 c = search needs
 
 returns-4 : tie.Need-returns-4
-returns-4 c = unmarked _ _ _ (c .before .before .before .before .before .before .visit .last .1 .0)
-    (c .before .before .before .before .before .before .visit .result)
-    (begun-at (c .before .before .before .before .before .before .before .before))
-    (c .before .before .before .before .before .before .visit .ensures) _ _ (omega arith) (c .before .before .before .if3 .left)
+returns-4 c =
+    let at-if3 = c .before .before .before in
+    let at-visit = at-if3 .before .before .before in
+    let back8 = at-visit .before .before in
+    unmarked _ _ _ (at-visit .visit .last .1 .0)
+    (at-visit .visit .result)
+    (begun-at (back8))
+    (at-visit .visit .ensures) _ _ (omega arith) (at-if3 .if3 .left)
     (c .before .all-marked .ensures) (c .if4 .taken)
 
 same-length-3 : tie.Need-same-length-3
 same-length-3 c = search needs
 
 returns-5 : tie.Need-returns-5
-returns-5 c = complete _ _ _ (c .before .before .before .before .before .before .visit .last .1 .0)
-    (c .before .before .before .before .before .before .visit .result)
-    (begun-at (c .before .before .before .before .before .before .before .before))
-    (c .before .before .before .before .before .before .visit .ensures) _ _ (omega arith) (c .before .before .before .if3 .left)
+returns-5 c =
+    let at-if3 = c .before .before .before in
+    let at-visit = at-if3 .before .before .before in
+    let back8 = at-visit .before .before in
+    complete _ _ _ (at-visit .visit .last .1 .0)
+    (at-visit .visit .result)
+    (begun-at (back8))
+    (at-visit .visit .ensures) _ _ (omega arith) (at-if3 .if3 .left)
     (c .before .all-marked .ensures) (c .if4 .left)
 
 pub judge-spec : {M : Type 1} → statement M

@@ -32,8 +32,11 @@ link-inside-requires : tie.Need-link-inside-requires Inv-loop μ-loop
 link-inside-requires c κs = omega arith
 
 returns : tie.Need-returns Inv-loop μ-loop
-returns c = sym (one-fails _ _ (c .before .before .before .before .loop .v) (omega arith)
-    (was-false _ _ (read-link _ _ _ _ (c .before .link-inside .ensures) (c .before .before .link-word .ensures)) (c .if1 .taken)))
+returns c =
+    let at-link-word = c .before .before in
+    let at-loop = at-link-word .before .before in
+    sym (one-fails _ _ (at-loop .loop .v) (omega arith)
+    (was-false _ _ (read-link _ _ _ _ (c .before .link-inside .ensures) (at-link-word .link-word .ensures)) (c .if1 .taken)))
 
 add-v : tie.Need-add-v Inv-loop μ-loop
 add-v c = omega arith
@@ -42,11 +45,13 @@ loop-less : tie.Need-loop-less Inv-loop μ-loop
 loop-less c = omega arith
 
 loop-again : tie.Need-loop-again Inv-loop μ-loop
-loop-again c = (
-  omega arith,
-  below-more _ _ (c .before .before .before .before .loop .inv .1)
-      (was-true _ _ (read-link _ _ _ _ (c .before .link-inside .ensures) (c .before .before .link-word .ensures)) (c .if1 .left)),
-)
+loop-again c =
+    let at-link-word = c .before .before in
+    let at-loop = at-link-word .before .before in (
+      omega arith,
+      below-more _ _ (at-loop .loop .inv .1)
+          (was-true _ _ (read-link _ _ _ _ (c .before .link-inside .ensures) (at-link-word .link-word .ensures)) (c .if1 .left)),
+    )
 
 returns-2 : tie.Need-returns-2 Inv-loop μ-loop
 returns-2 c = sym (all-pass _ _ (λ u l. c .before .loop .inv .1 u (omega arith)))

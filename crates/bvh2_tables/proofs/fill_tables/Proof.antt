@@ -67,7 +67,9 @@ same-length-4 c = search needs
 
 returns-2 : tie.Need-returns-2
 returns-2 c =
-    let k = c .before .before .before .before in
+    let back3 = c .before .before .before in
+    let back4 = back3 .before in
+    let k = back4 in
     let i = k .before .before .before in
     let x = i .before .before .before in
     let y = x .before .before .before .before in

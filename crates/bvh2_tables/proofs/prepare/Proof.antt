@@ -6,7 +6,8 @@ use borrow.Author.Tests.{not-true, not-false}
 use Rattle.float.specs.Compare.{plusZero}
 use Rattle.bvh2.proofs.First.{sizes-none}
 use Rattle.cost.specs.Table.{wordOf, costOf}
-use Rattle.bvh2_tables.proofs.Causes.{nothing, tabled-at, sizes-most, cause-size, cause-limit, cause-room, cause-structure, both-kept, work-none}
+use Rattle.bvh2_tables.proofs.Causes.{nothing, tabled-at, sizes-most, cause-size, cause-limit, cause-room, cause-structure, both-kept}
+use Rattle.bvh2_tables.proofs.Causes.{work-none}
 use Rattle.bvh2_tables.proofs.Room.{room-parts}
 use borrow.Author.Needs.{needs}
 use Rattle.bvh2_tables.proofs.prepare.Statement.{statement}

@@ -10,7 +10,10 @@ same-length : tie.Need-same-length
 same-length c = search needs
 
 returns : tie.Need-returns
-returns c = wrote-short _ _ _ _ (c .before .before .before .before .if1 .taken) (c .before .before .print-refusal .ensures)
+returns c =
+    let at-print-refusal = c .before .before in
+    let at-if1 = at-print-refusal .before .before in
+    wrote-short _ _ _ _ (at-if1 .if1 .taken) (at-print-refusal .print-refusal .ensures)
 
 load-u32-requires : tie.Need-load-u32-requires
 load-u32-requires c κs = search needs
@@ -41,10 +44,17 @@ same-length-3 c = search needs
 
 returns-2 : tie.Need-returns-2
 returns-2 c =
-    wrote-checked _ _ _ _ _ _ _ (c .before .before .before .before .before .before .before .before .before .before .if1 .left)
-    (c .before .before .before .before .before .before .before .before .before .load-u32 .ensures .value)
-    (c .before .before .before .before .before .before .before .before .before .before .before .before .before .before .pre .0)
-    (c .before .before .before .before .before .before .validate .ensures .0) (c .before .before .put-answer .ensures)
+    let at-put-answer = c .before .before in
+    let back5 = at-put-answer .before .before .before in
+    let at-validate = back5 .before in
+    let at-load-u32 = at-validate .before .before .before in
+    let at-if1 = at-load-u32 .before in
+    let back13 = at-if1 .before .before .before in
+    let at-start = back13 .before in
+    wrote-checked _ _ _ _ _ _ _ (at-if1 .if1 .left)
+    (at-load-u32 .load-u32 .ensures .value)
+    (at-start .pre .0)
+    (at-validate .validate .ensures .0) (at-put-answer .put-answer .ensures)
 
 pub check-text-spec : {M : Type 1} → statement M
 check-text-spec =

@@ -13,7 +13,10 @@ same-length : tie.Need-same-length
 same-length c = search needs
 
 returns : tie.Need-returns
-returns c = wrote-sound _ _ _ _ _ (c .before .before .before .before .before .v .given .1) (c .before .before .print-sound .ensures)
+returns c =
+    let at-print-sound = c .before .before in
+    let at-v = at-print-sound .before .before .before in
+    wrote-sound _ _ _ _ _ (at-v .v .given .1) (at-print-sound .print-sound .ensures)
 
 enum-told : tie.Need-enum-told
 enum-told c = search needs
@@ -25,7 +28,10 @@ same-length-2 : tie.Need-same-length-2
 same-length-2 c = search needs
 
 returns-2 : tie.Need-returns-2
-returns-2 c = wrote-unsound _ _ _ _ (c .before .before .before .before .enum-told .given .1) (c .before .before .print-unsound .ensures)
+returns-2 c =
+    let at-print-unsound = c .before .before in
+    let at-enum-told = at-print-unsound .before .before in
+    wrote-unsound _ _ _ _ (at-enum-told .enum-told .given .1) (at-print-unsound .print-unsound .ensures)
 
 enum-known-v-2 : tie.Need-enum-known-v-2
 enum-known-v-2 c = search needs
@@ -37,7 +43,10 @@ same-length-3 : tie.Need-same-length-3
 same-length-3 c = search needs
 
 returns-3 : tie.Need-returns-3
-returns-3 c = wrote-refused _ _ _ _ _ (c .before .before .before .before .before .v2 .given .1) (c .before .before .print-refusal .ensures)
+returns-3 c =
+    let at-print-refusal = c .before .before in
+    let at-v2 = at-print-refusal .before .before .before in
+    wrote-refused _ _ _ _ _ (at-v2 .v2 .given .1) (at-print-refusal .print-refusal .ensures)
 
 pub put-answer-spec : {M : Type 1} → statement M
 put-answer-spec =

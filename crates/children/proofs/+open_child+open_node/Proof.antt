@@ -55,10 +55,16 @@ abbrev O : ℕ → Type 0
 O t = open-child-lts.Else1 (child-given t) (open-child-at t) open-child.Post
 
 abbrev kept : (t : ℕ) → K t → S t
-kept t k = k .before .before .before .before .before
+kept t k =
+    let k-back3 = k .before .before .before in
+    let k-back5 = k-back3 .before .before in
+    k-back5
 
 abbrev opened : (t : ℕ) → O t → S t
-opened t o = o .before .before .before .before .before
+opened t o =
+    let o-back3 = o .before .before .before in
+    let o-back5 = o-back3 .before .before in
+    o-back5
 
 child-known : (t : ℕ) (s : S t) → Here (length (s .args .words .now)) (length (s .args .decisions .now)) (s .args .v)
 child-known t s = here (s .pre .1 .1 .tabled)
@@ -73,8 +79,11 @@ open-child-mul-word-2 : (t : ℕ) → open-child-lts.Need-mul-word-2 (child-give
 open-child-mul-word-2 t c = let h = child-known t (c .before .before .before) in let e = c .before .before .before .pre .1 .1 .entry in omega arith
 
 open-child-shared-slice-read-word : (t : ℕ) → open-child-lts.Need-shared-slice-read-word (child-given t) (open-child-at t) open-child.Post
-open-child-shared-slice-read-word t c = let h = child-known t (c .before .before .before .before) in let e =
-    c .before .before .before .before .pre .1 .1 .entry in omega arith
+open-child-shared-slice-read-word t c =
+    let back3 = c .before .before .before in
+    let at-start = back3 .before in
+    let h = child-known t (at-start) in let e =
+    at-start .pre .1 .1 .entry in omega arith
 
 open-child-cast-children : (t : ℕ) → open-child-lts.Need-cast-children (child-given t) (open-child-at t) open-child.Post
 open-child-cast-children t c = let h = child-known t (kept t c) in omega arith
@@ -113,7 +122,10 @@ abbrev W : ℕ → Type 0
 W t = open-node-lts.After-link-word (node-given t) (open-node-at t) open-node.Post
 
 abbrev start : (t : ℕ) → W t → N t
-start t w = w .before .before .before .before .before
+start t w =
+    let w-back3 = w .before .before .before in
+    let w-back5 = w-back3 .before .before in
+    w-back5
 
 node-known : (t : ℕ) (s : N t) → Here (length (s .args .words .now)) (length (s .args .decisions .now)) (s .args .v)
 node-known t s = here (s .pre .1 .1 .tabled)
@@ -134,8 +146,11 @@ open-node-mul-word-2 : (t : ℕ) → open-node-lts.Need-mul-word-2 (node-given t
 open-node-mul-word-2 t c = let h = node-known t (c .before .before .before) in let e = c .before .before .before .pre .1 .1 .entry in omega arith
 
 open-node-shared-slice-read-word : (t : ℕ) → open-node-lts.Need-shared-slice-read-word (node-given t) (open-node-at t) open-node.Post
-open-node-shared-slice-read-word t c = let h = node-known t (c .before .before .before .before) in let e =
-    c .before .before .before .before .pre .1 .1 .entry in omega arith
+open-node-shared-slice-read-word t c =
+    let back3 = c .before .before .before in
+    let at-start = back3 .before in
+    let h = node-known t (at-start) in let e =
+    at-start .pre .1 .1 .entry in omega arith
 
 open-node-cast-left : (t : ℕ) → open-node-lts.Need-cast-left (node-given t) (open-node-at t) open-node.Post
 open-node-cast-left t c = omega arith
@@ -144,7 +159,10 @@ open-node-cast-right : (t : ℕ) → open-node-lts.Need-cast-right (node-given t
 open-node-cast-right t c = omega arith
 
 open-node-link-word-requires : (t : ℕ) → open-node-lts.Need-link-word-requires (node-given t) (open-node-at t) open-node.Post
-open-node-link-word-requires t c κs = let h = node-known t (c .before .before .before .before) in omega arith
+open-node-link-word-requires t c κs =
+    let back3 = c .before .before .before in
+    let back4 = back3 .before in
+    let h = node-known t (back4) in omega arith
 
 open-node-cast-first : (t : ℕ) → open-node-lts.Need-cast-first (node-given t) (open-node-at t) open-node.Post
 open-node-cast-first t c = omega arith
@@ -160,7 +178,10 @@ open-node-add-open-child : (t : ℕ) → open-node-lts.Need-add-open-child (node
 open-node-add-open-child t c = omega arith
 
 open-node-sub-open-child-2 : (t : ℕ) → open-node-lts.Need-sub-open-child-2 (node-given t) (open-node-at t) open-node.Post
-open-node-sub-open-child-2 t c = below t (c .before .before .before .before) .deep
+open-node-sub-open-child-2 t c =
+    let back3 = c .before .before .before in
+    let back4 = back3 .before in
+    below t (back4) .deep
 
 open-node-open-child-requires-2 : (t : ℕ) → open-node-lts.Need-open-child-requires-2 (node-given t) (open-node-at t) open-node.Post
 open-node-open-child-requires-2 t c κs =

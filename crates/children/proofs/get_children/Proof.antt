@@ -8,7 +8,10 @@ link-word-requires : tie.Need-link-word-requires
 link-word-requires c κs = let h = here (c .before .before .before .pre .1) in omega arith
 
 cast-children : tie.Need-cast-children
-cast-children c = let h = here (c .before .before .before .before .before .pre .1) in omega arith
+cast-children c =
+    let back3 = c .before .before .before in
+    let at-start = back3 .before .before in
+    let h = here (at-start .pre .1) in omega arith
 
 slice-write-children : tie.Need-slice-write-children
 slice-write-children c = search needs
@@ -18,7 +21,9 @@ same-length c = search needs
 
 returns : tie.Need-returns
 returns c =
-    let s = c .before .before .before .before .before in
+    let back3 = c .before .before .before in
+    let back5 = back3 .before .before in
+    let s = back5 in
     λ limit k. root-leaf (s .pre .1) (c .before .link-word .ensures) (c .if1 .taken) (s .args .children .now) (s .pre .0) limit
 
 open-node-requires : tie.Need-open-node-requires

@@ -236,7 +236,9 @@ slice-aggregate-seek c = search needs
 
 seek-requires : tie.Need-seek-requires Inv-loop2 μ-loop2 Inv-loop μ-loop
 seek-requires c κs =
-    let l = c .before .before .before .before in
+    let back3 = c .before .before .before in
+    let back4 = back3 .before in
+    let l = back4 in
     let b = l .before .before in
     let w = walkerOf (l .loop2 .ray) (octantAt l) (l .loop2 .walk) (l .before .loop .stack) in
     walkable (bytesAt l) (length (indicesAt l)) (entry l .before .pre .0) w (leads l .way) (b .before .near-ends .result) (l .loop2 .inv .1)

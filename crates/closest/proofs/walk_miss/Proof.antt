@@ -186,7 +186,9 @@ slice-aggregate-seek c = search needs
 
 seek-requires : tie.Need-seek-requires Inv-loop μ-loop Inv-walk μ-walk
 seek-requires c κs =
-    let l = c .before .before .before .before in
+    let back3 = c .before .before .before in
+    let back4 = back3 .before in
+    let l = back4 in
     let b = l .before .before in
     let w = walkerOf (entry l .before .args .ray) (octantAt l) (l .loop .walk) (l .before .walk .stack) in
     walkable (bytesAt l) (length (indicesAt l)) (entry l .before .pre .0) w (l .loop .inv .2 .way)

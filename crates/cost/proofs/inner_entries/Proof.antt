@@ -27,12 +27,17 @@ best-split-requires : tie.Need-best-split-requires Inv-loop μ-loop
 best-split-requires c κs = (omega arith, omega arith)
 
 first-entry-requires : tie.Need-first-entry-requires Inv-loop μ-loop
-first-entry-requires c κs = (c .before .before .before .before .pre .1, small-split _ _ 6 _ (lit≤ tt) (c .best-split .ensures))
+first-entry-requires c κs =
+    let back3 = c .before .before .before in
+    let at-start = back3 .before in
+    (at-start .pre .1, small-split _ _ 6 _ (lit≤ tt) (c .best-split .ensures))
 
 loop-holds : tie.Need-loop-holds Inv-loop μ-loop
 unfolding ofBits
 loop-holds c =
-    let x = c .before .before .before .before .before .args in record {
+    let back3 = c .before .before .before in
+    let at-start = back3 .before .before in
+    let x = at-start .args in record {
       few = omega arith;
       entry = first-stored (x .area) (x .count) (x .limit) (costsAt (x .costs .now) (x .first)) (costsAt (x .costs .now) (x .first + 1))
           (c .before .best-split .ensures) (c .first-entry .ensures);

@@ -43,10 +43,16 @@ abbrev Z : ℕ → Type 0
 Z t = write-leaves-lts.Else1 (given t) (write-leaves-at t) write-leaves.Post
 
 abbrev start : (t : ℕ) → I t → S t
-start t i = i .before .before .before .before .before
+start t i =
+    let i-back3 = i .before .before .before in
+    let i-back5 = i-back3 .before .before in
+    i-back5
 
 abbrev start-leaf : (t : ℕ) → Z t → S t
-start-leaf t i = i .before .before .before .before .before
+start-leaf t i =
+    let i-back3 = i .before .before .before in
+    let i-back5 = i-back3 .before .before in
+    i-back5
 
 below : (t : ℕ) (i : I t) → Down (start t i .args .words .now) (length (start t i .args .indices .now)) (length (start t i .args .out .now))
     (start t i .args .at) (start t i .args .depth) (start t i .args .v) (i .before .link-word .result % 0x4000_0000)
@@ -72,18 +78,27 @@ write-leaves-add-write-leaves : (t : ℕ) → write-leaves-lts.Need-add-write-le
 write-leaves-add-write-leaves t c = omega arith
 
 write-leaves-sub-write-leaves-2 : (t : ℕ) → write-leaves-lts.Need-sub-write-leaves-2 (given t) (write-leaves-at t) write-leaves.Post
-write-leaves-sub-write-leaves-2 t c = below t (c .before .before .before .before .before) .deep
+write-leaves-sub-write-leaves-2 t c =
+    let back3 = c .before .before .before in
+    let back5 = back3 .before .before in
+    below t (back5) .deep
 
 write-leaves-write-leaves-requires-2 : (t : ℕ) → write-leaves-lts.Need-write-leaves-requires-2 (given t) (write-leaves-at t) write-leaves.Post
 write-leaves-write-leaves-requires-2 t c κs =
-    let h = below t (c .before .before .before .before .before) in
+    let at-write-leaves = c .before .before .before in
+    let back5 = at-write-leaves .before .before in
+    let h = below t (back5) in
     let d = h .deep in
-    let f = c .before .before .before .write-leaves in
+    let f = at-write-leaves .write-leaves in
     (omega arith, rw (f .kept .1 .1 .0, f .ensures .next) (h .right))
 
 write-leaves-same-length : (t : ℕ) → write-leaves-lts.Need-same-length (given t) (write-leaves-at t) write-leaves.Post
-write-leaves-same-length t c = c .before .before .write-leaves2 .kept .1 .1 .0 ∙
-    c .before .before .before .before .before .before .write-leaves .kept .1 .1 .0
+write-leaves-same-length t c =
+    let at-write-leaves2 = c .before .before in
+    let back5 = at-write-leaves2 .before .before .before in
+    let at-write-leaves = back5 .before in
+    at-write-leaves2 .write-leaves2 .kept .1 .1 .0 ∙
+    at-write-leaves .write-leaves .kept .1 .1 .0
 
 write-leaves-returns : (t : ℕ) → write-leaves-lts.Need-returns (given t) (write-leaves-at t) write-leaves.Post
 write-leaves-returns t c =

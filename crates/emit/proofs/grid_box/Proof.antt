@@ -24,7 +24,9 @@ quantize-max-requires-3 c κs = search needs
 returns : tie.Need-returns
 unfolding boxOn
 returns c =
-    let c5 = c .before .before .before .before in
+    let back3 = c .before .before .before in
+    let back4 = back3 .before in
+    let c5 = back4 in
     let c4 = c5 .before .before .before .before in
     let c3 = c4 .before .before .before .before in
     let c2 = c3 .before .before .before .before in

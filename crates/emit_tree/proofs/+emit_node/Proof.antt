@@ -75,16 +75,25 @@ abbrev I : ℕ → Type 0
 I t = lts.In-loop (given t) (emit-node-at t) emit-node.Post Inv μ
 
 abbrev start : (t : ℕ) → X t → S t
-start t x = x .before .before .before .before .before .before
+start t x =
+    let x-back3 = x .before .before .before in
+    let x-back6 = x-back3 .before .before .before in
+    x-back6
 
 abbrev slots : (t : ℕ) → B t → X t
 slots t b = b .before .before .before
 
 abbrev built : (t : ℕ) → W t → B t
-built t w = w .before .before .before .before .before
+built t w =
+    let w-back3 = w .before .before .before in
+    let w-back5 = w-back3 .before .before in
+    w-back5
 
 abbrev wrote : (t : ℕ) → I t → W t
-wrote t l = l .before .before .before .before .before .before
+wrote t l =
+    let l-back3 = l .before .before .before in
+    let l-back6 = l-back3 .before .before .before in
+    l-back6
 
 -- the slots' words, for whatever tables the decisions are
 words-are : (t : ℕ) (x : X t) → (h : EmitNode (start t x .args .words .now) (start t x .args .decisions .now)
@@ -110,7 +119,9 @@ room-at t w h =
 
 emit-node-slots-of-requires : (t : ℕ) → lts.Need-slots-of-requires (given t) (emit-node-at t) emit-node.Post Inv μ
 emit-node-slots-of-requires t c κs =
-    tabled (c .before .before .before .before .before .pre .1 .at)
+    let back3 = c .before .before .before in
+    let at-start = back3 .before .before in
+    tabled (at-start .pre .1 .at)
 
 emit-node-build-node-requires : (t : ℕ) → lts.Need-build-node-requires (given t) (emit-node-at t) emit-node.Post Inv μ
 emit-node-build-node-requires t c κs =
@@ -130,7 +141,9 @@ emit-node-build-node-requires t c κs =
 
 emit-node-write-node-requires : (t : ℕ) → lts.Need-write-node-requires (given t) (emit-node-at t) emit-node.Post Inv μ
 emit-node-write-node-requires t c κs =
-    let x = slots t (c .before .before .before .before) in
+    let back3 = c .before .before .before in
+    let back4 = back3 .before in
+    let x = slots t (back4) in
     let s = start t x in
     node-room (s .args .words .now) (s .args .decisions .now) (s .args .indices .now) (s .args .bytes .now) (s .args .out .now)
     (x .slots-of .result) (s .args .depth) (s .args .v) (s .args .number) (s .args .ordered) (s .args .next) (s .pre .1)
@@ -138,7 +151,9 @@ emit-node-write-node-requires t c κs =
 
 emit-node-add-t25 : (t : ℕ) → lts.Need-add-t25 (given t) (emit-node-at t) emit-node.Post Inv μ
 emit-node-add-t25 t c =
-    let w = c .before .before .before .before in
+    let back3 = c .before .before .before in
+    let back4 = back3 .before in
+    let w = back4 in
     let b = built t w in
     let x = slots t b in
     let s = start t x in
@@ -210,11 +225,15 @@ emit-node-emit-node-requires t c κs =
 
 emit-node-add-child : (t : ℕ) → lts.Need-add-child (given t) (emit-node-at t) emit-node.Post Inv μ
 emit-node-add-child t c =
-    let k = c .before .before .before .before .before .before .before .before in
+    let back3 = c .before .before .before in
+    let back6 = back3 .before .before .before in
+    let at-if1 = back6 .before in
+    let back8 = at-if1 .before in
+    let k = back8 in
     let l = k .before in
     let h = loop-child (turn t l) (l .loop-test .taken) (λ h. words-are t (slots t (built t (wrote t l))) h) (begun t l .pre .1 .at) 0
     (room-at t (wrote t l) (begun t l .pre .1)) (sym (k .is-inner .ensures) ∙
-    c .before .before .before .before .before .before .before .if1 .taken) in
+    at-if1 .if1 .taken) in
     let a = h .1 .room .mine in
     let b = h .1 .room .few in
     omega arith
@@ -254,11 +273,15 @@ emit-node-loop-again t c =
 
 emit-node-same-length : (t : ℕ) → lts.Need-same-length (given t) (emit-node-at t) emit-node.Post Inv μ
 emit-node-same-length t c =
-    c .before .loop .inv .1 ∙ c .before .before .before .before .before .before .write-node .kept .0
+    let back3 = c .before .before .before in
+    let at-write-node = back3 .before .before .before in
+    c .before .loop .inv .1 ∙ at-write-node .write-node .kept .0
 
 emit-node-same-length-2 : (t : ℕ) → lts.Need-same-length-2 (given t) (emit-node-at t) emit-node.Post Inv μ
 emit-node-same-length-2 t c =
-    c .before .loop .inv .2 ∙ built t (c .before .before .before .before .before .before) .build-node .kept .1 .1 .1 .0
+    let back3 = c .before .before .before in
+    let back6 = back3 .before .before .before in
+    c .before .loop .inv .2 ∙ built t (back6) .build-node .kept .1 .1 .1 .0
 
 emit-node-returns : (t : ℕ) → lts.Need-returns (given t) (emit-node-at t) emit-node.Post Inv μ
 emit-node-returns t c =

@@ -34,13 +34,22 @@ node-box-requires : tie.Need-node-box-requires Inv-loop μ-loop
 node-box-requires c κs = c .before .before .before .pre .1 (c .before .loop .i) (c .loop-test .taken)
 
 mul-boxes : tie.Need-mul-boxes Inv-loop μ-loop
-mul-boxes c = let h = c .before .before .before .before .pre .0 in omega arith
+mul-boxes c =
+    let back3 = c .before .before .before in
+    let at-start = back3 .before in
+    let h = at-start .pre .0 in omega arith
 
 array-set-from-boxes : tie.Need-array-set-from-boxes Inv-loop μ-loop
-array-set-from-boxes c = let h = c .before .before .before .before .pre .0 in omega arith
+array-set-from-boxes c =
+    let back3 = c .before .before .before in
+    let at-start = back3 .before in
+    let h = at-start .pre .0 in omega arith
 
 add-i : tie.Need-add-i Inv-loop μ-loop
-add-i c = let h = c .before .before .before .before .pre .0 in omega arith
+add-i c =
+    let back3 = c .before .before .before in
+    let at-start = back3 .before in
+    let h = at-start .pre .0 in omega arith
 
 loop-less : tie.Need-loop-less Inv-loop μ-loop
 loop-less c = search needs

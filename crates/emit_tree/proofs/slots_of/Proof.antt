@@ -20,7 +20,10 @@ returns c =
     λ limit z. found-in-order (s .pre) (g .get-children .ensures) (s .args .ordered) (not-true _ (c .if1 .taken)) limit z
 
 node-box-requires : tie.Need-node-box-requires
-node-box-requires c κs = let h = here (c .before .before .before .before .before .before .pre) in omega arith
+node-box-requires c κs =
+    let back3 = c .before .before .before in
+    let at-start = back3 .before .before .before in
+    let h = here (at-start .pre) in omega arith
 
 child-boxes-requires : tie.Need-child-boxes-requires
 child-boxes-requires c κs =

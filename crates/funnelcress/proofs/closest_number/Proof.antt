@@ -13,7 +13,10 @@ slice-write-out : tie.Need-slice-write-out
 slice-write-out c = search needs
 
 query-number-requires : tie.Need-query-number-requires
-query-number-requires c κs = (hit-tests _ _ _ (c .before .answer .given .1) (c .before .before .before .before .pre .0), omega arith)
+query-number-requires c κs =
+    let back3 = c .before .before .before in
+    let at-start = back3 .before in
+    (hit-tests _ _ _ (c .before .answer .given .1) (at-start .pre .0), omega arith)
 
 same-length : tie.Need-same-length
 same-length c = search needs

@@ -37,12 +37,14 @@ loop-less : tie.Need-loop-less Inv-loop μ-loop
 loop-less c = search needs
 
 loop-again : tie.Need-loop-again Inv-loop μ-loop
-loop-again c = (
-  omega arith,
-  filling-turn (c .before .before .before .loop .inv .1) _ (omega arith)
-      (c .intersect-ray .ensures ∙ ap (λ b. entryDistance b (c .before .before .before .before .before .before .args .r))
-      (c .before .box-at .ensures)),
-)
+loop-again c =
+    let at-loop = c .before .before .before in
+    let at-start = at-loop .before .before .before in (
+      omega arith,
+      filling-turn (at-loop .loop .inv .1) _ (omega arith)
+          (c .intersect-ray .ensures ∙ ap (λ b. entryDistance b (at-start .args .r))
+          (c .before .box-at .ensures)),
+    )
 
 same-length : tie.Need-same-length Inv-loop μ-loop
 same-length c = c .before .loop .inv .1 .as-long

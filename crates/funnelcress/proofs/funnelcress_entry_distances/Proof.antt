@@ -21,12 +21,17 @@ same-length : tie.Need-same-length
 same-length c = search needs
 
 returns-2 : tie.Need-returns-2
-returns-2 c = (
-  c .before .before .before .before .before .before .list-refusal .ensures ∙ eight _ _ _
-      (c .before .before .before .before .before .before .before .before .if1 .left),
-  (rw (c .before .before .before .before .ray-at .ensures) at (c .before .before .fill-entries .ensures)) ∙ answered-all _ _ _ _
-      (c .before .before .before .before .before .if2 .taken),
-)
+returns-2 c =
+    let at-fill-entries = c .before .before in
+    let at-ray-at = at-fill-entries .before .before in
+    let at-if2 = at-ray-at .before in
+    let at-list-refusal = at-if2 .before in
+    let at-if1 = at-list-refusal .before .before in (
+      at-list-refusal .list-refusal .ensures ∙ eight _ _ _
+          (at-if1 .if1 .left),
+      (rw (at-ray-at .ray-at .ensures) at (at-fill-entries .fill-entries .ensures)) ∙ answered-all _ _ _ _
+          (at-if2 .if2 .taken),
+    )
 
 same-length-2 : tie.Need-same-length-2
 same-length-2 c = search needs

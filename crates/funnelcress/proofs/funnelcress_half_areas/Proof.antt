@@ -14,11 +14,14 @@ same-length : tie.Need-same-length
 same-length c = search needs
 
 returns : tie.Need-returns
-returns c = (
-  c .before .before .before .before .before .list-refusal .ensures,
-  c .before .before .fill-areas .ensures ∙ answered-all _ _ _ _
-      (c .before .before .before .before .if1 .taken),
-)
+returns c =
+    let at-fill-areas = c .before .before in
+    let at-if1 = at-fill-areas .before .before in
+    let at-list-refusal = at-if1 .before in (
+      at-list-refusal .list-refusal .ensures,
+      at-fill-areas .fill-areas .ensures ∙ answered-all _ _ _ _
+          (at-if1 .if1 .taken),
+    )
 
 same-length-2 : tie.Need-same-length-2
 same-length-2 c = search needs

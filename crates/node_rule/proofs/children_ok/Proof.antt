@@ -14,7 +14,10 @@ cast-base : tie.Need-cast-base
 cast-base c = search needs
 
 returns-2 : tie.Need-returns-2
-returns-2 c = children-early _ _ _ (λ e. c .before .before .if1 .left (c .before .before .before .before .pre .1 ∙ e))
+returns-2 c =
+    let at-if1 = c .before .before in
+    let at-start = at-if1 .before .before in
+    children-early _ _ _ (λ e. at-if1 .if1 .left (at-start .pre .1 ∙ e))
     (rw (c .before .child-base-idx .ensures) at (c .if2 .taken))
 
 child-count-requires : tie.Need-child-count-requires
@@ -27,8 +30,11 @@ add-result : tie.Need-add-result
 add-result c = search needs
 
 returns-3 : tie.Need-returns-3
-returns-3 c = children-end _ _ _ _ _ _ (c .before .before .before .before .before .pre .1) (c .before .before .child-base-idx .ensures)
-    (c .before .before .before .if1 .left) (c .before .if2 .left) (c .child-count .ensures .0)
+returns-3 c =
+    let at-if1 = c .before .before .before in
+    let at-start = at-if1 .before .before in
+    children-end _ _ _ _ _ _ (at-start .pre .1) (c .before .before .child-base-idx .ensures)
+    (at-if1 .if1 .left) (c .before .if2 .left) (c .child-count .ensures .0)
 
 pub children-ok-spec : {M : Type 1} → statement M
 children-ok-spec =

@@ -25,9 +25,12 @@ point-ok-requires-2 c κs = search needs
 returns-2 : tie.Need-returns-2
 unfolding headOk
 returns-2 c =
+    let at-if1 = c .before .before .before in
+    let at-point-ok = at-if1 .before in
+    let at-px = at-point-ok .before in
     rw (
-      passed pointOk _ _ _ (c .before .before .before .before .point-ok .ensures) (c .before .before .before .before .before .px .ensures)
-          (c .before .before .before .if1 .left),
+      passed pointOk _ _ _ (at-point-ok .point-ok .ensures) (at-px .px .ensures)
+          (at-if1 .if1 .left),
       stopped pointOk _ _ _ (c .before .point-ok2 .ensures) (c .before .before .py .ensures) (c .if2 .taken),
     )
 
@@ -40,12 +43,18 @@ point-ok-requires-3 c κs = search needs
 returns-3 : tie.Need-returns-3
 unfolding headOk
 returns-3 c =
+    let at-if2 = c .before .before .before in
+    let at-point-ok2 = at-if2 .before in
+    let at-py = at-point-ok2 .before in
+    let at-if1 = at-py .before in
+    let at-point-ok = at-if1 .before in
+    let at-px = at-point-ok .before in
     rw (
-      passed pointOk _ _ _ (c .before .before .before .before .before .before .before .point-ok .ensures)
-          (c .before .before .before .before .before .before .before .before .px .ensures)
-          (c .before .before .before .before .before .before .if1 .left),
-      passed pointOk _ _ _ (c .before .before .before .before .point-ok2 .ensures) (c .before .before .before .before .before .py .ensures)
-          (c .before .before .before .if2 .left),
+      passed pointOk _ _ _ (at-point-ok .point-ok .ensures)
+          (at-px .px .ensures)
+          (at-if1 .if1 .left),
+      passed pointOk _ _ _ (at-point-ok2 .point-ok2 .ensures) (at-py .py .ensures)
+          (at-if2 .if2 .left),
       stopped pointOk _ _ _ (c .before .point-ok3 .ensures) (c .before .before .pz .ensures) (c .if3 .taken),
     )
 
@@ -58,15 +67,24 @@ exponent-ok-requires c κs = search needs
 returns-4 : tie.Need-returns-4
 unfolding headOk
 returns-4 c =
+    let at-if3 = c .before .before .before in
+    let at-point-ok3 = at-if3 .before in
+    let at-pz = at-point-ok3 .before in
+    let at-if2 = at-pz .before in
+    let at-point-ok2 = at-if2 .before in
+    let at-py = at-point-ok2 .before in
+    let at-if1 = at-py .before in
+    let at-point-ok = at-if1 .before in
+    let at-px = at-point-ok .before in
     rw (
-      passed pointOk _ _ _ (c .before .before .before .before .before .before .before .before .before .before .point-ok .ensures)
-          (c .before .before .before .before .before .before .before .before .before .before .before .px .ensures)
-          (c .before .before .before .before .before .before .before .before .before .if1 .left),
-      passed pointOk _ _ _ (c .before .before .before .before .before .before .before .point-ok2 .ensures)
-          (c .before .before .before .before .before .before .before .before .py .ensures)
-          (c .before .before .before .before .before .before .if2 .left),
-      passed pointOk _ _ _ (c .before .before .before .before .point-ok3 .ensures) (c .before .before .before .before .before .pz .ensures)
-          (c .before .before .before .if3 .left),
+      passed pointOk _ _ _ (at-point-ok .point-ok .ensures)
+          (at-px .px .ensures)
+          (at-if1 .if1 .left),
+      passed pointOk _ _ _ (at-point-ok2 .point-ok2 .ensures)
+          (at-py .py .ensures)
+          (at-if2 .if2 .left),
+      passed pointOk _ _ _ (at-point-ok3 .point-ok3 .ensures) (at-pz .pz .ensures)
+          (at-if3 .if3 .left),
       stopped exponentOk _ _ _ (c .before .exponent-ok .ensures) (c .before .before .ex .ensures) (c .if4 .taken),
     )
 
@@ -79,16 +97,28 @@ exponent-ok-requires-2 c κs = search needs
 returns-5 : tie.Need-returns-5
 unfolding headOk
 returns-5 c =
+    let at-if4 = c .before .before .before in
+    let at-exponent-ok = at-if4 .before in
+    let at-ex = at-exponent-ok .before in
+    let at-if3 = at-ex .before in
+    let at-point-ok3 = at-if3 .before in
+    let at-pz = at-point-ok3 .before in
+    let at-if2 = at-pz .before in
+    let at-point-ok2 = at-if2 .before in
+    let at-py = at-point-ok2 .before in
+    let at-if1 = at-py .before in
+    let at-point-ok = at-if1 .before in
+    let at-px = at-point-ok .before in
     rw (
-      passed pointOk _ _ _ (c .before .before .before .before .before .before .before .before .before .before .before .before .before .point-ok .ensures) (c .before .before .before .before .before .before .before .before .before .before .before .before .before .before .px .ensures) (c .before .before .before .before .before .before .before .before .before .before .before .before .if1 .left),
-      passed pointOk _ _ _ (c .before .before .before .before .before .before .before .before .before .before .point-ok2 .ensures)
-          (c .before .before .before .before .before .before .before .before .before .before .before .py .ensures)
-          (c .before .before .before .before .before .before .before .before .before .if2 .left),
-      passed pointOk _ _ _ (c .before .before .before .before .before .before .before .point-ok3 .ensures)
-          (c .before .before .before .before .before .before .before .before .pz .ensures)
-          (c .before .before .before .before .before .before .if3 .left),
-      passed exponentOk _ _ _ (c .before .before .before .before .exponent-ok .ensures) (c .before .before .before .before .before .ex .ensures)
-          (c .before .before .before .if4 .left),
+      passed pointOk _ _ _ (at-point-ok .point-ok .ensures) (at-px .px .ensures) (at-if1 .if1 .left),
+      passed pointOk _ _ _ (at-point-ok2 .point-ok2 .ensures)
+          (at-py .py .ensures)
+          (at-if2 .if2 .left),
+      passed pointOk _ _ _ (at-point-ok3 .point-ok3 .ensures)
+          (at-pz .pz .ensures)
+          (at-if3 .if3 .left),
+      passed exponentOk _ _ _ (at-exponent-ok .exponent-ok .ensures) (at-ex .ex .ensures)
+          (at-if4 .if4 .left),
       stopped exponentOk _ _ _ (c .before .exponent-ok2 .ensures) (c .before .before .ey .ensures) (c .if5 .taken),
     )
 
@@ -101,17 +131,31 @@ exponent-ok-requires-3 c κs = search needs
 returns-6 : tie.Need-returns-6
 unfolding headOk
 returns-6 c =
+    let at-exponent-ok2 = c .before .before .before in
+    let at-ey = at-exponent-ok2 .before in
+    let at-if4 = at-ey .before in
+    let at-exponent-ok = at-if4 .before in
+    let at-ex = at-exponent-ok .before in
+    let at-if3 = at-ex .before in
+    let at-point-ok3 = at-if3 .before in
+    let at-pz = at-point-ok3 .before in
+    let at-if2 = at-pz .before in
+    let at-point-ok2 = at-if2 .before in
+    let at-py = at-point-ok2 .before in
+    let at-if1 = at-py .before in
+    let at-point-ok = at-if1 .before in
+    let at-px = at-point-ok .before in
     rw (
-      passed pointOk _ _ _ (c .before .before .before .before .before .before .before .before .before .before .before .before .before .before .before .point-ok .ensures) (c .before .before .before .before .before .before .before .before .before .before .before .before .before .before .before .before .px .ensures) (c .before .before .before .before .before .before .before .before .before .before .before .before .before .before .if1 .left),
-      passed pointOk _ _ _ (c .before .before .before .before .before .before .before .before .before .before .before .before .point-ok2 .ensures)
-          (c .before .before .before .before .before .before .before .before .before .before .before .before .before .py .ensures)
-          (c .before .before .before .before .before .before .before .before .before .before .before .if2 .left),
-      passed pointOk _ _ _ (c .before .before .before .before .before .before .before .before .before .point-ok3 .ensures)
-          (c .before .before .before .before .before .before .before .before .before .before .pz .ensures)
-          (c .before .before .before .before .before .before .before .before .if3 .left),
-      passed exponentOk _ _ _ (c .before .before .before .before .before .before .exponent-ok .ensures)
-          (c .before .before .before .before .before .before .before .ex .ensures) (c .before .before .before .before .before .if4 .left),
-      passed exponentOk _ _ _ (c .before .before .before .exponent-ok2 .ensures) (c .before .before .before .before .ey .ensures)
+      passed pointOk _ _ _ (at-point-ok .point-ok .ensures) (at-px .px .ensures) (at-if1 .if1 .left),
+      passed pointOk _ _ _ (at-point-ok2 .point-ok2 .ensures)
+          (at-py .py .ensures)
+          (at-if2 .if2 .left),
+      passed pointOk _ _ _ (at-point-ok3 .point-ok3 .ensures)
+          (at-pz .pz .ensures)
+          (at-if3 .if3 .left),
+      passed exponentOk _ _ _ (at-exponent-ok .exponent-ok .ensures)
+          (at-ex .ex .ensures) (at-if4 .if4 .left),
+      passed exponentOk _ _ _ (at-exponent-ok2 .exponent-ok2 .ensures) (at-ey .ey .ensures)
           (c .before .before .if5 .left),
       c .exponent-ok3 .ensures,
       c .before .ez .ensures,

@@ -40,7 +40,10 @@ add-lone-2 : tie.Need-add-lone-2
 add-lone-2 c = search needs
 
 returns-2 : tie.Need-returns-2
-returns-2 c = leaves-tell _ _ _ _ _ (c .before .before .before .before .pre) (c .before .before .before .tops .ensures .0)
+returns-2 c =
+    let at-tops = c .before .before .before in
+    let at-start = at-tops .before in
+    leaves-tell _ _ _ _ _ (at-start .pre) (at-tops .tops .ensures .0)
     (c .before .before .if1 .left) (c .before .ones3 .ensures .0) (c .before .ones3 .ensures .1) (c .common .ensures .0)
 
 pub leaves-ok-spec : {M : Type 1} → statement M

@@ -27,12 +27,15 @@ slots-ok-requires c κs = search needs
 
 returns-3 : tie.Need-returns-3
 unfolding nodeRule
-returns-3 c = rw (
-  right _ _ (c .before .before .before .before .head-ok .ensures) (c .before .before .before .if1 .left),
-  right _ _
-      (c .before .before .children-ok .ensures) (c .before .if2 .left),
-  c .slots-ok .ensures,
-)
+returns-3 c =
+    let at-if1 = c .before .before .before in
+    let at-head-ok = at-if1 .before in
+    rw (
+      right _ _ (at-head-ok .head-ok .ensures) (at-if1 .if1 .left),
+      right _ _
+          (c .before .before .children-ok .ensures) (c .before .if2 .left),
+      c .slots-ok .ensures,
+    )
 
 pub meets-rule-spec : {M : Type 1} → statement M
 meets-rule-spec =

@@ -19,8 +19,11 @@ leaves-ok-requires : tie.Need-leaves-ok-requires
 leaves-ok-requires c κs = search needs
 
 returns-2 : tie.Need-returns-2
-returns-2 c = metas-tell _ _ _ _ _ _ _ (c .before .before .before .inner-ok .ensures) (c .before .before .if1 .left)
-    (c .before .before .before .before .spread .ensures) (c .before .rest .ensures) (c .leaves-ok .ensures)
+returns-2 c =
+    let at-inner-ok = c .before .before .before in
+    let at-spread = at-inner-ok .before in
+    metas-tell _ _ _ _ _ _ _ (at-inner-ok .inner-ok .ensures) (c .before .before .if1 .left)
+    (at-spread .spread .ensures) (c .before .rest .ensures) (c .leaves-ok .ensures)
 
 pub metas-ok-spec : {M : Type 1} → statement M
 metas-ok-spec =

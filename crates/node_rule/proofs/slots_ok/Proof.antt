@@ -13,8 +13,11 @@ metas-ok-requires : tie.Need-metas-ok-requires
 metas-ok-requires c κs = search needs
 
 returns : tie.Need-returns
-returns c = let o = c .before .before .before .before in slots-word _ _ _ _ _ _ _ (o .pre .1) (o .pre .2)
-    (c .before .before .primitive-base-idx .ensures) (c .before .room-of .ensures) (c .metas-ok .ensures)
+returns c =
+    let at-primitive-base-idx = c .before .before in
+    let back4 = at-primitive-base-idx .before .before in
+    let o = back4 in slots-word _ _ _ _ _ _ _ (o .pre .1) (o .pre .2)
+    (at-primitive-base-idx .primitive-base-idx .ensures) (c .before .room-of .ensures) (c .metas-ok .ensures)
 
 pub slots-ok-spec : {M : Type 1} → statement M
 slots-ok-spec =

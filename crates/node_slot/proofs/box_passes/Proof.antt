@@ -41,20 +41,30 @@ min-requires-3 c κs = search needs
 
 returns : tie.Need-returns
 unfolding boxPasses
-returns c = rw (
-  c .min3 .ensures,
-  c .before .min2 .ensures,
-  c .before .before .min .ensures,
-  c .before .before .before .max3 .ensures,
-  c .before .before .before .before .max2 .ensures,
-  c .before .before .before .before .before .max .ensures,
-  c .before .before .before .before .before .before .plane6 .ensures,
-  c .before .before .before .before .before .before .before .plane5 .ensures,
-  c .before .before .before .before .before .before .before .before .plane4 .ensures,
-  c .before .before .before .before .before .before .before .before .before .plane3 .ensures,
-  c .before .before .before .before .before .before .before .before .before .before .plane2 .ensures,
-  c .before .before .before .before .before .before .before .before .before .before .before .plane .ensures,
-)
+returns c =
+    let at-max3 = c .before .before .before in
+    let at-max2 = at-max3 .before in
+    let at-max = at-max2 .before in
+    let at-plane6 = at-max .before in
+    let at-plane5 = at-plane6 .before in
+    let at-plane4 = at-plane5 .before in
+    let at-plane3 = at-plane4 .before in
+    let at-plane2 = at-plane3 .before in
+    let at-plane = at-plane2 .before in
+    rw (
+      c .min3 .ensures,
+      c .before .min2 .ensures,
+      c .before .before .min .ensures,
+      at-max3 .max3 .ensures,
+      at-max2 .max2 .ensures,
+      at-max .max .ensures,
+      at-plane6 .plane6 .ensures,
+      at-plane5 .plane5 .ensures,
+      at-plane4 .plane4 .ensures,
+      at-plane3 .plane3 .ensures,
+      at-plane2 .plane2 .ensures,
+      at-plane .plane .ensures,
+    )
 
 pub box-passes-spec : {M : Type 1} → statement M
 box-passes-spec =

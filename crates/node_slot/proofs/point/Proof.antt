@@ -21,14 +21,18 @@ of-bits-requires-3 : tie.Need-of-bits-requires-3
 of-bits-requires-3 c κs = search needs
 
 returns : tie.Need-returns
-returns c = rw (
-  c .of-bits3 .ensures,
-  c .before .before .of-bits2 .ensures,
-  c .before .before .before .before .of-bits .ensures,
-  c .before .pz .ensures,
-  c .before .before .before .py .ensures,
-  c .before .before .before .before .before .px .ensures,
-)
+returns c =
+    let at-py = c .before .before .before in
+    let at-of-bits = at-py .before in
+    let at-px = at-of-bits .before in
+    rw (
+      c .of-bits3 .ensures,
+      c .before .before .of-bits2 .ensures,
+      at-of-bits .of-bits .ensures,
+      c .before .pz .ensures,
+      at-py .py .ensures,
+      at-px .px .ensures,
+    )
 
 pub point-spec : {M : Type 1} → statement M
 point-spec =

@@ -21,7 +21,17 @@ point-requires c κs = search needs
 
 returns : tie.Need-returns
 unfolding rayGridOf adjustedInverse adjustedOrigin
-returns c = rw (c .before .before .before .before .before .before .before .before .before .before .before .before .before .before .before .point .ensures, c .before .before .before .before .before .before .before .before .before .before .before .before .before .before .before .before .compute-extent .ensures, c .before .before .before .before .before .before .before .before .before .before .before .before .before .before .before .before .before .ez .ensures, c .before .before .before .before .before .before .before .before .before .before .before .before .before .before .before .before .before .before .ey .ensures, c .before .before .before .before .before .before .before .before .before .before .before .before .before .before .before .before .before .before .before .ex .ensures)
+returns c =
+    let back3 = c .before .before .before in
+    let back6 = back3 .before .before .before in
+    let back9 = back6 .before .before .before in
+    let back12 = back9 .before .before .before in
+    let at-point = back12 .before .before .before in
+    let at-compute-extent = at-point .before in
+    let at-ez = at-compute-extent .before in
+    let at-ey = at-ez .before in
+    let at-ex = at-ey .before in
+    rw (at-point .point .ensures, at-compute-extent .compute-extent .ensures, at-ez .ez .ensures, at-ey .ey .ensures, at-ex .ex .ensures)
 
 pub ray-in-grid-spec : {M : Type 1} → statement M
 ray-in-grid-spec =

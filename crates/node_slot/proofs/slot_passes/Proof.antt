@@ -35,15 +35,21 @@ box-passes-requires c κs = search needs
 
 returns : tie.Need-returns
 unfolding slotPasses
-returns c = rw (
-  c .box-passes .ensures,
-  c .before .corner6 .ensures,
-  c .before .before .before .corner5 .ensures,
-  c .before .before .before .before .before .corner4 .ensures,
-  c .before .before .before .before .before .before .before .corner3 .ensures,
-  c .before .before .before .before .before .before .before .before .corner2 .ensures,
-  c .before .before .before .before .before .before .before .before .before .corner .ensures,
-)
+returns c =
+    let at-corner5 = c .before .before .before in
+    let at-corner4 = at-corner5 .before .before in
+    let at-corner3 = at-corner4 .before .before in
+    let at-corner2 = at-corner3 .before in
+    let at-corner = at-corner2 .before in
+    rw (
+      c .box-passes .ensures,
+      c .before .corner6 .ensures,
+      at-corner5 .corner5 .ensures,
+      at-corner4 .corner4 .ensures,
+      at-corner3 .corner3 .ensures,
+      at-corner2 .corner2 .ensures,
+      at-corner .corner .ensures,
+    )
 
 pub slot-passes-spec : {M : Type 1} → statement M
 slot-passes-spec =

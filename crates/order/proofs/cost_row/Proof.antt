@@ -28,15 +28,20 @@ along-requires-8 c κs = search needs
 
 returns : tie.Need-returns
 returns c =
+    let at-along5 = c .before .before .before in
+    let at-along4 = at-along5 .before in
+    let at-along3 = at-along4 .before in
+    let at-along2 = at-along3 .before in
+    let at-along = at-along2 .before in
     rw (
       c .along8 .ensures,
       c .before .along7 .ensures,
       c .before .before .along6 .ensures,
-      c .before .before .before .along5 .ensures,
-      c .before .before .before .before .along4 .ensures,
-      c .before .before .before .before .before .along3 .ensures,
-      c .before .before .before .before .before .before .along2 .ensures,
-      c .before .before .before .before .before .before .before .along .ensures,
+      at-along5 .along5 .ensures,
+      at-along4 .along4 .ensures,
+      at-along3 .along3 .ensures,
+      at-along2 .along2 .ensures,
+      at-along .along .ensures,
     )
 
 pub cost-row-spec : {M : Type 1} → statement M

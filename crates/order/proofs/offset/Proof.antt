@@ -6,7 +6,10 @@ center-requires : tie.Need-center-requires
 center-requires c κs = search needs
 
 returns : tie.Need-returns
-returns c = rw (c .before .before .before .before .before .before .center .ensures)
+returns c =
+    let back3 = c .before .before .before in
+    let at-center = back3 .before .before .before in
+    rw (at-center .center .ensures)
 
 pub offset-spec : {M : Type 1} → statement M
 offset-spec = tie.close (tie.spec center-requires returns)

@@ -23,8 +23,10 @@ best-pair-requires c κs = search needs
 
 returns : tie.Need-returns Inv-loop μ-loop
 returns c =
+    let back3 = c .before .before .before in
+    let back6 = back3 .before .before .before in
     let b = c .before .best-pair in
-    let l = c .before .before .before .before .before .before in
+    let l = back6 in
     let a = l .before .args in
     kept-last (a .t1) (a .n) (l .before .pre) (l .loop .k) (l .loop .slot) (l .loop .child) (b .result) (l .loop .inv .1) (b .ensures)
     (c .if1 .taken) (l .loop .inv .0)
@@ -34,8 +36,10 @@ pair : (c : tie.Else1 Inv-loop μ-loop)
     → let l = c .before .before .before .before .before .before in Found (l .before .args .t1) (l .before .args .n) (l .loop .k)
     (c .before .best-pair .result)
 pair c =
+    let back3 = c .before .before .before in
+    let back6 = back3 .before .before .before in
     let b = c .before .best-pair in
-    let l = c .before .before .before .before .before .before in
+    let l = back6 in
     let a = l .before .args in
     found (a .t1) (a .n) (l .before .pre) (l .loop .k) (l .loop .slot) (l .loop .child) (b .result) (l .loop .inv .1) (b .ensures) (c .if1 .left)
 
@@ -59,7 +63,9 @@ loop-less c = search needs
 
 loop-again : tie.Need-loop-again Inv-loop μ-loop
 loop-again c =
-    let l = c .before .before .before .before .before .before in
+    let back3 = c .before .before .before in
+    let back6 = back3 .before .before .before in
+    let l = back6 in
     let a = l .before .args in (
       omega arith,
       kept-next (a .t1) (a .n) (l .before .pre) (l .loop .k) (l .loop .slot) (l .loop .child) _ _ (c .before .best-pair .result)

@@ -15,11 +15,18 @@ put-bytes-requires c κs = search needs
 
 put-decimal-requires : tie.Need-put-decimal-requires
 put-decimal-requires c κs =
-    let h = decimal-word (c .before .before .before .before .before .before .before .args .k) (omega arith) in omega arith
+    let back3 = c .before .before .before in
+    let back6 = back3 .before .before .before in
+    let at-start = back6 .before in
+    let h = decimal-word (at-start .args .k) (omega arith) in omega arith
 
 put-byte-requires : tie.Need-put-byte-requires
 put-byte-requires c κs =
-    let h = decimal-word (c .before .before .before .before .before .before .before .before .before .before .before .args .k) (omega arith) in omega
+    let back3 = c .before .before .before in
+    let back6 = back3 .before .before .before in
+    let back9 = back6 .before .before .before in
+    let at-start = back9 .before .before in
+    let h = decimal-word (at-start .args .k) (omega arith) in omega
     arith
 
 same-length : tie.Need-same-length
@@ -28,15 +35,22 @@ same-length c = search needs
 returns : tie.Need-returns
 unfolding numberedLine chars
 returns c =
-    let a = c .before .before .before .before .before .before .before .before .before .before .before .before .before .before .args in
+    let at-put-byte = c .before .before in
+    let back5 = at-put-byte .before .before .before in
+    let at-put-decimal = back5 .before in
+    let back9 = at-put-decimal .before .before .before in
+    let at-put-bytes = back9 .before in
+    let back13 = at-put-bytes .before .before .before in
+    let at-start = back13 .before in
+    let a = at-start .args in
     let word = a .word .now in
     let h = decimal-word (a .k) (omega arith) in
     let fits = length-numbered word (a .k) in
     let whole = rest-all (a .out .now) 0 (numberedLine word (a .k)) (omega arith) in
     let number = rest-put whole word (decimal (a .k) ++ chars "\n") refl
-    (c .before .before .before .before .before .before .before .before .before .before .put-bytes .ensures) in
-    let end = rest-put number (decimal (a .k)) (chars "\n") refl (c .before .before .before .before .before .before .put-decimal .ensures) in
-    put-first (rest-none (rest-put end (chars "\n") [] refl (c .before .before .put-byte .ensures)) refl)
+    (at-put-bytes .put-bytes .ensures) in
+    let end = rest-put number (decimal (a .k)) (chars "\n") refl (at-put-decimal .put-decimal .ensures) in
+    put-first (rest-none (rest-put end (chars "\n") [] refl (at-put-byte .put-byte .ensures)) refl)
 
 pub print-numbered-spec : {M : Type 1} → statement M
 print-numbered-spec =

@@ -12,7 +12,9 @@ use Rattle.show.proofs.print_record.Tie as tie
 
 put-nodes-requires : tie.Need-put-nodes-requires
 put-nodes-requires c κs =
-    let a = c .before .before .before .before .args in
+    let back3 = c .before .before .before in
+    let at-start = back3 .before in
+    let a = at-start .args in
     omega (arith, lines-most (a .«record» .now) (a .m) 0 (omega arith))
 
 slice-aggregate-put-indices : tie.Need-slice-aggregate-put-indices
@@ -20,11 +22,15 @@ slice-aggregate-put-indices c = sym (length-take-le _ _ (omega arith))
 
 put-indices-requires : tie.Need-put-indices-requires
 put-indices-requires c κs =
-    let a = c .before .before .before .before .before .before .before .before .before .args in
+    let back3 = c .before .before .before in
+    let back6 = back3 .before .before .before in
+    let at-shared-slice-known2 = back6 .before in
+    let at-start = at-shared-slice-known2 .before .before in
+    let a = at-start .args in
     let l = take (a .n) (a .indices .now) in
     let lines = lines-most (a .«record» .now) (a .m) 0 (omega arith) in
     let list = spaced-most l (take-words (a .n) (a .indices .now)
-    (λ k. c .before .before .before .before .before .before .before .shared-slice-known2 .given k .fits)) in
+    (λ k. at-shared-slice-known2 .shared-slice-known2 .given k .fits)) in
     omega (arith, length-take-le (a .n) (a .indices .now) (omega arith), length-indices l)
 
 same-length : tie.Need-same-length
@@ -33,16 +39,21 @@ same-length c = search needs
 returns : tie.Need-returns
 unfolding recordText
 returns c =
-    let a = c .before .before .before .before .before .before .before .before .before .before .before .before .args in
+    let at-put-indices = c .before .before in
+    let back5 = at-put-indices .before .before .before in
+    let at-put-nodes = back5 .before .before in
+    let at-shared-slice-known2 = at-put-nodes .before .before .before in
+    let at-start = at-shared-slice-known2 .before .before in
+    let a = at-start .args in
     let l = take (a .n) (a .indices .now) in
     let lines = lines-most (a .«record» .now) (a .m) 0 (omega arith) in
     let list = spaced-most l (take-words (a .n) (a .indices .now)
-    (λ k. c .before .before .before .before .before .before .before .before .before .before .shared-slice-known2 .given k .fits)) in
+    (λ k. at-shared-slice-known2 .shared-slice-known2 .given k .fits)) in
     put-first
     (put-next
     (omega (arith, length-take-le (a .n) (a .indices .now) (omega arith), length-indices l))
-    (c .before .before .before .before .before .before .before .put-nodes .ensures)
-    (c .before .before .put-indices .ensures))
+    (at-put-nodes .put-nodes .ensures)
+    (at-put-indices .put-indices .ensures))
 
 pub print-record-spec : {M : Type 1} → statement M
 print-record-spec =

@@ -18,7 +18,11 @@ same-length c = search needs
 
 returns : tie.Need-returns
 unfolding chars
-returns c = put-next (omega arith) (c .before .before .before .before .before .before .put-byte .ensures) (c .before .before .put-decimal .ensures)
+returns c =
+    let at-put-decimal = c .before .before in
+    let back5 = at-put-decimal .before .before .before in
+    let at-put-byte = back5 .before in
+    put-next (omega arith) (at-put-byte .put-byte .ensures) (at-put-decimal .put-decimal .ensures)
 
 pub put-index-spec : {M : Type 1} → statement M
 put-index-spec = tie.close (tie.spec put-byte-requires put-decimal-requires same-length returns)

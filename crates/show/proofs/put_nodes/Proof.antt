@@ -37,8 +37,10 @@ part-put-node-end c = omega arith
 
 put-node-requires : tie.Need-put-node-requires Inv-loop μ-loop
 put-node-requires c κs =
-    let i = c .before .before .before .loop in
-    let a = c .before .before .before .before .before .before .args in
+    let at-loop = c .before .before .before in
+    let at-start = at-loop .before .before .before in
+    let i = at-loop .loop in
+    let a = at-start .args in
     rest-room
     (i .inv .1)
     (nodeLine (i .i) (take (80 * i .i + 80 - 80 * i .i) (drop (80 * i .i) (a .«record» .now))))
@@ -53,15 +55,19 @@ loop-less c = omega arith
 
 loop-again : tie.Need-loop-again Inv-loop μ-loop
 loop-again c =
-    let i = c .before .before .before .before .before .before .loop in
-    let a = c .before .before .before .before .before .before .before .before .before .args in (
+    let at-put-node = c .before .before in
+    let back5 = at-put-node .before .before .before in
+    let at-loop = back5 .before in
+    let at-start = at-loop .before .before .before in
+    let i = at-loop .loop in
+    let a = at-start .args in (
       omega arith,
       rest-put
           (i .inv .1)
           (nodeLine (i .i) (take (80 * i .i + 80 - 80 * i .i) (drop (80 * i .i) (a .«record» .now))))
           (nodeLines (a .«record» .now) (i .i + 1) (a .m - (i .i + 1)))
           (lines-next (a .«record» .now) (i .i) (a .m) (omega arith))
-          (c .before .before .put-node .ensures),
+          (at-put-node .put-node .ensures),
     )
 
 same-length : tie.Need-same-length Inv-loop μ-loop

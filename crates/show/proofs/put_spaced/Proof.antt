@@ -27,8 +27,10 @@ shared-slice-read-put-index c = omega arith
 
 put-index-requires : tie.Need-put-index-requires Inv-loop μ-loop
 put-index-requires c κs =
-    let i = c .before .before .before .loop in
-    let l = c .before .before .before .before .before .before .args .indices .now in
+    let at-loop = c .before .before .before in
+    let at-start = at-loop .before .before .before in
+    let i = at-loop .loop in
+    let l = at-start .args .indices .now in
     rest-room (i .inv .1) (chars " " ++ decimal (getD l (i .i) 0)) (spaced (drop (i .i + 1) l)) (spaced-next l (i .i) (omega arith))
 
 add-i : tie.Need-add-i Inv-loop μ-loop
@@ -39,15 +41,19 @@ loop-less c = omega arith
 
 loop-again : tie.Need-loop-again Inv-loop μ-loop
 loop-again c =
-    let i = c .before .before .before .before .before .before .loop in
-    let l = c .before .before .before .before .before .before .before .before .before .args .indices .now in (
+    let at-put-index = c .before .before in
+    let back5 = at-put-index .before .before .before in
+    let at-loop = back5 .before in
+    let at-start = at-loop .before .before .before in
+    let i = at-loop .loop in
+    let l = at-start .args .indices .now in (
       omega arith,
       rest-put
           (i .inv .1)
           (chars " " ++ decimal (getD l (i .i) 0))
           (spaced (drop (i .i + 1) l))
           (spaced-next l (i .i) (omega arith))
-          (c .before .before .put-index .ensures),
+          (at-put-index .put-index .ensures),
     )
 
 same-length : tie.Need-same-length Inv-loop μ-loop
@@ -56,8 +62,10 @@ same-length c = omega arith
 returns : tie.Need-returns Inv-loop μ-loop
 unfolding spaced
 returns c =
+    let back3 = c .before .before .before in
+    let at-start = back3 .before in
     let i = c .before .loop in
-    let h : length (c .before .before .before .before .args .indices .now) ≤ i .i = omega arith in
+    let h : length (at-start .args .indices .now) ≤ i .i = omega arith in
     rest-none (i .inv .1) (ap spaced (drop-of-length-le _ h))
 
 pub put-spaced-spec : {M : Type 1} → statement M

@@ -44,8 +44,10 @@ loop-less c = omega arith
 
 loop-again : tie.Need-loop-again Inv-loop μ-loop
 loop-again c =
-    let i = c .before .before .loop in
-    let a = c .before .before .before .before .before .args in
+    let at-loop = c .before .before in
+    let at-start = at-loop .before .before .before in
+    let i = at-loop .loop in
+    let a = at-start .args in
     let l = a .input .now in
     let rest = inputWords l (a .from + 4 * (i .k + 1)) (a .count - (i .k + 1)) in (
       omega arith,

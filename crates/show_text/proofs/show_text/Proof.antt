@@ -14,9 +14,15 @@ same-length : tie.Need-same-length
 same-length c = search needs
 
 returns : tie.Need-returns
-returns c = wrote-as _ _ _ _ _
-    (text-short (c .before .before .before .before .before .before .before .before .before .before .before .before .before .args .input .now)
-    (c .before .before .before .before .if1 .taken)) (c .before .before .print-refusal .ensures)
+returns c =
+    let at-print-refusal = c .before .before in
+    let at-if1 = at-print-refusal .before .before in
+    let back7 = at-if1 .before .before .before in
+    let back10 = back7 .before .before .before in
+    let at-start = back10 .before .before .before in
+    wrote-as _ _ _ _ _
+    (text-short (at-start .args .input .now)
+    (at-if1 .if1 .taken)) (at-print-refusal .print-refusal .ensures)
 
 load-u32-requires : tie.Need-load-u32-requires
 load-u32-requires c κs = search needs
@@ -32,11 +38,13 @@ same-length-2 c = search needs
 
 returns-2 : tie.Need-returns-2
 returns-2 c =
-    let q = c .before .before .before .before in
+    let at-print-refusal2 = c .before .before in
+    let back4 = at-print-refusal2 .before .before in
+    let q = back4 in
     wrote-as _ _ _ _ _
     (text-many (q .before .before .before .before .before .before .before .before .before .before .before .args .input .now) _
     (q .before .before .if1 .left) (q .before .load-u32 .ensures .value) (q .if2 .taken))
-    (c .before .before .print-refusal2 .ensures)
+    (at-print-refusal2 .print-refusal2 .ensures)
 
 tree-size-requires : tie.Need-tree-size-requires
 tree-size-requires c κs = search needs
@@ -58,12 +66,14 @@ same-length-3 c = search needs
 
 returns-3 : tie.Need-returns-3
 returns-3 c =
-    let q = c .before .before .before .before in
+    let at-print-refusal3 = c .before .before in
+    let back4 = at-print-refusal3 .before .before in
+    let q = back4 in
     wrote-as _ _ _ _ _
     (text-unfit (q .before .before .before .before .before .before .before .before .before .before .before .before .before .args .input .now) _
     (q .before .before .before .before .if1 .left) (q .before .before .before .load-u32 .ensures .value) (q .before .before .if2 .left) _
     (q .before .tree-size .ensures) (q .if3 .taken))
-    (c .before .before .print-refusal3 .ensures)
+    (at-print-refusal3 .print-refusal3 .ensures)
 
 load-u32-requires-2 : tie.Need-load-u32-requires-2
 load-u32-requires-2 c κs = search needs
@@ -79,14 +89,16 @@ same-length-4 c = search needs
 
 returns-4 : tie.Need-returns-4
 returns-4 c =
-    let q = c .before .before .before .before in
+    let at-print-refusal4 = c .before .before in
+    let back4 = at-print-refusal4 .before .before in
+    let q = back4 in
     let s = q .before .before .before in
     wrote-as _ _ _ _ _
     (text-disorder (s .before .before .before .before .before .before .before .before .before .before .before .before .before .args .input .now) _
     (s .before .before .before .before .if1 .left) (s .before .before .before .load-u32 .ensures .value) (s .before .before .if2 .left) _
     (s .before .tree-size .ensures) (s .if3 .left) _ _ (q .before .before .load-u322 .ensures .value) (q .before .load-u323 .ensures .value)
     (omega (arith, q .if4 .taken)))
-    (c .before .before .print-refusal4 .ensures)
+    (at-print-refusal4 .print-refusal4 .ensures)
 
 read-words-requires : tie.Need-read-words-requires
 read-words-requires c κs = search needs
@@ -114,7 +126,14 @@ slice-aggregate-is c = sym (length-take-le _ _ (omega arith))
 
 tree-text-requires : tie.Need-tree-text-requires
 tree-text-requires c κs =
-    let q = c .before .before .before .before .before .before .before .before .before .before .before .before .before .before .before .before .before .before .before .before in
+    let back3 = c .before .before .before in
+    let back6 = back3 .before .before .before in
+    let back9 = back6 .before .before .before in
+    let back12 = back9 .before .before .before in
+    let back15 = back12 .before .before .before in
+    let back18 = back15 .before .before .before in
+    let back20 = back18 .before .before in
+    let q = back20 in
     (take-most _ _ _ (q .if2 .left), q .before .before .before .before .before .before .before .before .before .before .before .pre .1)
 
 same-length-5 : tie.Need-same-length-5
@@ -140,15 +159,26 @@ same-length-11 c = search needs
 
 returns-5 : tie.Need-returns-5
 returns-5 c =
-    let q = c .before .before .before .before .before .before .before .before .before .before .before .before .before .before .before .before .before .before .before .before .before .before .before .before .before .before in
+    let back3 = c .before .before .before in
+    let back6 = back3 .before .before .before in
+    let back9 = back6 .before .before .before in
+    let at-tree-text = back9 .before in
+    let back13 = at-tree-text .before .before .before in
+    let back16 = back13 .before .before .before in
+    let back19 = back16 .before .before .before in
+    let at-read-words2 = back19 .before in
+    let back23 = at-read-words2 .before .before .before in
+    let at-read-words = back23 .before in
+    let back26 = at-read-words .before .before in
+    let q = back26 in
     let s = q .before .before .before in
     wrote-as _ _ _ _ _
     (text-tree (s .before .before .before .before .before .before .before .before .before .before .before .before .before .args .input .now) _
     (s .before .before .before .before .if1 .left) (s .before .before .before .load-u32 .ensures .value) (s .before .before .if2 .left) _
     (s .before .tree-size .ensures) (s .if3 .left) _ _ (q .before .before .load-u322 .ensures .value) (q .before .load-u323 .ensures .value)
     (omega (arith, q .if4 .left)) _ _ _ _
-    (c .before .before .before .before .before .before .before .before .before .before .before .before .before .before .before .before .before .before .before .before .before .before .before .before .read-words .ensures) (c .before .before .before .before .before .before .before .before .before .before .before .before .before .before .before .before .before .before .before .before .read-words2 .ensures))
-    (c .before .before .before .before .before .before .before .before .before .before .tree-text .ensures)
+    (at-read-words .read-words .ensures) (at-read-words2 .read-words2 .ensures))
+    (at-tree-text .tree-text .ensures)
 
 pub show-text-spec : {M : Type 1} → statement M
 show-text-spec =

@@ -33,11 +33,19 @@ show-text-requires : tie.Need-show-text-requires
 show-text-requires c κs = search needs
 
 array-share-prefix-text : tie.Need-array-share-prefix-text
-array-share-prefix-text c = wrote-fits _ _ _ _ (c .before .before .before .before .before .before .before .show-text .ensures)
+array-share-prefix-text c =
+    let back3 = c .before .before .before in
+    let back6 = back3 .before .before .before in
+    let at-show-text = back6 .before in
+    wrote-fits _ _ _ _ (at-show-text .show-text .ensures)
 
 slice-aggregate-write-all : tie.Need-slice-aggregate-write-all
-slice-aggregate-write-all c = sym (length-take-le _ _
-    (wrote-fits _ _ _ _ (c .before .before .before .before .before .before .before .before .show-text .ensures)))
+slice-aggregate-write-all c =
+    let back3 = c .before .before .before in
+    let back6 = back3 .before .before .before in
+    let at-show-text = back6 .before .before in
+    sym (length-take-le _ _
+    (wrote-fits _ _ _ _ (at-show-text .show-text .ensures)))
 
 write-all-requires : tie.Need-write-all-requires
 write-all-requires c κs = search needs

@@ -61,8 +61,12 @@ put-decimal-returns : (t : ℕ) → put-decimal-lts.Need-returns (
   put-decimal-below t,
   put-decimal.Post,
 ) (put-decimal-at t) put-decimal.Post
-put-decimal-returns t c = rw (decimal-one (c .before .before .before .before .before .before .args .n) (omega arith))
-    (c .before .before .put-byte .ensures)
+put-decimal-returns t c =
+    let at-put-byte = c .before .before in
+    let back5 = at-put-byte .before .before .before in
+    let at-start = back5 .before in
+    rw (decimal-one (at-start .args .n) (omega arith))
+    (at-put-byte .put-byte .ensures)
 
 put-decimal-put-decimal-requires : (t : ℕ) → put-decimal-lts.Need-put-decimal-requires (
   put-byte-reads.Asked,
@@ -96,7 +100,10 @@ put-decimal-put-byte-requires-2 : (t : ℕ) → put-decimal-lts.Need-put-byte-re
   put-decimal.Post,
 ) (put-decimal-at t) put-decimal.Post
 put-decimal-put-byte-requires-2 t c κs =
-    let h = length-more (c .before .before .before .before .before .before .before .args .n) (omega arith) in omega arith
+    let back3 = c .before .before .before in
+    let back6 = back3 .before .before .before in
+    let at-start = back6 .before in
+    let h = length-more (at-start .args .n) (omega arith) in omega arith
 
 put-decimal-same-length-2 : (t : ℕ) → put-decimal-lts.Need-same-length-2 (
   put-byte-reads.Asked,
@@ -113,10 +120,15 @@ put-decimal-returns-2 : (t : ℕ) → put-decimal-lts.Need-returns-2 (
   put-decimal.Post,
 ) (put-decimal-at t) put-decimal.Post
 put-decimal-returns-2 t c =
-    let n = c .before .before .before .before .before .before .before .before .before .before .args .n in
+    let at-put-byte2 = c .before .before in
+    let back5 = at-put-byte2 .before .before .before in
+    let at-put-decimal = back5 .before in
+    let back9 = at-put-decimal .before .before .before in
+    let at-start = back9 .before in
+    let n = at-start .args .n in
     let h = length-more n (omega arith) in
     rw (decimal-more n (omega arith))
-    (put-next (omega arith) (c .before .before .before .before .before .before .put-decimal .ensures) (c .before .before .put-byte2 .ensures))
+    (put-next (omega arith) (at-put-decimal .put-decimal .ensures) (at-put-byte2 .put-byte2 .ensures))
 
 pub +put-decimal-spec : {M : Type 1} → statement M
 +put-decimal-spec = close μ-put-decimal λ t. put-decimal-lts.spec (

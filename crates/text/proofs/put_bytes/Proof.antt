@@ -20,8 +20,10 @@ shared-slice-read-put-byte c = omega arith
 
 put-byte-requires : tie.Need-put-byte-requires Inv-loop μ-loop
 put-byte-requires c κs =
-    let i = c .before .before .before .loop in
-    let b = c .before .before .before .before .before .before .args .bytes .now in
+    let at-loop = c .before .before .before in
+    let at-start = at-loop .before .before .before in
+    let i = at-loop .loop in
+    let b = at-start .args .bytes .now in
     let h = rest-room (i .inv .1) (getD b (i .i) 0 ∷ []) (drop (i .i + 1) b) (drop-next b (i .i) (omega arith)) in
     omega arith
 
@@ -33,11 +35,15 @@ loop-less c = omega arith
 
 loop-again : tie.Need-loop-again Inv-loop μ-loop
 loop-again c =
-    let i = c .before .before .before .before .before .before .loop in
-    let b = c .before .before .before .before .before .before .before .before .before .args .bytes .now in (
+    let at-put-byte = c .before .before in
+    let back5 = at-put-byte .before .before .before in
+    let at-loop = back5 .before in
+    let at-start = at-loop .before .before .before in
+    let i = at-loop .loop in
+    let b = at-start .args .bytes .now in (
       omega arith,
       rest-put (i .inv .1) (getD b (i .i) 0 ∷ []) (drop (i .i + 1) b) (drop-next b (i .i) (omega arith))
-          (c .before .before .put-byte .ensures),
+          (at-put-byte .put-byte .ensures),
     )
 
 same-length : tie.Need-same-length Inv-loop μ-loop
@@ -45,8 +51,10 @@ same-length c = omega arith
 
 returns : tie.Need-returns Inv-loop μ-loop
 returns c =
+    let back3 = c .before .before .before in
+    let at-start = back3 .before in
     let i = c .before .loop in
-    let h : length (c .before .before .before .before .args .bytes .now) ≤ i .i = omega arith in
+    let h : length (at-start .args .bytes .now) ≤ i .i = omega arith in
     rest-none (i .inv .1) (drop-of-length-le _ h)
 
 pub put-bytes-spec : {M : Type 1} → statement M

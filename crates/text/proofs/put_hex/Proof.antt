@@ -23,8 +23,10 @@ shared-slice-read-put-hex-byte c = omega arith
 
 put-hex-byte-requires : tie.Need-put-hex-byte-requires Inv-loop μ-loop
 put-hex-byte-requires c κs =
-    let i = c .before .before .before .loop in
-    let b = c .before .before .before .before .before .before .args .bytes .now in
+    let at-loop = c .before .before .before in
+    let at-start = at-loop .before .before .before in
+    let i = at-loop .loop in
+    let b = at-start .args .bytes .now in
     let h = rest-room (i .inv .1) (hex (getD b (i .i) 0 ∷ [])) (hex (drop (i .i + 1) b)) (hex-next b (i .i) (omega arith)) in
     omega (arith, length-hex (getD b (i .i) 0 ∷ []))
 
@@ -36,11 +38,15 @@ loop-less c = omega arith
 
 loop-again : tie.Need-loop-again Inv-loop μ-loop
 loop-again c =
-    let i = c .before .before .before .before .before .before .loop in
-    let b = c .before .before .before .before .before .before .before .before .before .args .bytes .now in (
+    let at-put-hex-byte = c .before .before in
+    let back5 = at-put-hex-byte .before .before .before in
+    let at-loop = back5 .before in
+    let at-start = at-loop .before .before .before in
+    let i = at-loop .loop in
+    let b = at-start .args .bytes .now in (
       omega arith,
       rest-put (i .inv .1) (hex (getD b (i .i) 0 ∷ [])) (hex (drop (i .i + 1) b)) (hex-next b (i .i) (omega arith))
-          (c .before .before .put-hex-byte .ensures),
+          (at-put-hex-byte .put-hex-byte .ensures),
     )
 
 same-length : tie.Need-same-length Inv-loop μ-loop
@@ -49,8 +55,10 @@ same-length c = omega arith
 returns : tie.Need-returns Inv-loop μ-loop
 unfolding hex
 returns c =
+    let back3 = c .before .before .before in
+    let at-start = back3 .before in
     let i = c .before .loop in
-    let h : length (c .before .before .before .before .args .bytes .now) ≤ i .i = omega arith in
+    let h : length (at-start .args .bytes .now) ≤ i .i = omega arith in
     rest-none (i .inv .1) (ap hex (drop-of-length-le _ h))
 
 pub put-hex-spec : {M : Type 1} → statement M

@@ -23,8 +23,11 @@ same-length c = search needs
 returns : tie.Need-returns
 unfolding hex
 returns c =
-    let a = c .before .before .before .before .before .before .before in
-    rw (← c .before .before .before .hex-digit2 .ensures, ← a .before .hex-digit .ensures)
+    let at-hex-digit2 = c .before .before .before in
+    let back6 = at-hex-digit2 .before .before .before in
+    let back7 = back6 .before in
+    let a = back7 in
+    rw (← at-hex-digit2 .hex-digit2 .ensures, ← a .before .hex-digit .ensures)
     (put-next (omega arith) (a .put-byte .ensures) (c .before .before .put-byte2 .ensures))
 
 pub put-hex-byte-spec : {M : Type 1} → statement M

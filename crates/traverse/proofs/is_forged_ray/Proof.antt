@@ -15,16 +15,23 @@ own-inverse-requires : tie.Need-own-inverse-requires
 own-inverse-requires c κs = search needs
 
 returns-2 : tie.Need-returns-2
-returns-2 c = let a = c .before .before .before .before .args in forged-inverse (a .ray) (a .octant)
-    (sym (c .before .before .before .accepted .ensures) ∙ not-false _ (c .before .before .if1 .left))
+returns-2 c =
+    let at-accepted = c .before .before .before in
+    let at-start = at-accepted .before in
+    let a = at-start .args in forged-inverse (a .ray) (a .octant)
+    (sym (at-accepted .accepted .ensures) ∙ not-false _ (c .before .before .if1 .left))
     (sym (c .before .own-inverse .ensures) ∙ not-true _ (c .if2 .taken))
 
 octant-requires : tie.Need-octant-requires
 octant-requires c κs = search needs
 
 returns-3 : tie.Need-returns-3
-returns-3 c = let a = c .before .before .before .before .before .args in forged-octant (a .ray) (a .octant)
-    (sym (c .before .before .before .before .accepted .ensures) ∙ not-false _ (c .before .before .before .if1 .left))
+returns-3 c =
+    let at-if1 = c .before .before .before in
+    let at-accepted = at-if1 .before in
+    let at-start = at-accepted .before in
+    let a = at-start .args in forged-octant (a .ray) (a .octant)
+    (sym (at-accepted .accepted .ensures) ∙ not-false _ (at-if1 .if1 .left))
     (sym (c .before .before .own-inverse .ensures) ∙ not-false _ (c .before .if2 .left)) (c .octant .result) (c .octant .ensures)
 
 pub is-forged-ray-spec : {M : Type 1} → statement M

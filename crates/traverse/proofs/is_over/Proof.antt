@@ -15,24 +15,33 @@ returns c =
 
 returns-2 : tie.Need-returns-2
 returns-2 c =
-    let a = c .before .before .before .before .args in
-    over-positions (a .m) (groupOf (a .walk .positions)) (groupOf (a .walk .current)) (a .walk .depth) (a .octant) (c .before .before .if1 .left)
+    let at-if1 = c .before .before in
+    let at-start = at-if1 .before .before in
+    let a = at-start .args in
+    over-positions (a .m) (groupOf (a .walk .positions)) (groupOf (a .walk .current)) (a .walk .depth) (a .octant) (at-if1 .if1 .left)
     (c .if2 .taken)
 
 returns-3 : tie.Need-returns-3
 returns-3 c =
-    let a = c .before .before .before .before .before .before .args in
+    let at-if2 = c .before .before in
+    let at-if1 = at-if2 .before .before in
+    let at-start = at-if1 .before .before in
+    let a = at-start .args in
     over-empty (a .m) (groupOf (a .walk .positions)) (groupOf (a .walk .current)) (a .walk .depth) (a .octant)
-    (c .before .before .before .before .if1 .left) (c .before .before .if2 .left) (c .if3 .taken)
+    (at-if1 .if1 .left) (at-if2 .if2 .left) (c .if3 .taken)
 
 first-child-requires : tie.Need-first-child-requires
 first-child-requires c κs = search needs
 
 returns-4 : tie.Need-returns-4
 returns-4 c =
-    let a = c .before .before .before .before .before .before .before .before .args in
+    let at-if3 = c .before .before in
+    let at-if2 = at-if3 .before .before in
+    let at-if1 = at-if2 .before .before in
+    let at-start = at-if1 .before .before in
+    let a = at-start .args in
     over-child (a .m) (groupOf (a .walk .positions)) (groupOf (a .walk .current)) (a .walk .depth) (a .octant)
-    (c .before .before .before .before .before .before .if1 .left) (c .before .before .before .before .if2 .left) (c .before .before .if3 .left)
+    (at-if1 .if1 .left) (at-if2 .if2 .left) (at-if3 .if3 .left)
     (λ z. c .if4 .taken (c .before .first-child .ensures ∙ z))
 
 rest-of-requires : tie.Need-rest-of-requires
@@ -40,24 +49,37 @@ rest-of-requires c κs = search needs
 
 returns-5 : tie.Need-returns-5
 returns-5 c =
-    let a = c .before .before .before .before .before .before .before .before .before .before .before .args in
+    let at-if4 = c .before .before .before in
+    let at-first-child = at-if4 .before in
+    let at-if3 = at-first-child .before in
+    let at-if2 = at-if3 .before .before in
+    let at-if1 = at-if2 .before .before in
+    let at-start = at-if1 .before .before in
+    let a = at-start .args in
     let r : restOf (groupOf (a .walk .current)) .bits
     ≡ c .before .before .rest-of .result .bits = sym (ap (λ (g : Group). g .bits) (c .before .before .rest-of .ensures)) in
     over-rest (a .m) (groupOf (a .walk .positions)) (groupOf (a .walk .current)) (a .walk .depth) (a .octant)
-    (c .before .before .before .before .before .before .before .before .before .if1 .left)
-    (c .before .before .before .before .before .before .before .if2 .left) (c .before .before .before .before .before .if3 .left)
-    (sym (c .before .before .before .before .first-child .ensures) ∙ c .before .before .before .if4 .left) (omega (arith, r, c .if5 .taken))
+    (at-if1 .if1 .left)
+    (at-if2 .if2 .left) (at-if3 .if3 .left)
+    (sym (at-first-child .first-child .ensures) ∙ at-if4 .if4 .left) (omega (arith, r, c .if5 .taken))
 
 returns-6 : tie.Need-returns-6
 returns-6 c =
-    let a = c .before .before .before .before .before .before .before .before .before .before .before .before .args in
+    let at-rest-of = c .before .before .before in
+    let at-if4 = at-rest-of .before in
+    let at-first-child = at-if4 .before in
+    let at-if3 = at-first-child .before in
+    let at-if2 = at-if3 .before .before in
+    let at-if1 = at-if2 .before .before in
+    let at-start = at-if1 .before .before in
+    let a = at-start .args in
     let r : restOf (groupOf (a .walk .current)) .bits
-    ≡ c .before .before .before .rest-of .result .bits = sym (ap (λ (g : Group). g .bits) (c .before .before .before .rest-of .ensures)) in
+    ≡ at-rest-of .rest-of .result .bits = sym (ap (λ (g : Group). g .bits) (at-rest-of .rest-of .ensures)) in
     over-depth (a .m) (groupOf (a .walk .positions)) (groupOf (a .walk .current)) (a .walk .depth) (a .octant)
-    (c .before .before .before .before .before .before .before .before .before .before .if1 .left)
-    (c .before .before .before .before .before .before .before .before .if2 .left)
-    (c .before .before .before .before .before .before .if3 .left)
-    (sym (c .before .before .before .before .before .first-child .ensures) ∙ c .before .before .before .before .if4 .left)
+    (at-if1 .if1 .left)
+    (at-if2 .if2 .left)
+    (at-if3 .if3 .left)
+    (sym (at-first-child .first-child .ensures) ∙ at-if4 .if4 .left)
     (omega (arith, r, c .before .if5 .left))
 
 pub is-over-spec : {M : Type 1} → statement M

@@ -18,32 +18,49 @@ same-requires : tie.Need-same-requires
 same-requires c κs = search needs
 
 returns : tie.Need-returns
-returns c = inverse-x (c .before .before .before .before .before .args .ray) (c .before .before .before .before .safe-inverse .result)
-    (c .before .before .before .safe-inverse2 .result) (c .before .before .safe-inverse3 .result)
-    (c .before .before .before .before .safe-inverse .ensures) (c .before .before .before .safe-inverse2 .ensures)
+returns c =
+    let at-safe-inverse2 = c .before .before .before in
+    let at-safe-inverse = at-safe-inverse2 .before in
+    let at-start = at-safe-inverse .before in
+    inverse-x (at-start .args .ray) (at-safe-inverse .safe-inverse .result)
+    (at-safe-inverse2 .safe-inverse2 .result) (c .before .before .safe-inverse3 .result)
+    (at-safe-inverse .safe-inverse .ensures) (at-safe-inverse2 .safe-inverse2 .ensures)
     (c .before .before .safe-inverse3 .ensures) (sym (c .before .same .ensures) ∙ not-true _ (c .if1 .taken))
 
 same-requires-2 : tie.Need-same-requires-2
 same-requires-2 c κs = search needs
 
 returns-2 : tie.Need-returns-2
-returns-2 c = inverse-y (c .before .before .before .before .before .before .before .args .ray)
-    (c .before .before .before .before .before .before .safe-inverse .result) (c .before .before .before .before .before .safe-inverse2 .result)
-    (c .before .before .before .before .safe-inverse3 .result) (c .before .before .before .before .before .before .safe-inverse .ensures)
-    (c .before .before .before .before .before .safe-inverse2 .ensures) (c .before .before .before .before .safe-inverse3 .ensures)
-    (sym (c .before .before .before .same .ensures) ∙ not-false _ (c .before .before .if1 .left))
+returns-2 c =
+    let at-same = c .before .before .before in
+    let at-safe-inverse3 = at-same .before in
+    let at-safe-inverse2 = at-safe-inverse3 .before in
+    let at-safe-inverse = at-safe-inverse2 .before in
+    let at-start = at-safe-inverse .before in
+    inverse-y (at-start .args .ray)
+    (at-safe-inverse .safe-inverse .result) (at-safe-inverse2 .safe-inverse2 .result)
+    (at-safe-inverse3 .safe-inverse3 .result) (at-safe-inverse .safe-inverse .ensures)
+    (at-safe-inverse2 .safe-inverse2 .ensures) (at-safe-inverse3 .safe-inverse3 .ensures)
+    (sym (at-same .same .ensures) ∙ not-false _ (c .before .before .if1 .left))
     (sym (c .before .same2 .ensures) ∙ not-true _ (c .if2 .taken))
 
 same-requires-3 : tie.Need-same-requires-3
 same-requires-3 c κs = search needs
 
 returns-3 : tie.Need-returns-3
-returns-3 c = c .same3 .ensures ∙ inverse-z (c .before .before .before .before .before .before .before .before .args .ray)
-    (c .before .before .before .before .before .before .before .safe-inverse .result)
-    (c .before .before .before .before .before .before .safe-inverse2 .result) (c .before .before .before .before .before .safe-inverse3 .result)
-    (c .before .before .before .before .before .before .before .safe-inverse .ensures)
-    (c .before .before .before .before .before .before .safe-inverse2 .ensures) (c .before .before .before .before .before .safe-inverse3 .ensures)
-    (sym (c .before .before .before .before .same .ensures) ∙ not-false _ (c .before .before .before .if1 .left))
+returns-3 c =
+    let at-if1 = c .before .before .before in
+    let at-same = at-if1 .before in
+    let at-safe-inverse3 = at-same .before in
+    let at-safe-inverse2 = at-safe-inverse3 .before in
+    let at-safe-inverse = at-safe-inverse2 .before in
+    let at-start = at-safe-inverse .before in
+    c .same3 .ensures ∙ inverse-z (at-start .args .ray)
+    (at-safe-inverse .safe-inverse .result)
+    (at-safe-inverse2 .safe-inverse2 .result) (at-safe-inverse3 .safe-inverse3 .result)
+    (at-safe-inverse .safe-inverse .ensures)
+    (at-safe-inverse2 .safe-inverse2 .ensures) (at-safe-inverse3 .safe-inverse3 .ensures)
+    (sym (at-same .same .ensures) ∙ not-false _ (at-if1 .if1 .left))
     (sym (c .before .before .same2 .ensures) ∙ not-false _ (c .before .if2 .left))
 
 pub own-inverse-spec : {M : Type 1} → statement M

@@ -22,10 +22,13 @@ cast-t12 c = search needs
 
 returns-2 : tie.Need-returns-2
 unfolding stepAnswer
-returns-2 c = λ ray octant stack.
-    let a = c .before .before .before .before .before .args in
-    report-made (a .n) (walkerOf ray octant (a .walk) stack) (c .before .before .before .first-position .result)
-    (groupOf (c .before .rest-of .result)) (c .before .before .before .first-position .ensures) (c .before .rest-of .ensures)
+returns-2 c =
+    let at-first-position = c .before .before .before in
+    let at-start = at-first-position .before .before in
+    λ ray octant stack.
+    let a = at-start .args in
+    report-made (a .n) (walkerOf ray octant (a .walk) stack) (at-first-position .first-position .result)
+    (groupOf (c .before .rest-of .result)) (at-first-position .first-position .ensures) (c .before .rest-of .ensures)
     (c .before .before .if1 .left)
 
 pub report-spec : {M : Type 1} → statement M

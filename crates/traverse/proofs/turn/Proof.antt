@@ -17,7 +17,9 @@ report-requires c κs = let s = c .before .before .before in (c .if1 .taken, s .
 
 returns : tie.Need-returns
 returns c =
-    let a = c .before .before .before .before .args in
+    let back3 = c .before .before .before in
+    let at-start = back3 .before in
+    let a = at-start .args in
     c .report .ensures (a .ray) (a .octant) (a .stack .now)
     ∙ report-due (a .n) (walkerOf (a .ray) (a .octant) (a .walk) (a .stack .now)) (nodeCount (a .«record» .now))
     (nodeWordsAt (a .«record» .now) byBoxes) refl refl
@@ -42,7 +44,9 @@ seek-requires c κs =
 
 returns-2 : tie.Need-returns-2
 returns-2 c =
-    let i = c .before .before .before .before in
+    let back3 = c .before .before .before in
+    let back4 = back3 .before in
+    let i = back4 in
     let a = i .before .before .before .args in
     let m = nodeCount (a .«record» .now) in
     let N = nodeWordsAt (a .«record» .now) byBoxes in

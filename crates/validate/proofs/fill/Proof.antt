@@ -34,39 +34,54 @@ returns c = filling-blocked _ _ _ _ _ _ (c .before .before .before .loop .inv) _
     (λ e. omega (arith, c .if1 .taken))
 
 add-work : tie.Need-add-work Inv-loop μ-loop
-add-work c = omega (
-  arith,
-  filling-room _ _ _ _ _ _ (c .before .before .before .loop .inv) (c .before .before .before .before .pre)
-      (c .before .before .loop-test .taken),
-)
+add-work c =
+    let at-loop = c .before .before .before in
+    let at-start = at-loop .before in
+    omega (
+      arith,
+      filling-room _ _ _ _ _ _ (at-loop .loop .inv) (at-start .pre)
+          (c .before .before .loop-test .taken),
+    )
 
 mul-work : tie.Need-mul-work Inv-loop μ-loop
-mul-work c = omega (
-  arith,
-  filling-room _ _ _ _ _ _ (c .before .before .before .loop .inv) (c .before .before .before .before .pre)
-      (c .before .before .loop-test .taken),
-)
+mul-work c =
+    let at-loop = c .before .before .before in
+    let at-start = at-loop .before in
+    omega (
+      arith,
+      filling-room _ _ _ _ _ _ (at-loop .loop .inv) (at-start .pre)
+          (c .before .before .loop-test .taken),
+    )
 
 slice-write-work : tie.Need-slice-write-work Inv-loop μ-loop
-slice-write-work c = omega (
-  arith,
-  filling-room _ _ _ _ _ _ (c .before .before .before .loop .inv) (c .before .before .before .before .pre)
-      (c .before .before .loop-test .taken),
-)
+slice-write-work c =
+    let at-loop = c .before .before .before in
+    let at-start = at-loop .before in
+    omega (
+      arith,
+      filling-room _ _ _ _ _ _ (at-loop .loop .inv) (at-start .pre)
+          (c .before .before .loop-test .taken),
+    )
 
 add-j : tie.Need-add-j Inv-loop μ-loop
-add-j c = omega (
-  arith,
-  filling-room _ _ _ _ _ _ (c .before .before .before .loop .inv) (c .before .before .before .before .pre)
-      (c .before .before .loop-test .taken),
-)
+add-j c =
+    let at-loop = c .before .before .before in
+    let at-start = at-loop .before in
+    omega (
+      arith,
+      filling-room _ _ _ _ _ _ (at-loop .loop .inv) (at-start .pre)
+          (c .before .before .loop-test .taken),
+    )
 
 loop-less : tie.Need-loop-less Inv-loop μ-loop
 loop-less c = omega arith
 
 loop-again : tie.Need-loop-again Inv-loop μ-loop
-loop-again c = filling-next _ _ _ _ _ _ (c .before .before .before .loop .inv) (c .before .before .loop-test .taken)
-    (filling-room _ _ _ _ _ _ (c .before .before .before .loop .inv) (c .before .before .before .before .pre) (c .before .before .loop-test .taken))
+loop-again c =
+    let at-loop = c .before .before .before in
+    let at-start = at-loop .before in
+    filling-next _ _ _ _ _ _ (at-loop .loop .inv) (c .before .before .loop-test .taken)
+    (filling-room _ _ _ _ _ _ (at-loop .loop .inv) (at-start .pre) (c .before .before .loop-test .taken))
     (c .if1 .left)
 
 same-length-2 : tie.Need-same-length-2 Inv-loop μ-loop

@@ -34,18 +34,29 @@ add-fill : tie.Need-add-fill
 add-fill c = search needs
 
 fill-requires : tie.Need-fill-requires
-fill-requires c κs = children-room _ _ _ _ _ (c .before .before .before .before .before .before .before .pre .0) _ _
-    (c .before .before .before .child-base-idx .ensures)
+fill-requires c κs =
+    let at-child-base-idx = c .before .before .before in
+    let back6 = at-child-base-idx .before .before .before in
+    let at-start = back6 .before in
+    children-room _ _ _ _ _ (at-start .pre .0) _ _
+    (at-child-base-idx .child-base-idx .ensures)
     (c .before .child-count .ensures .0 ∙ ap (λ (x : ℕ). onesBelow 8 x) (c .before .before .imask .ensures))
 
 same-length : tie.Need-same-length
 same-length c = search needs
 
 returns : tie.Need-returns
-returns c = children-taken _ _ _ _ _ (c .before .before .before .before .before .before .before .before .before .before .before .pre .0) _ _
-    (c .before .before .before .before .before .before .before .child-base-idx .ensures)
-    (c .before .before .before .before .before .child-count .ensures .0 ∙ ap (λ (x : ℕ). onesBelow 8 x)
-    (c .before .before .before .before .before .before .imask .ensures)) _ _ _ _ (c .before .before .before .fill .ensures) (c .if1 .taken)
+returns c =
+    let at-fill = c .before .before .before in
+    let at-child-count = at-fill .before .before in
+    let at-imask = at-child-count .before in
+    let at-child-base-idx = at-imask .before in
+    let back10 = at-child-base-idx .before .before .before in
+    let at-start = back10 .before in
+    children-taken _ _ _ _ _ (at-start .pre .0) _ _
+    (at-child-base-idx .child-base-idx .ensures)
+    (at-child-count .child-count .ensures .0 ∙ ap (λ (x : ℕ). onesBelow 8 x)
+    (at-imask .imask .ensures)) _ _ _ _ (at-fill .fill .ensures) (c .if1 .taken)
 
 mark-positions-requires : tie.Need-mark-positions-requires
 mark-positions-requires c κs = search needs
@@ -54,13 +65,22 @@ same-length-2 : tie.Need-same-length-2
 same-length-2 c = search needs
 
 returns-2 : tie.Need-returns-2
-returns-2 c = node-ends _ _ _ _ _
-    (c .before .before .before .before .before .before .before .before .before .before .before .before .before .before .before .pre .0) _ _
-    (c .before .before .before .before .before .before .before .before .before .before .before .child-base-idx .ensures)
-    (c .before .before .before .before .before .before .before .before .before .child-count .ensures .0 ∙ ap (λ (x : ℕ). onesBelow 8 x)
-    (c .before .before .before .before .before .before .before .before .before .before .imask .ensures)) _ _ _ _
-    (c .before .before .before .before .before .before .before .fill .ensures) _ (c .before .before .before .before .if1 .left)
-    (c .before .before .mark-positions .ensures)
+returns-2 c =
+    let at-mark-positions = c .before .before in
+    let at-if1 = at-mark-positions .before .before in
+    let at-fill = at-if1 .before .before .before in
+    let at-child-count = at-fill .before .before in
+    let at-imask = at-child-count .before in
+    let at-child-base-idx = at-imask .before in
+    let back14 = at-child-base-idx .before .before .before in
+    let at-start = back14 .before in
+    node-ends _ _ _ _ _
+    (at-start .pre .0) _ _
+    (at-child-base-idx .child-base-idx .ensures)
+    (at-child-count .child-count .ensures .0 ∙ ap (λ (x : ℕ). onesBelow 8 x)
+    (at-imask .imask .ensures)) _ _ _ _
+    (at-fill .fill .ensures) _ (at-if1 .if1 .left)
+    (at-mark-positions .mark-positions .ensures)
 
 pub mark-node-spec : {M : Type 1} → statement M
 mark-node-spec =

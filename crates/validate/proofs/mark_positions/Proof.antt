@@ -15,18 +15,28 @@ loop-holds : tie.Need-loop-holds Inv-loop μ-loop
 loop-holds c = marking-none _ _ _ _
 
 mark-slot-requires : tie.Need-mark-slot-requires Inv-loop μ-loop
-mark-slot-requires c κs = (
-  still-ruled _ _ _ _ _ (c .before .before .before .before .before .pre) _ (c .before .before .loop .inv .long),
-  c .before .loop-test .taken,
-)
+mark-slot-requires c κs =
+    let at-loop = c .before .before in
+    let at-start = at-loop .before .before .before in (
+      still-ruled _ _ _ _ _ (at-start .pre) _ (at-loop .loop .inv .long),
+      c .before .loop-test .taken,
+    )
 
 same-length : tie.Need-same-length Inv-loop μ-loop
-same-length c = c .before .before .before .mark-slot .kept .1 .1 .1 .1 .1 .0 ∙ c .before .before .before .before .before .before .loop .inv .long
+same-length c =
+    let at-mark-slot = c .before .before .before in
+    let at-loop = at-mark-slot .before .before .before in
+    at-mark-slot .mark-slot .kept .1 .1 .1 .1 .1 .0 ∙ at-loop .loop .inv .long
 
 returns : tie.Need-returns Inv-loop μ-loop
-returns c = marking-blocked _ _ _ _ _ (c .before .before .before .before .before .before .before .before .before .pre) _ _ _ _ _
-    (c .before .before .before .before .before .loop-test .taken) (c .before .before .before .before .before .before .loop .inv)
-    (c .before .before .before .mark-slot .ensures) _ (c .if1 .taken)
+returns c =
+    let at-mark-slot = c .before .before .before in
+    let at-loop-test = at-mark-slot .before .before in
+    let at-loop = at-loop-test .before in
+    let at-start = at-loop .before .before .before in
+    marking-blocked _ _ _ _ _ (at-start .pre) _ _ _ _ _
+    (at-loop-test .loop-test .taken) (at-loop .loop .inv)
+    (at-mark-slot .mark-slot .ensures) _ (c .if1 .taken)
 
 add-slot : tie.Need-add-slot Inv-loop μ-loop
 add-slot c = search needs
@@ -36,9 +46,13 @@ loop-less c = search needs
 
 loop-again : tie.Need-loop-again Inv-loop μ-loop
 loop-again c =
-    marking-next _ _ _ _ _ (c .before .before .before .before .before .before .before .before .before .pre) _ _ _ _ _
-    (c .before .before .before .before .before .loop-test .taken) (c .before .before .before .before .before .before .loop .inv)
-    (c .before .before .before .mark-slot .ensures) (c .before .before .before .mark-slot .kept .1 .1 .1 .1 .1 .0) (c .if1 .left)
+    let at-mark-slot = c .before .before .before in
+    let at-loop-test = at-mark-slot .before .before in
+    let at-loop = at-loop-test .before in
+    let at-start = at-loop .before .before .before in
+    marking-next _ _ _ _ _ (at-start .pre) _ _ _ _ _
+    (at-loop-test .loop-test .taken) (at-loop .loop .inv)
+    (at-mark-slot .mark-slot .ensures) (at-mark-slot .mark-slot .kept .1 .1 .1 .1 .1 .0) (c .if1 .left)
 
 same-length-2 : tie.Need-same-length-2 Inv-loop μ-loop
 same-length-2 c = c .before .loop .inv .long

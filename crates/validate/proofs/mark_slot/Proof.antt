@@ -32,25 +32,36 @@ cast-fill c = search needs
 
 fill-requires : tie.Need-fill-requires
 fill-requires c κs =
-    slot-room _ _ _ _ _ (c .before .before .before .before .before .before .before .before .pre .0) _ _ _
-    (c .before .before .before .before .before .before .before .before .pre .1)
-    (slot-read _ _ _ _ _ _ _ _ _ _ (c .before .before .before .before .before .before .before .before .pre .0 .sized .nodes)
-    (c .before .before .before .before .imask .ensures) (c .before .before .primitive-base-idx .ensures)
-    (c .before .before .before .before .before .child-meta .ensures) (c .before .child-primitives .ensures .0)
-    (c .before .before .before .leaf-count .ensures))
+    let at-leaf-count = c .before .before .before in
+    let at-imask = at-leaf-count .before in
+    let at-child-meta = at-imask .before in
+    let at-start = at-child-meta .before .before .before in
+    slot-room _ _ _ _ _ (at-start .pre .0) _ _ _
+    (at-start .pre .1)
+    (slot-read _ _ _ _ _ _ _ _ _ _ (at-start .pre .0 .sized .nodes)
+    (at-imask .imask .ensures) (c .before .before .primitive-base-idx .ensures)
+    (at-child-meta .child-meta .ensures) (c .before .child-primitives .ensures .0)
+    (at-leaf-count .leaf-count .ensures))
 
 same-length : tie.Need-same-length
 same-length c = search needs
 
 returns : tie.Need-returns
 returns c =
+    let at-fill = c .before .before in
+    let at-child-primitives = at-fill .before .before in
+    let at-primitive-base-idx = at-child-primitives .before in
+    let at-leaf-count = at-primitive-base-idx .before in
+    let at-imask = at-leaf-count .before in
+    let at-child-meta = at-imask .before in
+    let at-start = at-child-meta .before .before .before in
     slot-marked _ _ _ _ _ _ _ _ _
-    (slot-read _ _ _ _ _ _ _ _ _ _ (c .before .before .before .before .before .before .before .before .before .before .before .pre .0 .sized .nodes)
-    (c .before .before .before .before .before .before .before .imask .ensures)
-    (c .before .before .before .before .before .primitive-base-idx .ensures)
-    (c .before .before .before .before .before .before .before .before .child-meta .ensures)
-    (c .before .before .before .before .child-primitives .ensures .0) (c .before .before .before .before .before .before .leaf-count .ensures))
-    (c .before .before .fill .ensures)
+    (slot-read _ _ _ _ _ _ _ _ _ _ (at-start .pre .0 .sized .nodes)
+    (at-imask .imask .ensures)
+    (at-primitive-base-idx .primitive-base-idx .ensures)
+    (at-child-meta .child-meta .ensures)
+    (at-child-primitives .child-primitives .ensures .0) (at-leaf-count .leaf-count .ensures))
+    (at-fill .fill .ensures)
 
 pub mark-slot-spec : {M : Type 1} → statement M
 mark-slot-spec =

@@ -28,7 +28,9 @@ put-walker-requires c κs = search needs
 
 returns-2 : tie.Need-returns-2
 returns-2 c =
-    let l = c .before .before .before .before in
+    let back3 = c .before .before .before in
+    let back4 = back3 .before in
+    let l = back4 in
     let r = l .before in
     let s = r .before in
     let e = s .step .ensures ∙ ap (stepBytes _ _) (s .before .walker-in .ensures) in (

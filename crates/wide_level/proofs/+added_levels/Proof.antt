@@ -39,7 +39,10 @@ abbrev G : ℕ → Type 0
 G t = added-levels-lts.After-greater (given t) (added-levels-at t) added-levels.Post
 
 abbrev start : (t : ℕ) → W t → S t
-start t w = w .before .before .before .before .before
+start t w =
+    let w-back3 = w .before .before .before in
+    let w-back5 = w-back3 .before .before in
+    w-back5
 
 known : (t : ℕ) (s : S t) → Here (length (s .args .words .now)) (length (s .args .decisions .now)) (s .args .v)
 known t s = here (s .pre .1 .0)
@@ -75,7 +78,10 @@ added-levels-shared-slice-read-word : (t : ℕ) → added-levels-lts.Need-shared
 added-levels-shared-slice-read-word t c = let h = known t (c .before .before .before) in let e = c .before .before .before .pre .1 .1 in omega arith
 
 added-levels-returns : (t : ℕ) → added-levels-lts.Need-returns (given t) (added-levels-at t) added-levels.Post
-added-levels-returns t c = let s = c .before .before .before .before in (omega arith, as-leaf (s .pre .1 .0) (s .pre .1 .1) (c .if1 .taken))
+added-levels-returns t c =
+    let back3 = c .before .before .before in
+    let back4 = back3 .before in
+    let s = back4 in (omega arith, as-leaf (s .pre .1 .0) (s .pre .1 .1) (c .if1 .taken))
 
 added-levels-cast-left : (t : ℕ) → added-levels-lts.Need-cast-left (given t) (added-levels-at t) added-levels.Post
 added-levels-cast-left t c = omega arith
@@ -84,7 +90,10 @@ added-levels-cast-right : (t : ℕ) → added-levels-lts.Need-cast-right (given 
 added-levels-cast-right t c = omega arith
 
 added-levels-link-word-requires : (t : ℕ) → added-levels-lts.Need-link-word-requires (given t) (added-levels-at t) added-levels.Post
-added-levels-link-word-requires t c κs = let h = known t (c .before .before .before .before) in omega arith
+added-levels-link-word-requires t c κs =
+    let back3 = c .before .before .before in
+    let back4 = back3 .before in
+    let h = known t (back4) in omega arith
 
 added-levels-cast-first : (t : ℕ) → added-levels-lts.Need-cast-first (given t) (added-levels-at t) added-levels.Post
 added-levels-cast-first t c = omega arith

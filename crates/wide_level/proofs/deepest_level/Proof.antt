@@ -31,7 +31,10 @@ abbrev I : Type 0
 I = lts.Then1 Given reads.Pre reads.Post
 
 abbrev start : I → S
-start i = i .before .before .before .before
+start i =
+    let i-back3 = i .before .before .before in
+    let i-back4 = i-back3 .before in
+    i-back4
 
 below : (i : I) → let x = getD (start i .args .decisions .now) 0 0 in
     Down (start i .args .words .now) (start i .args .decisions .now) 127 0 0 (i .before .link-word .result % 0x4000_0000) (x / 256 % 256) (x % 256)
@@ -73,7 +76,10 @@ returns c =
     ∙ root-joined (start i .pre) (below i) (x .added-levels .ensures .1) (y .added-levels2 .ensures .1) limit ordered k
 
 returns-2 : tie.Need-returns-2
-returns-2 c = λ limit ordered k. root-leaf (c .before .before .before .before .pre) (c .before .link-word .ensures) (c .if1 .left) limit ordered
+returns-2 c =
+    let back3 = c .before .before .before in
+    let at-start = back3 .before in
+    λ limit ordered k. root-leaf (at-start .pre) (c .before .link-word .ensures) (c .if1 .left) limit ordered
 
 pub deepest-level-spec : {M : Type 1} → statement M
 deepest-level-spec =

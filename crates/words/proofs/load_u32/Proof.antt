@@ -34,7 +34,9 @@ join4-requires c κs = search needs
 
 returns : tie.Need-returns
 returns c =
-    let k = c .before .before .before .before .before in
+    let back3 = c .before .before .before in
+    let back5 = back3 .before .before in
+    let k = back5 in
     let a = k .before .args in
     let e = c .join4 .ensures .sum ∙ sym (le4 (a .s .now) (a .at)) in
     record { value = e; bytes = λ i l. ap (field 8 i) e ∙ le-byte 4 (a .s .now) (a .at) (λ j m. k .shared-slice-known .given (a .at + j) .fits) i l }

@@ -73,9 +73,13 @@ add-result c = search needs
 
 returns : tie.Need-returns
 returns c =
-    let k = c .before .before .before .before .before .before .before .before .before .before in
+    let back3 = c .before .before .before in
+    let at-join4 = back3 .before .before in
+    let back8 = at-join4 .before .before .before in
+    let back10 = back8 .before .before in
+    let k = back10 in
     let a = k .before .args in
-    let e = ap₂ (λ (x y : ℕ). x * 0x1_0000_0000 + y) (c .join42 .ensures .sum) (c .before .before .before .before .before .join4 .ensures .sum) ∙
+    let e = ap₂ (λ (x y : ℕ). x * 0x1_0000_0000 + y) (c .join42 .ensures .sum) (at-join4 .join4 .ensures .sum) ∙
     sym (le8 (a .s .now) (a .at)) in
     record { value = e; bytes = λ i l. ap (field 8 i) e ∙ le-byte 8 (a .s .now) (a .at) (λ j m. k .shared-slice-known .given (a .at + j) .fits) i l }
 

@@ -60,7 +60,9 @@ loop-less c = search needs
 
 loop-again : tie.Need-loop-again Inv-loop μ-loop
 loop-again c =
-    let turn = c .before .before .before .before in
+    let back3 = c .before .before .before in
+    let back4 = back3 .before in
+    let turn = back4 in
     (rw (c .held-length .ensures) (held-fits _), search needs, turn .read-full2 .kept .1 .0 ∙ turn .before .before .before .loop .inv .2)
 
 same-length-3 : tie.Need-same-length-3 Inv-loop μ-loop

@@ -34,7 +34,11 @@ abbrev I : ℕ → Type 0
 I t = same-below-lts.Else2 (given t) (same-below-at t) same-below.Post
 
 abbrev start : (t : ℕ) → I t → S t
-start t i = i .before .before .before .before .before .before .before
+start t i =
+    let i-back3 = i .before .before .before in
+    let i-back6 = i-back3 .before .before .before in
+    let i-back7 = i-back6 .before in
+    i-back7
 
 known : (t : ℕ) (s : S t) → Number (s .args .words .now) (s .args .v)
 known t s = number (s .pre .1 .1)
@@ -59,7 +63,10 @@ same-below-returns : (t : ℕ) → same-below-lts.Need-returns (given t) (same-b
 same-below-returns t c = search needs
 
 same-below-link-word-requires : (t : ℕ) → same-below-lts.Need-link-word-requires (given t) (same-below-at t) same-below.Post
-same-below-link-word-requires t c κs = known t (c .before .before .before .before .before) .room
+same-below-link-word-requires t c κs =
+    let back3 = c .before .before .before in
+    let back5 = back3 .before .before in
+    known t (back5) .room
 
 same-below-returns-2 : (t : ℕ) → same-below-lts.Need-returns-2 (given t) (same-below-at t) same-below.Post
 same-below-returns-2 t c = search needs

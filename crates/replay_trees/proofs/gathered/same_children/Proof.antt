@@ -26,7 +26,12 @@ same-numbers-requires : tie.Need-same-numbers-requires
 same-numbers-requires c κs = search needs
 
 node-box-requires : tie.Need-node-box-requires
-node-box-requires c κs = number (c .before .before .before .before .before .before .before .before .before .before .pre .1) .room
+node-box-requires c κs =
+    let back3 = c .before .before .before in
+    let back6 = back3 .before .before .before in
+    let back9 = back6 .before .before .before in
+    let at-start = back9 .before in
+    number (at-start .pre .1) .room
 
 add-same-slots : tie.Need-add-same-slots
 add-same-slots c = search needs

@@ -16,20 +16,26 @@ slice-aggregate-calculate-cost-2 : tie.Need-slice-aggregate-calculate-cost-2
 slice-aggregate-calculate-cost-2 c = search needs
 
 calculate-cost-requires : tie.Need-calculate-cost-requires
-calculate-cost-requires c κs = tables-ready _ _ _ _ (c .before .before .before .before .before .pre .1)
-    (c .before .before .before .before .before .pre .2) (omega arith) (omega arith)
+calculate-cost-requires c κs =
+    let back3 = c .before .before .before in
+    let at-start = back3 .before .before in
+    tables-ready _ _ _ _ (at-start .pre .1)
+    (at-start .pre .2) (omega arith) (omega arith)
 
 slice-aggregate-same-below : tie.Need-slice-aggregate-same-below
 slice-aggregate-same-below c = search needs
 
 same-below-requires : tie.Need-same-below-requires
-same-below-requires c κs = (
-  c .before .before .before .before .before .before .before .before .before .pre .0,
-  tabled _ _ _ _ _
-      (c .before .before .before .before .before .before .before .before .before .pre .1)
-      (c .before .before .before .before .before .before .before .before .before .pre .2) (omega arith)
-      (c .before .before .before .calculate-cost .ensures .1 .0),
-)
+same-below-requires c κs =
+    let at-calculate-cost = c .before .before .before in
+    let back6 = at-calculate-cost .before .before .before in
+    let at-start = back6 .before .before .before in (
+      at-start .pre .0,
+      tabled _ _ _ _ _
+          (at-start .pre .1)
+          (at-start .pre .2) (omega arith)
+          (at-calculate-cost .calculate-cost .ensures .1 .0),
+    )
 
 returns-2 : tie.Need-returns-2
 returns-2 c = search needs

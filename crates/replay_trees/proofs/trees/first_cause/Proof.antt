@@ -24,8 +24,13 @@ all-are-requires : tie.Need-all-are-requires
 all-are-requires c κs = search needs
 
 returns-2 : tie.Need-returns-2
-returns-2 c = λ e. no-cause _ _ (sized _ _ (c .before .before .before .before .before .before .before .sizes .ensures)
-    (c .before .before .before .before .before .before .if1 .left)) (c .before .before .before .before .structure .ensures .0) e
+returns-2 c =
+    let back3 = c .before .before .before in
+    let at-structure = back3 .before in
+    let at-if1 = at-structure .before .before in
+    let at-sizes = at-if1 .before in
+    λ e. no-cause _ _ (sized _ _ (at-sizes .sizes .ensures)
+    (at-if1 .if1 .left)) (at-structure .structure .ensures .0) e
 
 returns-3 : tie.Need-returns-3
 returns-3 c = search needs

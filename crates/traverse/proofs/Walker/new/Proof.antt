@@ -21,10 +21,13 @@ begin-requires c κs = search needs
 returns : tie.Need-returns
 unfolding rayOf
 returns c =
-    let a = c .before .before .before .before .before .args in
-    starts (rayOf (a .origin) (a .direction) (a .tmin) (a .tmax)) (c .before .before .before .before .new .result) (c .before .octant .result)
-    (c .begin .result) (c .before .before .before .before .new .ensures) (c .before .octant .ensures) (c .begin .ensures)
-    (sym (c .before .before .before .accepted .ensures) ∙ c .before .before .if1 .taken)
+    let at-accepted = c .before .before .before in
+    let at-new = at-accepted .before in
+    let at-start = at-new .before in
+    let a = at-start .args in
+    starts (rayOf (a .origin) (a .direction) (a .tmin) (a .tmax)) (at-new .new .result) (c .before .octant .result)
+    (c .begin .result) (at-new .new .ensures) (c .before .octant .ensures) (c .begin .ensures)
+    (sym (at-accepted .accepted .ensures) ∙ c .before .before .if1 .taken)
 
 returns-2 : tie.Need-returns-2
 unfolding ofBits
