@@ -68,26 +68,16 @@ abbrev D : ℕ → Type 0
 D t = calculate-cost-lts.After-calculate-cost2 (given t) (calculate-cost-at t) calculate-cost.Post
 
 abbrev start : (t : ℕ) → I t → S t
-start t i =
-    let i-back3 = i .before .before .before in
-    let i-back6 = i-back3 .before .before .before in
-    i-back6
+start t i = i .before .before .before .before .before .before
 
 abbrev start-leaf : (t : ℕ) → Z t → S t
-start-leaf t i =
-    let i-back3 = i .before .before .before in
-    let i-back6 = i-back3 .before .before .before in
-    i-back6
+start-leaf t i = i .before .before .before .before .before .before
 
 abbrev inner-of : (t : ℕ) → C t → I t
 inner-of t c = c .before .before .before
 
 abbrev call-of : (t : ℕ) → D t → C t
-call-of t c =
-    let back3 = c .before .before .before in
-    let back6 = back3 .before .before .before in
-    let back7 = back6 .before in
-    back7
+call-of t c = c .before .before .before .before .before .before .before
 
 abbrev first : (t : ℕ) → I t → ℕ
 first t i = i .before .link-word .result % 0x4000_0000
@@ -125,10 +115,7 @@ calculate-cost-node-area-requires : (t : ℕ) → calculate-cost-lts.Need-node-a
 calculate-cost-node-area-requires t c κs = let h = known t (c .before .before .before) in omega arith
 
 calculate-cost-link-word-requires : (t : ℕ) → calculate-cost-lts.Need-link-word-requires (given t) (calculate-cost-at t) calculate-cost.Post
-calculate-cost-link-word-requires t c κs =
-    let back3 = c .before .before .before in
-    let back4 = back3 .before in
-    let h = known t (back4) in omega arith
+calculate-cost-link-word-requires t c κs = let h = known t (c .before .before .before .before) in omega arith
 
 calculate-cost-cast-first : (t : ℕ) → calculate-cost-lts.Need-cast-first (given t) (calculate-cost-at t) calculate-cost.Post
 calculate-cost-cast-first t c = omega arith
@@ -143,60 +130,36 @@ calculate-cost-add-calculate-cost : (t : ℕ) → calculate-cost-lts.Need-add-ca
 calculate-cost-add-calculate-cost t c = omega arith
 
 calculate-cost-sub-calculate-cost-2 : (t : ℕ) → calculate-cost-lts.Need-sub-calculate-cost-2 (given t) (calculate-cost-at t) calculate-cost.Post
-calculate-cost-sub-calculate-cost-2 t c =
-    let back3 = c .before .before .before in
-    let back4 = back3 .before in
-    below t (inner-of t (back4)) .deep
+calculate-cost-sub-calculate-cost-2 t c = below t (inner-of t (c .before .before .before .before)) .deep
 
 calculate-cost-calculate-cost-requires-2 : (t : ℕ) → calculate-cost-lts.Need-calculate-cost-requires-2 (given t) (calculate-cost-at t)
     calculate-cost.Post
 calculate-cost-calculate-cost-requires-2 t c κs =
-    let back3 = c .before .before .before in
-    let back6 = back3 .before .before .before in
-    let a = back6 in
+    let a = c .before .before .before .before .before .before in
     let h = below t (inner-of t a) in
     (omega arith, rw (a .calculate-cost .kept .1 .1 .1 .1 .0, a .calculate-cost .kept .1 .1 .1 .1 .1 .0) (h .right))
 
 calculate-cost-add-count : (t : ℕ) → calculate-cost-lts.Need-add-count (given t) (calculate-cost-at t) calculate-cost.Post
-calculate-cost-add-count t c =
-    let back3 = c .before .before .before in
-    let back4 = back3 .before in
-    let h = joint t (back4) .few in omega arith
+calculate-cost-add-count t c = let h = joint t (c .before .before .before .before) .few in omega arith
 
 calculate-cost-inner-entries-requires : (t : ℕ) → calculate-cost-lts.Need-inner-entries-requires (given t) (calculate-cost-at t) calculate-cost.Post
 calculate-cost-inner-entries-requires t c κs =
-    let back3 = c .before .before .before in
-    let back6 = back3 .before .before .before in
-    let d = back6 in
+    let d = c .before .before .before .before .before .before in
     let h = joint t d in
     let f = h .few in
     (rw (h .words-length, h .costs-length) (below t (inner-of t (call-of t d)) .room), omega arith)
 
 calculate-cost-same-length : (t : ℕ) → calculate-cost-lts.Need-same-length (given t) (calculate-cost-at t) calculate-cost.Post
-calculate-cost-same-length t c =
-    let back3 = c .before .before .before in
-    let at-inner-entries = back3 .before in
-    let back7 = at-inner-entries .before .before .before in
-    let back10 = back7 .before .before .before in
-    let back11 = back10 .before in
-    at-inner-entries .inner-entries .kept .0 ∙ joint t
-    (back11) .words-length
+calculate-cost-same-length t c = c .before .before .before .before .inner-entries .kept .0 ∙ joint t
+    (c .before .before .before .before .before .before .before .before .before .before .before) .words-length
 
 calculate-cost-same-length-2 : (t : ℕ) → calculate-cost-lts.Need-same-length-2 (given t) (calculate-cost-at t) calculate-cost.Post
-calculate-cost-same-length-2 t c =
-    let back3 = c .before .before .before in
-    let at-inner-entries = back3 .before in
-    let back7 = at-inner-entries .before .before .before in
-    let back10 = back7 .before .before .before in
-    let back11 = back10 .before in
-    at-inner-entries .inner-entries .kept .1 .0 ∙ joint t
-    (back11) .costs-length
+calculate-cost-same-length-2 t c = c .before .before .before .before .inner-entries .kept .1 .0 ∙ joint t
+    (c .before .before .before .before .before .before .before .before .before .before .before) .costs-length
 
 calculate-cost-returns : (t : ℕ) → calculate-cost-lts.Need-returns (given t) (calculate-cost-at t) calculate-cost.Post
 calculate-cost-returns t c =
-    let back3 = c .before .before .before in
-    let back4 = back3 .before in
-    let e = back4 in
+    let e = c .before .before .before .before in
     let d = e .before .before .before .before .before .before .before in
     let a = call-of t d in
     let i = inner-of t a in
@@ -208,22 +171,14 @@ calculate-cost-leaf-entries-requires : (t : ℕ) → calculate-cost-lts.Need-lea
 calculate-cost-leaf-entries-requires t c κs = let h = known t (start-leaf t (c .before .before)) in (h .decisions, h .costs)
 
 calculate-cost-same-length-3 : (t : ℕ) → calculate-cost-lts.Need-same-length-3 (given t) (calculate-cost-at t) calculate-cost.Post
-calculate-cost-same-length-3 t c =
-    let back3 = c .before .before .before in
-    let at-leaf-entries = back3 .before in
-    at-leaf-entries .leaf-entries .kept .0
+calculate-cost-same-length-3 t c = c .before .before .before .before .leaf-entries .kept .0
 
 calculate-cost-same-length-4 : (t : ℕ) → calculate-cost-lts.Need-same-length-4 (given t) (calculate-cost-at t) calculate-cost.Post
-calculate-cost-same-length-4 t c =
-    let back3 = c .before .before .before in
-    let at-leaf-entries = back3 .before in
-    at-leaf-entries .leaf-entries .kept .1 .0
+calculate-cost-same-length-4 t c = c .before .before .before .before .leaf-entries .kept .1 .0
 
 calculate-cost-returns-2 : (t : ℕ) → calculate-cost-lts.Need-returns-2 (given t) (calculate-cost-at t) calculate-cost.Post
 calculate-cost-returns-2 t c =
-    let back3 = c .before .before .before in
-    let back4 = back3 .before in
-    let e = back4 in
+    let e = c .before .before .before .before in
     let z = e .before .before .before in
     let s = start-leaf t z in
     let h = leaf-done (s .pre .1) (z .before .link-word .ensures) (z .if1 .left) (s .args .limit) (z .before .before .node-area .ensures)

@@ -32,11 +32,7 @@ abbrev H : Type 0
 H = tie.After-own-slot Inv-loop μ-loop
 
 abbrev start : L → S
-start l =
-    let l-back3 = l .before .before .before in
-    let l-back6 = l-back3 .before .before .before in
-    let l-back7 = l-back6 .before in
-    l-back7
+start l = l .before .before .before .before .before .before .before
 
 abbrev own : L → Own
 own l = record { metas = l .loop .metas; boxes = l .loop .boxes; imask = l .loop .imask; inner = l .loop .inner; at = l .loop .at }
@@ -51,9 +47,7 @@ slotsUpto s k = firstSlots (s .args .indices .now) (boxAt (s .args .words .now) 
 next : (h : H) → let l = h .before .before .before .before in made (withHeld (l .loop .i) (h .own-slot .result) (own l))
     (h .own-slot .last .1 .1 .1 .0) ≡ slotsUpto (start l) (suc (l .loop .i))
 next h =
-    let h-back3 = h .before .before .before in
-    let h-back4 = h-back3 .before in
-    let l = h-back4 in
+    let l = h .before .before .before .before in
     let s = start l in
     let g = l .before in
     first-next (s .args .indices .now) (boxAt (s .args .words .now) (s .args .v)) (s .args .start) (cells s) (s .args .out .now) (l .loop .i)
@@ -102,17 +96,11 @@ array-set-from-boxes : tie.Need-array-set-from-boxes Inv-loop μ-loop
 array-set-from-boxes c = omega arith
 
 add-imask : tie.Need-add-imask Inv-loop μ-loop
-add-imask c =
-    let back3 = c .before .before .before in
-    let back4 = back3 .before in
-    let h = back4 in let l = h .before .before .before .before in omega
+add-imask c = let h = c .before .before .before .before in let l = h .before .before .before .before in omega
     (arith, few (start l) (suc (l .loop .i)) _ _ (omega arith) (next h) .0)
 
 add-inner : tie.Need-add-inner Inv-loop μ-loop
-add-inner c =
-    let back3 = c .before .before .before in
-    let back5 = back3 .before .before in
-    let h = back5 in let l = h .before .before .before .before in omega
+add-inner c = let h = c .before .before .before .before .before in let l = h .before .before .before .before in omega
     (arith, few (start l) (suc (l .loop .i)) _ _ (omega arith) (next h) .1)
 
 add-i : tie.Need-add-i Inv-loop μ-loop
@@ -123,63 +111,41 @@ loop-less c = omega arith
 
 loop-again : tie.Need-loop-again Inv-loop μ-loop
 loop-again c =
-    let back3 = c .before .before .before in
-    let back5 = back3 .before .before in
-    let h = back5 in
+    let h = c .before .before .before .before .before in
     let l = h .before .before .before .before in
     (omega arith, h .own-slot .kept .1 .1 .1 .0 ∙ l .loop .inv .1, rw add-one (next h))
 
 -- the box is an accepted one
 float-to-bits-t33 : tie.Need-float-to-bits-t33 Inv-loop μ-loop
-float-to-bits-t33 c =
-    let back3 = c .before .before .before in
-    let back4 = back3 .before in
-    let n = back4 in rw (n .node-box .ensures)
+float-to-bits-t33 c = let n = c .before .before .before .before in rw (n .node-box .ensures)
     (corner-numbers (boxAt _ _) (n .before .before .before .before .before .pre .1) .0)
 
 float-to-bits-t34 : tie.Need-float-to-bits-t34 Inv-loop μ-loop
-float-to-bits-t34 c =
-    let back3 = c .before .before .before in
-    let back5 = back3 .before .before in
-    let n = back5 in rw (n .node-box .ensures)
+float-to-bits-t34 c = let n = c .before .before .before .before .before in rw (n .node-box .ensures)
     (corner-numbers (boxAt _ _) (n .before .before .before .before .before .pre .1) .1)
 
 float-to-bits-t35 : tie.Need-float-to-bits-t35 Inv-loop μ-loop
-float-to-bits-t35 c =
-    let back3 = c .before .before .before in
-    let back6 = back3 .before .before .before in
-    let n = back6 in rw (n .node-box .ensures)
+float-to-bits-t35 c = let n = c .before .before .before .before .before .before in rw (n .node-box .ensures)
     (corner-numbers (boxAt _ _) (n .before .before .before .before .before .pre .1) .2)
 
 cast-t36 : tie.Need-cast-t36 Inv-loop μ-loop
-cast-t36 c =
-    let back3 = c .before .before .before in
-    let back4 = back3 .before in
-    omega (arith, bits (back4) .0)
+cast-t36 c = omega (arith, bits (c .before .before .before .before) .0)
 
 cast-t37 : tie.Need-cast-t37 Inv-loop μ-loop
-cast-t37 c =
-    let back3 = c .before .before .before in
-    let back4 = back3 .before in
-    omega (arith, bits (back4) .1)
+cast-t37 c = omega (arith, bits (c .before .before .before .before) .1)
 
 cast-t38 : tie.Need-cast-t38 Inv-loop μ-loop
 cast-t38 c = omega arith
 
 same-length : tie.Need-same-length Inv-loop μ-loop
-same-length c =
-    let back3 = c .before .before .before in
-    let at-loop = back3 .before in
-    at-loop .loop .inv .1
+same-length c = c .before .before .before .before .loop .inv .1
 
 returns : tie.Need-returns Inv-loop μ-loop
 returns c =
-    let at-loop-test = c .before .before .before in
-    let back4 = at-loop-test .before in
-    let l = back4 in
+    let l = c .before .before .before .before in
     let s = start l in
     let g = l .before in
-    let e : l .loop .i ≡ 8 = let h = l .loop .inv .0 in let k = at-loop-test .loop-test .left in omega arith in
+    let e : l .loop .i ≡ 8 = let h = l .loop .inv .0 in let k = c .before .before .before .loop-test .left in omega arith in
     let a = l .loop .inv .2 ∙ ap (slotsUpto s) e in
     record {
       node =

@@ -15,17 +15,13 @@ use Rattle.emit.proofs.own_slot.Tie as tie
 returns : tie.Need-returns
 unfolding heldIn leafWordsIn
 returns c =
-    let back3 = c .before .before .before in
-    let back5 = back3 .before .before in
-    let s = back5 in
+    let s = c .before .before .before .before .before in
     let e = cell-none (s .args .words .now) (s .args .decisions .now) (s .args .depth) (s .args .v) (c .if1 .taken) in
     (λ b g. rw e, rw e)
 
 node-box-requires : tie.Need-node-box-requires
 node-box-requires c κs =
-    let back3 = c .before .before .before in
-    let back5 = back3 .before .before in
-    let s = back5 in
+    let s = c .before .before .before .before .before in
     let r = node (s .pre .1 .tree (c .if1 .left)) .room in omega arith
 
 grid-box-requires : tie.Need-grid-box-requires
@@ -55,27 +51,18 @@ sub-leaf-meta : tie.Need-sub-leaf-meta
 sub-leaf-meta c = search needs
 
 abbrev other : tie.After-slice-known2 → tie.Else1
-other c =
-    let back3 = c .before .before .before in
-    let back6 = back3 .before .before .before in
-    let back8 = back6 .before .before in
-    back8
+other c = c .before .before .before .before .before .before .before .before
 
 abbrev entry : tie.After-slice-known2 → tie.Start
-entry c =
-    let back3 = c .before .before .before in
-    let back5 = back3 .before .before in
-    other back5
+entry c = other c .before .before .before .before .before
 
 -- a leaf child's words have room, and its place fits the meta byte
 ready : (c : tie.After-slice-known2) → CellReady (length (entry c .args .out .now)) (entry c .args .start) (entry c .args .at)
     (asLeaf (boxAt (entry c .args .words .now) (entry c .args .v)) (treeAt (entry c .args .words .now) (entry c .args .depth) (entry c .args .v)))
 ready c =
-    let back3 = c .before .before .before in
-    let at-if2 = back3 .before in
     let s = entry c in
     leaf-ready (s .args .words .now) (s .args .decisions .now) (s .args .depth) (s .args .v) (other c .if1 .left) (length (s .args .indices .now))
-    (length (s .args .out .now)) (s .args .start) (s .args .at) (s .pre .1) (at-if2 .if2 .taken) .1
+    (length (s .args .out .now)) (s .args .start) (s .args .at) (s .pre .1) (c .before .before .before .before .if2 .taken) .1
 
 sub-leaf-meta-2 : tie.Need-sub-leaf-meta-2
 unfolding CellReady
