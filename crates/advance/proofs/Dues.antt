@@ -51,7 +51,7 @@ due-depth g stack depth = go (hasChild g)
 
 -- ---- a turn does what is due
 
-module _ {s d : Type 0} (m : ℕ) (N : NodeWords s d) (n : ℕ) (w : WalkerWords s) (none : w .positions .bits ≤ 0) where
+module _ {RayData Distance : Type 0} (m : ℕ) (N : NodeWords RayData Distance) (n : ℕ) (w : WalkerWords RayData) (none : w .positions .bits ≤ 0) where
   abbrev due : DueGroup
   due = dueGroup (w .current) (w .stack) (w .depth)
 

@@ -65,10 +65,10 @@ and-true true true e = (refl, refl)
 and-true true false e = (refl, e)
 and-true false b e = (e, absurd (let z : _≡_ {A = ℕ} 0 1 = cc in omega arith))
 
-module _ {s d : Type 0} (m : ℕ) (N : NodeWords s d) (n : ℕ) (w : WalkerWords s) (r : SteppedWords s) (left : ℕ)
+module _ {RayData Distance : Type 0} (m : ℕ) (N : NodeWords RayData Distance) (n : ℕ) (w : WalkerWords RayData) (r : SteppedWords RayData) (left : ℕ)
     (turn : r ≡ advanceWords m N n w) where
   -- with k more turns allowed after it
-  abbrev after : ℕ → SteppedWords s → SteppedWords s
+  abbrev after : ℕ → SteppedWords RayData → SteppedWords RayData
   after k x = cond (findsNone x) (seekWords m N k n (x .walker)) x
 
   only-turn : r ≡ seekWords m N 0 n w
@@ -113,7 +113,7 @@ module _ {s d : Type 0} (m : ℕ) (N : NodeWords s d) (n : ℕ) (w : WalkerWords
   pub seek-deep : w .depth ≤ capacity → (findsNone r && ltb 0 left) ≡ true → r .walker .depth ≤ capacity
   seek-deep deep h =
       tested-deep (r .answer) (and-true (isTest (r .answer)) _ (and-true (findsNone r) (ltb 0 left) h .0) .0)
-      (subst (λ (q : SteppedWords s). Shows m N n w (q .answer) (q .walker)) (sym turn) (turn-shows m N n w deep))
+      (subst (λ (q : SteppedWords RayData). Shows m N n w (q .answer) (q .walker)) (sym turn) (turn-shows m N n w deep))
     where
       tested-deep : (b : S.Answer) → isTest b ≡ true → Shows m N n w b (r .walker) → r .walker .depth ≤ capacity
       tested-deep (S.tested v) e k = k .2

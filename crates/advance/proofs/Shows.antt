@@ -23,15 +23,15 @@ rest-deep true e z l = go (hasRoom e) refl z
     go true q y = omega (arith, ltb-true e capacity q)
     go false q y = absurd (let u : _≡_ {A = ℕ} 0 1 = cc in omega arith)
 
-module _ {s d : Type 0} (m : ℕ) (N : NodeWords s d) (n : ℕ) (w : WalkerWords s) where
+module _ {RayData Distance : Type 0} (m : ℕ) (N : NodeWords RayData Distance) (n : ℕ) (w : WalkerWords RayData) where
   -- a test comes where no position is in hand and tests are left, and leaves the ray; a position is one of the n; and a refusal is cause 10
-  abbrev pub ShowsAs : Answer → WalkerWords s → Type 0
+  abbrev pub ShowsAs : Answer → WalkerWords RayData → Type 0
   ShowsAs (tested v) u = (w .positions .bits ≤ 0) × (w .tests < m) × (u .depth ≤ capacity) × (u .ray ≡ w .ray) × (u .tests ≡ suc (w .tests))
   ShowsAs (position p) u = (0 < w .positions .bits) × (p < n)
   ShowsAs done u = w .positions .bits ≤ 0
   ShowsAs (refused k) u = k ≡ 10
 
-  abbrev ShowsOf : SteppedWords s → Type 0
+  abbrev ShowsOf : SteppedWords RayData → Type 0
   ShowsOf r = ShowsAs (r .answer) (r .walker)
 
   visit-shows : (g : Group) (e : ℕ) → w .positions .bits ≤ 0 → e ≤ capacity → ShowsOf (visitWords m N n w g e)
@@ -57,16 +57,16 @@ module _ {s d : Type 0} (m : ℕ) (N : NodeWords s d) (n : ℕ) (w : WalkerWords
       cond-elim ShowsOf (ltb 0 (waitingDepth (w .stack) (w .depth))) _ _
       (λ _. visit-shows (unpacked (topOf (w .stack) (waitingDepth (w .stack) (w .depth)))) _ z (omega arith)) (λ _. z)))
 
-module _ {s d : Type 0} (m : ℕ) (N : NodeWords s d) (n : ℕ) (w : WalkerWords s) where
+module _ {RayData Distance : Type 0} (m : ℕ) (N : NodeWords RayData Distance) (n : ℕ) (w : WalkerWords RayData) where
   -- what a turn's answer tells, of the hand without the positions that are passed over
-  abbrev pub Shows : Answer → WalkerWords s → Type 0
+  abbrev pub Shows : Answer → WalkerWords RayData → Type 0
   Shows a u = ShowsAs m N n (pastSkips N w) a u
 
   pub turn-shows : w .depth ≤ capacity → Shows (advanceWords m N n w .answer) (advanceWords m N n w .walker)
   unfolding advanceWords
   turn-shows l = go (turnWords m N n (pastSkips N w) .answer) (turnWords m N n (pastSkips N w) .walker) (shows-as m N n (pastSkips N w) l)
     where
-      go : (a : Answer) (u : WalkerWords s) → Shows a u → Shows a (leaving w a u)
+      go : (a : Answer) (u : WalkerWords RayData) → Shows a u → Shows a (leaving w a u)
       go (tested v) u h = h
       go (position p) u h = h
       go done u h = h

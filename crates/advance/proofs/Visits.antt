@@ -45,7 +45,7 @@ not-past c tests m e = go (leb m c) refl (leb m tests) refl e
 
 -- ---- a visit, for any nodes and rays
 
-module _ {s d : Type 0} (m : ℕ) (N : NodeWords s d) (n : ℕ) (w : WalkerWords s) (g : W.Group) (depth : ℕ) where
+module _ {RayData Distance : Type 0} (m : ℕ) (N : NodeWords RayData Distance) (n : ℕ) (w : WalkerWords RayData) (g : W.Group) (depth : ℕ) where
   abbrev child : ℕ
   child = W.firstChild (N .octant (w .ray)) g
 

@@ -25,16 +25,16 @@ low-ones x h =
     let e : onesBelow 32 x ≡ onesBelow 24 x = sym (ones-word 32 x (omega arith)) ∙ ones-word 24 x h in
     omega (arith, e, ones-most 24 x)
 
-module _ {s d : Type 0} (m : ℕ) (N : NodeWords s d) (n : ℕ) where
-  abbrev Low : SteppedWords s → Type 0
+module _ {RayData Distance : Type 0} (m : ℕ) (N : NodeWords RayData Distance) (n : ℕ) where
+  abbrev Low : SteppedWords RayData → Type 0
   Low r = r .walker .positions .bits < 0x100_0000
 
-  visit-low : (w : WalkerWords s) (g : Group) (e : ℕ) → w .positions .bits ≤ 0 → Low (visitWords m N n w g e)
+  visit-low : (w : WalkerWords RayData) (g : Group) (e : ℕ) → w .positions .bits ≤ 0 → Low (visitWords m N n w g e)
   unfolding visitWords
   visit-low w g e z = cond-elim Low (badChild m N n w g e) _ _ (λ _. omega arith) (λ _. omega arith)
 
   -- where nothing is passed over
-  plain-low : (w : WalkerWords s) → w .positions .bits ≤ 0 → Low (turnWords m N n w)
+  plain-low : (w : WalkerWords RayData) → w .positions .bits ≤ 0 → Low (turnWords m N n w)
   unfolding turnWords popWords
   plain-low w z =
       cond-elim Low (ltb 0 (w .positions .bits)) _ _ (λ h. absurd (let k = ltb-true 0 (w .positions .bits) h in omega arith))
@@ -42,10 +42,10 @@ module _ {s d : Type 0} (m : ℕ) (N : NodeWords s d) (n : ℕ) where
       (λ _. cond-elim Low (ltb 0 (waitingDepth (w .stack) (w .depth))) _ _
       (λ _. visit-low w (unpacked (topOf (w .stack) (waitingDepth (w .stack) (w .depth)))) _ z) (λ _. omega arith)))
 
-  turn-low : (w : WalkerWords s) → w .positions .bits ≤ 0 → Low (advanceWords m N n w)
+  turn-low : (w : WalkerWords RayData) → w .positions .bits ≤ 0 → Low (advanceWords m N n w)
   turn-low w z = subst Low (sym (unskipped-turn m N n w (empty-front (N .skips (w .ray)) (w .positions) z))) (plain-low w z)
 
-  seek-low : (k : ℕ) (w : WalkerWords s) → w .positions .bits ≤ 0 → Low (seekWords m N k n w)
+  seek-low : (k : ℕ) (w : WalkerWords RayData) → w .positions .bits ≤ 0 → Low (seekWords m N k n w)
   unfolding seekWords
   seek-low zero w z = turn-low w z
   seek-low (suc k) w z =
@@ -54,5 +54,5 @@ module _ {s d : Type 0} (m : ℕ) (N : NodeWords s d) (n : ℕ) where
       (λ h. let e : r .walker .positions .bits ≡ 0 = eqb-true _ _ (and-true (isTest (r .answer)) _ h .1) in
       seek-low k (advanceWords m N n w .walker) (omega (arith, e))) (λ _. turn-low w z)
 
-  pub seek-few : (k : ℕ) (w : WalkerWords s) → w .positions .bits ≤ 0 → onesBelow 32 (seekWords m N k n w .walker .positions .bits) ≤ 24
+  pub seek-few : (k : ℕ) (w : WalkerWords RayData) → w .positions .bits ≤ 0 → onesBelow 32 (seekWords m N k n w .walker .positions .bits) ≤ 24
   seek-few k w z = low-ones _ (seek-low k w z)

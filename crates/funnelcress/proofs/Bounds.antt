@@ -23,12 +23,12 @@ Below n (position p) = p < n
 Below n done = Unit {0}
 Below n (refused k) = k ≤ 11
 
-module _ {s d : Type 0} (m : ℕ) (N : NodeWords s d) (n : ℕ) where
+module _ {RayData Distance : Type 0} (m : ℕ) (N : NodeWords RayData Distance) (n : ℕ) where
   -- after a step: no more tests than nodes
-  abbrev Few : SteppedWords s → Type 0
+  abbrev Few : SteppedWords RayData → Type 0
   Few r = (r .walker .tests ≤ m) × Below n (r .answer)
 
-  module _ (w : WalkerWords s) (h : w .tests ≤ m) where
+  module _ (w : WalkerWords RayData) (h : w .tests ≤ m) where
     visit-few : (g : Group) (e : ℕ) → Few (visitWords m N n w g e)
     unfolding visitWords
     visit-few g e =
@@ -49,13 +49,13 @@ module _ {s d : Type 0} (m : ℕ) (N : NodeWords s d) (n : ℕ) where
         (λ _. cond-elim Few (ltb 0 (waitingDepth (w .stack) (w .depth))) _ _
         (λ _. visit-few (unpacked (topOf (w .stack) (waitingDepth (w .stack) (w .depth)))) _) (λ _. (h, tt))))
 
-  module _ (w : WalkerWords s) (h : w .tests ≤ m) where
+  module _ (w : WalkerWords RayData) (h : w .tests ≤ m) where
     advance-few : Few (advanceWords m N n w)
     unfolding advanceWords
     advance-few = let t = turn-few (pastSkips N w) h in
         (go (turnWords m N n (pastSkips N w) .answer) (turnWords m N n (pastSkips N w) .walker) (t .0), t .1)
       where
-        go : (a : Answer) (u : WalkerWords s) → u .tests ≤ m → leaving w a u .tests ≤ m
+        go : (a : Answer) (u : WalkerWords RayData) → u .tests ≤ m → leaving w a u .tests ≤ m
         go (tested v) u k = k
         go (position p) u k = k
         go done u k = k
@@ -71,31 +71,31 @@ module _ {s d : Type 0} (m : ℕ) (N : NodeWords s d) (n : ℕ) where
 
   -- ---- a query, whatever is said of what it notes with so many steps left
 
-  module _ {a : Type 0} (react : ℕ → s → a → Reaction d a) (Q : ℕ → a → Type 0)
+  module _ {a : Type 0} (react : ℕ → RayData → a → Reaction Distance a) (Q : ℕ → a → Type 0)
       (drops : (f : ℕ) (x : a) → Q (suc f) x → Q f x)
-      (notes : (f p : ℕ) (r : s) (x : a) → p < n → Q (suc f) x → Q f (react p r x .accumulator)) where
-    abbrev Ends : OutcomeWords s a → Type 0
+      (notes : (f p : ℕ) (r : RayData) (x : a) → p < n → Q (suc f) x → Q f (react p r x .accumulator)) where
+    abbrev Ends : OutcomeWords RayData a → Type 0
     Ends o = (o .walker .tests ≤ m) × Below n (o .ended) × Q 0 (o .accumulator)
 
     at-last : (f : ℕ) (x : a) → Q f x → Q 0 x
     at-last zero x q = q
     at-last (suc f) x q = at-last f x (drops f x q)
 
-    told-tests : (l : List d) (w : WalkerWords s) → toldAllWords N l w .tests ≡ w .tests
+    told-tests : (l : List Distance) (w : WalkerWords RayData) → toldAllWords N l w .tests ≡ w .tests
     told-tests [] w = refl
     told-tests (x ∷ l) w = told-tests l (tellWords N x w)
 
-    pub query-few : (f : ℕ) (w : WalkerWords s) (x : a) → w .tests ≤ m → Q f x → Ends (queryWords m N react f n w x)
+    pub query-few : (f : ℕ) (w : WalkerWords RayData) (x : a) → w .tests ≤ m → Q f x → Ends (queryWords m N react f n w x)
     unfolding queryWords
     query-few zero w x h q = (h, tt, q)
     query-few (suc f) w x h q = go (stepWords m N n w .answer) (stepWords m N n w .walker) (step-few w h .0) (step-few w h .1) (query-few f)
       where
-        go : (b : Answer) (u : WalkerWords s) → u .tests ≤ m → Below n b
-            → ((v : WalkerWords s) (y : a) → v .tests ≤ m → Q f y → Ends (queryWords m N react f n v y))
+        go : (b : Answer) (u : WalkerWords RayData) → u .tests ≤ m → Below n b
+            → ((v : WalkerWords RayData) (y : a) → v .tests ≤ m → Q f y → Ends (queryWords m N react f n v y))
             → Ends (followWords m N react b u x (queryWords m N react f n))
         go (tested c) u k l on = on u x k (drops f x q)
         go (position p) u k l on =
-            let r : Reaction d a = react p (u .ray) x in
+            let r : Reaction Distance a = react p (u .ray) x in
             let t = told-tests (r .tells) u in
             let y = notes f p (u .ray) x l q in
             cond-elim Ends (r .stop) _ _ (λ _. (omega (arith, t), l, at-last f (r .accumulator) y))

@@ -39,7 +39,8 @@ unfolding onesBelow field
 no-ones = refl
 
 -- on lists, without nodes a walker just begun is done
-empty-lists : {s d a : Type 0} (m : ℕ) → m ≡ 0 → (T : Tests s d) (react : ℕ → s → a → Reaction d a) (k n : ℕ) (ray : s) (x : a) → n ≤ 65536
+empty-lists : {RayData Distance a : Type 0} (m : ℕ) → m ≡ 0
+    → (T : Tests RayData Distance) (react : ℕ → RayData → a → Reaction Distance a) (k n : ℕ) (ray : RayData) (x : a) → n ≤ 65536
     → T .forged ray ≡ false
     → query m T react (suc k) n (fresh ray) x ≡ record { walker = emptied (fresh ray) .walker; accumulator = x; ended = done }
 unfolding query stepOf

@@ -9,7 +9,7 @@ use Rattle.walk.specs.WordStep.{WalkerWords, NodeWords, stayWords, reportWords,
 use Rattle.walk.proofs.Words.{AtFront}
 use Rattle.walk.proofs.WordKept.{unskipped-turn}
 
-module _ {s : Type 0} (n : ℕ) (w : WalkerWords s) where
+module _ {RayData : Type 0} (n : ℕ) (w : WalkerWords RayData) where
   pub report-past : (p : ℕ) → p ≡ firstPosition (w .positions) → n ≤ p → stayWords w (S.refused 10) ≡ reportWords n w
   unfolding reportWords
   report-past p e h = rw (← e, le-leb n p h)
@@ -25,7 +25,7 @@ module _ {s : Type 0} (n : ℕ) (w : WalkerWords s) where
     answer = S.position p;
   })
 
-  module _ {d : Type 0} (m : ℕ) (N : NodeWords s d) where
+  module _ {Distance : Type 0} (m : ℕ) (N : NodeWords RayData Distance) where
     -- a position that is neither passed over nor absent is reported
     pub report-due : AtFront (N .skips (w .ray)) (w .positions) → N .absent (w .ray) (firstPosition (w .positions)) ≡ false → 0 < w .positions .bits
         → reportWords n w ≡ advanceWords m N n w

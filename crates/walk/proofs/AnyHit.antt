@@ -26,7 +26,7 @@ use Rattle.walk.proofs.Ends.{stepsLeft, step-falls}
 
 -- What any-hit meets over a record of n positions: it ends with done, its list is the listing, which has each passed position once and no other, and
 -- its tests are the nodes reached, as many as a list has that holds each of them once and no other.
-pub record Meets {s : Type 0} (n : ℕ) (listing : List ℕ) (ReachedIn PassedIn : ℕ → Type 0) (o : QueryOutcome s (List ℕ)) : Type 0 where
+pub record Meets {RayData : Type 0} (n : ℕ) (listing : List ℕ) (ReachedIn PassedIn : ℕ → Type 0) (o : QueryOutcome RayData (List ℕ)) : Type 0 where
   pub ends : o .ended ≡ done
   pub lists : o .accumulator ≡ listing
   pub exact : (p : ℕ) → In p (o .accumulator) ↔ PassedIn p
@@ -38,7 +38,7 @@ pub record Meets {s : Type 0} (n : ℕ) (listing : List ℕ) (ReachedIn PassedIn
   pub tests : o .walker .tests ≡ length reached
 
 -- the same by other words for what is reached and passed
-pub meets-as : {s : Type 0} {n : ℕ} {list : List ℕ} {A B C D : ℕ → Type 0} {o : QueryOutcome s (List ℕ)}
+pub meets-as : {RayData : Type 0} {n : ℕ} {list : List ℕ} {A B C D : ℕ → Type 0} {o : QueryOutcome RayData (List ℕ)}
     → ((v : ℕ) → A v ↔ C v) → ((p : ℕ) → B p ↔ D p) → Meets n list A B o → Meets n list C D o
 meets-as f g m = record {
   ends = m .ends;
@@ -53,43 +53,44 @@ meets-as f g m = record {
 }
 
 -- a query ended with done, having noted ps after x, with t tests in all
-record Ran {s : Type 0} (x ps : List ℕ) (t : ℕ) (o : QueryOutcome s (List ℕ)) : Type 0 where
+record Ran {RayData : Type 0} (x ps : List ℕ) (t : ℕ) (o : QueryOutcome RayData (List ℕ)) : Type 0 where
   pub accumulator : o .accumulator ≡ x ++ ps
   pub ended : o .ended ≡ done
   pub tests : o .walker .tests ≡ t
 
 -- without nodes it is done at once
-empty-ran : {s d : Type 0} (T : Tests s d) (n : ℕ) (ray : s) → n ≤ 65536 → T .forged ray ≡ false
+empty-ran : {RayData Distance : Type 0} (T : Tests RayData Distance) (n : ℕ) (ray : RayData) → n ≤ 65536 → T .forged ray ≡ false
     → Ran [] (listing 0 T ray 0) (length (reachedFrom 0 T ray 0)) (anyHitRun 0 T n ray)
 unfolding query
 empty-ran T n ray h f = rw (empty-step T n ray h f, gather-none, gather-none) (record { accumulator = refl; ended = refl; tests = refl })
 
-module _ {s d : Type 0} {S : Shape} {Rule : ℕ → Type 0} {T : Tests s d} (K : SoundTests S Rule T) (U : Unrefused S T) (ray : s)
+module _ {RayData Distance : Type 0} {S : Shape} {Rule : ℕ → Type 0} {T : Tests RayData Distance} (K : SoundTests S Rule T) (U : Unrefused S T)
+    (ray : RayData)
     (accepted : T .forged ray ≡ false) where
   -- ---- what a walker has still to report, and to test
 
-  abbrev ahead : (ℕ → List ℕ) → Walker s → List ℕ
+  abbrev ahead : (ℕ → List ℕ) → Walker RayData → List ℕ
   ahead f w = flat f (w .group) ++ flats f (w .stack)
 
-  abbrev toReport : Walker s → List ℕ
+  abbrev toReport : Walker RayData → List ℕ
   toReport w = w .positions ++ ahead (listing (S .nodes) T ray) w
 
-  abbrev toTest : Walker s → List ℕ
+  abbrev toTest : Walker RayData → List ℕ
   toTest w = ahead (reachedFrom (S .nodes) T ray) w
 
   -- a step takes from the front what it reports or tests
-  abbrev Takes : Walker s → Answer → Walker s → Type 0
+  abbrev Takes : Walker RayData → Answer → Walker RayData → Type 0
   Takes w (tested c) u = (toReport w ≡ toReport u) × (toTest w ≡ c ∷ toTest u) × (u .tests ≡ suc (w .tests))
   Takes w (position p) u = (toReport w ≡ p ∷ toReport u) × (toTest w ≡ toTest u) × (u .tests ≡ w .tests)
   Takes w done u = (toReport w ≡ []) × (toTest w ≡ []) × (u .tests ≡ w .tests)
   Takes w (refused e) u = ⊥
 
-  record After (w : Walker s) (r : Stepped s) : Type 0 where
+  record After (w : Walker RayData) (r : Stepped RayData) : Type 0 where
     pub valid : Valid K (r .walker)
     pub same-ray : r .walker .ray ≡ ray
     pub takes : Takes w (r .answer) (r .walker)
 
-  visit-report : (w : Walker s) (c : ℕ) (r : List ℕ) (st : List (List ℕ)) → w .ray ≡ ray → Visits (S .nodes) T (S .positions) w c r st
+  visit-report : (w : Walker RayData) (c : ℕ) (r : List ℕ) (st : List (List ℕ)) → w .ray ≡ ray → Visits (S .nodes) T (S .positions) w c r st
       → toReport w ≡ toReport (afterTest T w c r st .walker)
   visit-report w c r st e v =
       ap (λ (l : List ℕ). l ++ ahead (listing (S .nodes) T ray) w) (test-hand (w .positions) (w .group) (w .stack) c r st (v .is-due))
@@ -97,7 +98,7 @@ module _ {s d : Type 0} {S : Shape} {Rule : ℕ → Type 0} {T : Tests s d} (K :
       ∙ ap (λ (l : List ℕ). l ++ (flat (listing (S .nodes) T ray) r ++ flats (listing (S .nodes) T ray) st)) (listing-is K ray accepted c (v .node))
       ∙ rw (e, push-flats (listing (S .nodes) T ray) r st) (append-assoc (T .positions ray c) (flat (listing (S .nodes) T ray) (T .children ray c)) _)
 
-  visit-test : (w : Walker s) (c : ℕ) (r : List ℕ) (st : List (List ℕ)) → w .ray ≡ ray → Visits (S .nodes) T (S .positions) w c r st
+  visit-test : (w : Walker RayData) (c : ℕ) (r : List ℕ) (st : List (List ℕ)) → w .ray ≡ ray → Visits (S .nodes) T (S .positions) w c r st
       → toTest w ≡ c ∷ toTest (afterTest T w c r st .walker)
   visit-test w c r st e v =
       test-flat (w .positions) (w .group) (w .stack) c r st (v .is-due) (reachedFrom (S .nodes) T ray)
@@ -105,7 +106,7 @@ module _ {s d : Type 0} {S : Shape} {Rule : ℕ → Type 0} {T : Tests s d} (K :
       (reached-from-is K ray accepted c (v .node))
       ∙ rw (e, push-flats (reachedFrom (S .nodes) T ray) r st)
 
-  nothing-takes : (w : Walker s) → due (S .nodes) T (S .positions) w ≡ nothing → Takes w done w
+  nothing-takes : (w : Walker RayData) → due (S .nodes) T (S .positions) w ≡ nothing → Takes w done w
   nothing-takes w e = (
     ap (λ (l : List ℕ). l ++ ahead (listing (S .nodes) T ray) w) (none-hand (w .positions) (w .group) (w .stack) e)
         ∙ none-flat (w .positions) (w .group) (w .stack) e (listing (S .nodes) T ray),
@@ -113,7 +114,7 @@ module _ {s d : Type 0} {S : Shape} {Rule : ℕ → Type 0} {T : Tests s d} (K :
     refl,
   )
 
-  step-takes : 0 < S .nodes → (w : Walker s) → Valid K w → w .ray ≡ ray → After w (stepOf (S .nodes) T (S .positions) w)
+  step-takes : 0 < S .nodes → (w : Walker RayData) → Valid K w → w .ray ≡ ray → After w (stepOf (S .nodes) T (S .positions) w)
   step-takes h w v e =
       step-cases (S .nodes) T (S .positions) w (After w)
       (record {
@@ -138,7 +139,7 @@ module _ {s d : Type 0} {S : Shape} {Rule : ℕ → Type 0} {T : Tests s d} (K :
 
   -- ---- the run
 
-  runs : 0 < S .nodes → (f : ℕ) (w : Walker s) (x : List ℕ) → Valid K w → w .ray ≡ ray → stepsLeft (S .nodes) w < f
+  runs : 0 < S .nodes → (f : ℕ) (w : Walker RayData) (x : List ℕ) → Valid K w → w .ray ≡ ray → stepsLeft (S .nodes) w < f
       → Ran x (toReport w) (w .tests + length (toTest w)) (query (S .nodes) T append f (S .positions) w x)
   unfolding query
   runs h zero w x v e l = absurd (omega arith)
@@ -150,7 +151,7 @@ module _ {s d : Type 0} {S : Shape} {Rule : ℕ → Type 0} {T : Tests s d} (K :
       a : After w (stepOf (S .nodes) T (S .positions) w)
       a = step-takes h w v e
 
-      go : (b : Answer) (u : Walker s) → Takes w b u → (Going b → stepsLeft (S .nodes) u < stepsLeft (S .nodes) w)
+      go : (b : Answer) (u : Walker RayData) → Takes w b u → (Going b → stepsLeft (S .nodes) u < stepsLeft (S .nodes) w)
           → ((y : List ℕ) → stepsLeft (S .nodes) u < f
           → Ran y (toReport u) (u .tests + length (toTest u)) (query (S .nodes) T append f (S .positions) u y))
           → Ran x (toReport w) (w .tests + length (toTest w)) (follow (S .nodes) T append b u x (query (S .nodes) T append f (S .positions)))

@@ -55,7 +55,7 @@ nothing-not-first (p ∷ ps) g st e = refl
 
 -- ---- the cases
 
-module _ {s d : Type 0} (m : ℕ) (T : Tests s d) (n : ℕ) (w : Walker s) where
+module _ {RayData Distance : Type 0} (m : ℕ) (T : Tests RayData Distance) (n : ℕ) (w : Walker RayData) where
   -- what is due
   abbrev pub due : Due
   due = dueOf (w .positions) (w .group) (w .stack)
@@ -81,7 +81,7 @@ module _ {s d : Type 0} (m : ℕ) (T : Tests s d) (n : ℕ) (w : Walker s) where
     pub untested : w .tests < m
     pub rule : T .rule n c ≡ true
 
-  pub record Cases (P : Stepped s → Type 0) : Type 0 where
+  pub record Cases (P : Stepped RayData → Type 0) : Type 0 where
     pub refuses : (e : ℕ) → Refusal → P (stay w (refused e))
     pub ends : forgedWalker m T w ≡ false → due ≡ nothing → P (stay w done)
     pub empties : forgedWalker m T w ≡ false → m ≡ 0 → onlyFirst (w .positions) (w .group) (w .stack) ≡ true → P (emptied w)
@@ -105,7 +105,7 @@ module _ {s d : Type 0} (m : ℕ) (T : Tests s d) (n : ℕ) (w : Walker s) where
         rule = not-false-true (T .rule n c) (a .1);
       }
 
-  pub step-cases : (P : Stepped s → Type 0) → Cases P → P (stepOf m T n w)
+  pub step-cases : (P : Stepped RayData → Type 0) → Cases P → P (stepOf m T n w)
   unfolding stepOf
   step-cases P C =
       cond-elim P (sizesFit m n) _ _
@@ -126,7 +126,7 @@ module _ {s d : Type 0} (m : ℕ) (T : Tests s d) (n : ℕ) (w : Walker s) where
       go f nothing e = C .ends f e
 
   -- a refused step leaves the walker as it was, and one that is done leaves nothing due
-  abbrev pub Leaves : Answer → Walker s → Type 0
+  abbrev pub Leaves : Answer → Walker RayData → Type 0
   Leaves (tested v) u = Unit {0}
   Leaves (position p) u = Unit {0}
   Leaves done u = (dueOf (u .positions) (u .group) (u .stack) ≡ nothing) × (forgedWalker m T u ≡ false)
@@ -134,7 +134,7 @@ module _ {s d : Type 0} (m : ℕ) (T : Tests s d) (n : ℕ) (w : Walker s) where
 
   pub step-leaves : Leaves (stepOf m T n w .answer) (stepOf m T n w .walker)
   step-leaves =
-      step-cases (λ (r : Stepped s). Leaves (r .answer) (r .walker))
+      step-cases (λ (r : Stepped RayData). Leaves (r .answer) (r .walker))
       (record {
         refuses = λ e c. refl;
         ends = λ f e. (e, f);
@@ -144,13 +144,14 @@ module _ {s d : Type 0} (m : ℕ) (T : Tests s d) (n : ℕ) (w : Walker s) where
       })
 
 -- where nothing is due a step leaves the walker as it is, and is done if nothing refuses it
-pub nothing-due-done : {s d : Type 0} (m : ℕ) (T : Tests s d) (n : ℕ) (w : Walker s)
+pub nothing-due-done : {RayData Distance : Type 0} (m : ℕ) (T : Tests RayData Distance) (n : ℕ) (w : Walker RayData)
     → due m T n w ≡ nothing → sizesFit m n ≡ true → forgedWalker m T w ≡ false → stepOf m T n w ≡ stay w done
 unfolding stepOf
 nothing-due-done m T n w e z f = rw (z, f, nothing-not-first (w .positions) (w .group) (w .stack) e, and-false (leb m 0), e)
 
 -- a walker that is done stays so, whatever count a later step brings, if it is no cause of refusal
-pub done-stays : {s d : Type 0} (m : ℕ) (T : Tests s d) (n : ℕ) (w : Walker s) → stepOf m T n w .answer ≡ done → (k : ℕ) → sizesFit m k ≡ true
+pub done-stays : {RayData Distance : Type 0} (m : ℕ) (T : Tests RayData Distance) (n : ℕ) (w : Walker RayData) → stepOf m T n w .answer ≡ done
+    → (k : ℕ) → sizesFit m k ≡ true
     → stepOf m T k (stepOf m T n w .walker) ≡ stay (stepOf m T n w .walker) done
 done-stays m T n w e k z =
     let l = subst (λ (a : Answer). Leaves m T n w a (stepOf m T n w .walker)) e (step-leaves m T n w) in

@@ -19,16 +19,17 @@ use Rattle.walk.proofs.Valid.{Valid, step-valid, step-answered, tell-va
 
 -- ---- what follows an answer
 
-module _ {s d a : Type 0} (m : ℕ) (T : Tests s d) (react : ℕ → s → a → Reaction d a) (P : QueryOutcome s a → Type 0) where
-  pub follow-cases : (b : Answer) (u : Walker s) (x : a) (go : Walker s → a → QueryOutcome s a)
-      → (Going b → (l : List d) (y : a) → P (go (toldAll T l u) y))
-      → ((p : ℕ) (l : List d) (y : a) → P (record { walker = toldAll T l u; accumulator = y; ended = position p }))
+module _ {RayData Distance a : Type 0} (m : ℕ) (T : Tests RayData Distance) (react : ℕ → RayData → a → Reaction Distance a)
+    (P : QueryOutcome RayData a → Type 0) where
+  pub follow-cases : (b : Answer) (u : Walker RayData) (x : a) (go : Walker RayData → a → QueryOutcome RayData a)
+      → (Going b → (l : List Distance) (y : a) → P (go (toldAll T l u) y))
+      → ((p : ℕ) (l : List Distance) (y : a) → P (record { walker = toldAll T l u; accumulator = y; ended = position p }))
       → P (record { walker = u; accumulator = x; ended = done })
       → ((e : ℕ) → b ≡ refused e → P (record { walker = u; accumulator = x; ended = refused e }))
       → P (follow m T react b u x go)
   follow-cases (tested c) u x go on stopped over refusal = on tt [] x
   follow-cases (position p) u x go on stopped over refusal =
-      let r : Reaction d a = react p (u .ray) x in
+      let r : Reaction Distance a = react p (u .ray) x in
       cond-elim P (r .stop) _ _ (λ _. stopped p (r .tells) (r .accumulator)) (λ _. on tt (r .tells) (r .accumulator))
   follow-cases done u x go on stopped over refusal = over
   follow-cases (refused e) u x go on stopped over refusal = refusal e refl
@@ -36,13 +37,13 @@ module _ {s d a : Type 0} (m : ℕ) (T : Tests s d) (react : ℕ → s → a →
 -- ---- the measure
 
 -- no more steps than this are left: each test brings at most 24 positions
-abbrev pub stepsLeft : {s : Type 0} → ℕ → Walker s → ℕ
+abbrev pub stepsLeft : {RayData : Type 0} → ℕ → Walker RayData → ℕ
 stepsLeft m w = 25 * (m - w .tests) + length (w .positions)
 
-module _ {s d : Type 0} (m : ℕ) (T : Tests s d) (narrow : Narrow m T) where
-  pub step-falls : (n : ℕ) (w : Walker s) → Going (stepOf m T n w .answer) → stepsLeft m (stepOf m T n w .walker) < stepsLeft m w
+module _ {RayData Distance : Type 0} (m : ℕ) (T : Tests RayData Distance) (narrow : Narrow m T) where
+  pub step-falls : (n : ℕ) (w : Walker RayData) → Going (stepOf m T n w .answer) → stepsLeft m (stepOf m T n w .walker) < stepsLeft m w
   step-falls n w =
-      step-cases m T n w (λ (r : Stepped s). Going (r .answer) → stepsLeft m (r .walker) < stepsLeft m w)
+      step-cases m T n w (λ (r : Stepped RayData). Going (r .answer) → stepsLeft m (r .walker) < stepsLeft m w)
       (record {
         refuses = λ e c g. absurd g;
         ends = λ f e g. absurd g;
@@ -52,40 +53,42 @@ module _ {s d : Type 0} (m : ℕ) (T : Tests s d) (narrow : Narrow m T) where
         visits = λ c r st v g. omega (arith, v .untested, narrow (w .ray) n c (v .accepted) (v .node) (v .rule));
       })
 
-  module _ {a : Type 0} (react : ℕ → s → a → Reaction d a) where
-    pub told-left : (l : List d) (w : Walker s) → stepsLeft m (toldAll T l w) ≡ stepsLeft m w
+  module _ {a : Type 0} (react : ℕ → RayData → a → Reaction Distance a) where
+    pub told-left : (l : List Distance) (w : Walker RayData) → stepsLeft m (toldAll T l w) ≡ stepsLeft m w
     told-left [] w = refl
     told-left (x ∷ l) w = told-left l (tellOf T x w)
 
     -- ---- any record
 
-    halts : (f n : ℕ) (w : Walker s) (x : a) → stepsLeft m w < f → Halted (query m T react f n w x .ended)
+    halts : (f n : ℕ) (w : Walker RayData) (x : a) → stepsLeft m w < f → Halted (query m T react f n w x .ended)
     unfolding query
     halts zero n w x h = absurd (omega arith)
     halts (suc f) n w x h =
-        follow-cases m T react (λ (o : QueryOutcome s a). Halted (o .ended)) (stepOf m T n w .answer) (stepOf m T n w .walker) x (query m T react f n)
+        follow-cases m T react (λ (o : QueryOutcome RayData a). Halted (o .ended)) (stepOf m T n w .answer) (stepOf m T n w .walker) x
+        (query m T react f n)
         (λ g l y. halts f n (toldAll T l (stepOf m T n w .walker)) y (omega (arith, step-falls n w g, told-left l (stepOf m T n w .walker))))
         (λ p l y. tt) tt (λ e z. tt)
 
     -- a query from a walker just begun ends within the steps that it is given
-    pub query-halts : (n : ℕ) (ray : s) (x : a) → Halted (query m T react (stepsFor m) n (fresh ray) x .ended)
+    pub query-halts : (n : ℕ) (ray : RayData) (x : a) → Halted (query m T react (stepsFor m) n (fresh ray) x .ended)
     query-halts n ray x = halts (stepsFor m) n (fresh ray) x (omega arith)
 
     -- more steps change nothing
-    pub query-enough : (f g n : ℕ) (w : Walker s) (x : a) → stepsLeft m w < f → stepsLeft m w < g → query m T react f n w x ≡ query m T react g n w x
+    pub query-enough : (f g n : ℕ) (w : Walker RayData) (x : a) → stepsLeft m w < f → stepsLeft m w < g
+        → query m T react f n w x ≡ query m T react g n w x
     unfolding query
     query-enough zero g n w x h k = absurd (omega arith)
     query-enough (suc f) zero n w x h k = absurd (omega arith)
     query-enough (suc f) (suc g) n w x h k = go (stepOf m T n w .answer) (stepOf m T n w .walker) (step-falls n w) (query-enough f g n)
       where
-        go : (b : Answer) (u : Walker s) → (Going b → stepsLeft m u < stepsLeft m w)
-            → ((u : Walker s) (x : a) → stepsLeft m u < f → stepsLeft m u < g → query m T react f n u x ≡ query m T react g n u x)
+        go : (b : Answer) (u : Walker RayData) → (Going b → stepsLeft m u < stepsLeft m w)
+            → ((u : Walker RayData) (x : a) → stepsLeft m u < f → stepsLeft m u < g → query m T react f n u x ≡ query m T react g n u x)
             → follow m T react b u x (query m T react f n) ≡ follow m T react b u x (query m T react g n)
         go (tested c) u l i = i u x (omega (arith, l tt)) (omega (arith, l tt))
         go (position p) u l i =
-            let r : Reaction d a = react p (u .ray) x in
+            let r : Reaction Distance a = react p (u .ray) x in
             let z = told-left (r .tells) u in
-            ap (λ (o : QueryOutcome s a). cond (r .stop)
+            ap (λ (o : QueryOutcome RayData a). cond (r .stop)
             (record { walker = toldAll T (r .tells) u; accumulator = r .accumulator; ended = position p }) o)
             (i (toldAll T (r .tells) u) (r .accumulator) (omega (arith, l tt)) (omega (arith, l tt)))
         go done u l i = refl
@@ -93,25 +96,25 @@ module _ {s d : Type 0} (m : ℕ) (T : Tests s d) (narrow : Narrow m T) where
 
 -- ---- a query is its list of calls
 
-module _ {s d a : Type 0} (m : ℕ) (T : Tests s d) (react : ℕ → s → a → Reaction d a) where
-  pub tell-run : (l : List d) (k : List (Op d)) (w : Walker s) → runOps m T (tellings l ++ k) w ≡ runOps m T k (toldAll T l w)
+module _ {RayData Distance a : Type 0} (m : ℕ) (T : Tests RayData Distance) (react : ℕ → RayData → a → Reaction Distance a) where
+  pub tell-run : (l : List Distance) (k : List (Op Distance)) (w : Walker RayData) → runOps m T (tellings l ++ k) w ≡ runOps m T k (toldAll T l w)
   unfolding runOps
   tell-run [] k w = refl
   tell-run (x ∷ l) k w = tell-run l k (tellOf T x w)
 
   -- the walker that a query ends with is the one that its calls lead to
-  pub query-run : (f n : ℕ) (w : Walker s) (x : a) → runOps m T (queryCalls m T react f n w x) w .walker ≡ query m T react f n w x .walker
+  pub query-run : (f n : ℕ) (w : Walker RayData) (x : a) → runOps m T (queryCalls m T react f n w x) w .walker ≡ query m T react f n w x .walker
   unfolding runOps query queryCalls
   query-run zero n w x = refl
   query-run (suc f) n w x = go (stepOf m T n w .answer) (stepOf m T n w .walker) (query-run f n)
     where
-      go : (b : Answer) (v : Walker s) → ((u : Walker s) (y : a) → runOps m T (queryCalls m T react f n u y) u .walker
+      go : (b : Answer) (v : Walker RayData) → ((u : Walker RayData) (y : a) → runOps m T (queryCalls m T react f n u y) u .walker
           ≡ query m T react f n u y .walker)
           → runOps m T (callsAfter m T react b v x (queryCalls m T react f n)) v .walker ≡ follow m T react b v x (query m T react f n) .walker
       go (tested c) v h = h v x
       go (position p) v h = rw tell-run (stopped (react p (v .ray) x))
         where
-          stopped : (r : Reaction d a)
+          stopped : (r : Reaction Distance a)
               → runOps m T (cond (r .stop) [] (queryCalls m T react f n (toldAll T (r .tells) v) (r .accumulator))) (toldAll T (r .tells) v) .walker
               ≡ cond (r .stop) (record { walker = toldAll T (r .tells) v; accumulator = r .accumulator; ended = position p })
               (query m T react f n (toldAll T (r .tells) v) (r .accumulator)) .walker
@@ -127,13 +130,13 @@ module _ {s d a : Type 0} (m : ℕ) (T : Tests s d) (react : ℕ → s → a →
       go (refused e) v h = refl
 
 -- any-hit has noted what its calls reported
-pub any-hit-run : {s d : Type 0} (m : ℕ) (T : Tests s d) (f n : ℕ) (w : Walker s) (x : List ℕ)
+pub any-hit-run : {RayData Distance : Type 0} (m : ℕ) (T : Tests RayData Distance) (f n : ℕ) (w : Walker RayData) (x : List ℕ)
     → query m T append f n w x .accumulator ≡ x ++ reported (runOps m T (queryCalls m T append f n w x) w .answers)
 unfolding runOps query queryCalls
 any-hit-run m T zero n w x = sym (append-nil x)
-any-hit-run {s} m T (suc f) n w x = go (stepOf m T n w .answer) (stepOf m T n w .walker) (any-hit-run m T f n)
+any-hit-run {RayData} m T (suc f) n w x = go (stepOf m T n w .answer) (stepOf m T n w .walker) (any-hit-run m T f n)
   where
-    go : (b : Answer) (v : Walker s) → ((u : Walker s) (y : List ℕ) → query m T append f n u y .accumulator
+    go : (b : Answer) (v : Walker RayData) → ((u : Walker RayData) (y : List ℕ) → query m T append f n u y .accumulator
         ≡ y ++ reported (runOps m T (queryCalls m T append f n u y) u .answers))
         → follow m T append b v x (query m T append f n) .accumulator
         ≡ x ++ (reportOf b ++ reported (runOps m T (callsAfter m T append b v x (queryCalls m T append f n)) v .answers))
@@ -144,19 +147,19 @@ any-hit-run {s} m T (suc f) n w x = go (stepOf m T n w .answer) (stepOf m T n w 
 
 -- ---- a sound record
 
-module _ {s d a : Type 0} {S : Shape} {Rule : ℕ → Type 0} {T : Tests s d} (K : SoundTests S Rule T) (U : Unrefused S T)
-    (react : ℕ → s → a → Reaction d a) where
-  told-valid : (l : List d) (w : Walker s) → Valid K w → Valid K (toldAll T l w)
+module _ {RayData Distance a : Type 0} {S : Shape} {Rule : ℕ → Type 0} {T : Tests RayData Distance} (K : SoundTests S Rule T) (U : Unrefused S T)
+    (react : ℕ → RayData → a → Reaction Distance a) where
+  told-valid : (l : List Distance) (w : Walker RayData) → Valid K w → Valid K (toldAll T l w)
   told-valid [] w v = v
   told-valid (x ∷ l) w v = told-valid l (tellOf T x w) (tell-valid K x w v)
 
   -- the walk refuses no query
-  ends : (f : ℕ) (w : Walker s) (x : a) → Valid K w → Halted (query (S .nodes) T react f (S .positions) w x .ended)
+  ends : (f : ℕ) (w : Walker RayData) (x : a) → Valid K w → Halted (query (S .nodes) T react f (S .positions) w x .ended)
       → Ended (query (S .nodes) T react f (S .positions) w x .ended)
   unfolding query
   ends zero w x v = λ h. h
   ends (suc f) w x v =
-      follow-cases (S .nodes) T react (λ (o : QueryOutcome s a). Halted (o .ended) → Ended (o .ended))
+      follow-cases (S .nodes) T react (λ (o : QueryOutcome RayData a). Halted (o .ended) → Ended (o .ended))
       (stepOf (S .nodes) T (S .positions) w .answer) (stepOf (S .nodes) T (S .positions) w .walker) x (query (S .nodes) T react f (S .positions))
       (λ g l y. ends f (toldAll T l (stepOf (S .nodes) T (S .positions) w .walker)) y
       (told-valid l (stepOf (S .nodes) T (S .positions) w .walker) (step-valid K (S .positions) w v)))
@@ -164,7 +167,7 @@ module _ {s d a : Type 0} {S : Shape} {Rule : ℕ → Type 0} {T : Tests s d} (K
       (λ e z h. absurd (subst Answered z (step-answered K U w v)))
 
   -- a query from a walker just begun is done, or stops at a position
-  pub query-answered : (ray : s) → T .forged ray ≡ false → (x : a)
+  pub query-answered : (ray : RayData) → T .forged ray ≡ false → (x : a)
       → Ended (query (S .nodes) T react (stepsFor (S .nodes)) (S .positions) (fresh ray) x .ended)
   unfolding query
   query-answered ray f x = go (decLt 0 (S .nodes))

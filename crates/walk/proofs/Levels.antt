@@ -18,7 +18,7 @@ use Rattle.walk.proofs.Lists.{in-head, in-tail, in-none}
 use Rattle.walk.proofs.Dues.{test-hand, no-hand}
 use Rattle.walk.proofs.Cases.{Visits, step-cases}
 
-module _ {s d : Type 0} {S : Shape} {Rule : ℕ → Type 0} {T : Tests s d} (K : SoundTests S Rule T) where
+module _ {RayData Distance : Type 0} {S : Shape} {Rule : ℕ → Type 0} {T : Tests RayData Distance} (K : SoundTests S Rule T) where
   -- node c exists and lies at level a or deeper
   pub record Deep (a c : ℕ) : Type 0 where
     pub node : c < S .nodes
@@ -41,7 +41,7 @@ module _ {s d : Type 0} {S : Shape} {Rule : ℕ → Type 0} {T : Tests s d} (K :
   InHand [] st = Unit {0}
   InHand (c ∷ r) st = (c < S .nodes → Deep (length (push r st)) c) × AllDeep (suc (length st)) r
 
-  pub record Levels (w : Walker s) : Type 0 where
+  pub record Levels (w : Walker RayData) : Type 0 where
     pub in-hand : InHand (w .group) (w .stack)
     pub waiting : Waiting (w .stack)
 
@@ -76,7 +76,7 @@ module _ {s d : Type 0} {S : Shape} {Rule : ℕ → Type 0} {T : Tests s d} (K :
   group-ready (c ∷ r) st i h = record { this = i .0; rest = i .1; below = h }
   group-ready [] st i h = stack-ready st h
 
-  pub at-node : (w : Walker s) (c : ℕ) (r : List ℕ) (st : List (List ℕ)) → Levels w → dueOf (w .positions) (w .group) (w .stack) ≡ test c r st
+  pub at-node : (w : Walker RayData) (c : ℕ) (r : List ℕ) (st : List (List ℕ)) → Levels w → dueOf (w .positions) (w .group) (w .stack) ≡ test c r st
       → AtNode c r st
   at-node w c r st l e =
       subst Ready (no-hand (w .positions) (w .group) (w .stack) (test c r st) (test-hand (w .positions) (w .group) (w .stack) c r st e) e)
@@ -106,7 +106,7 @@ module _ {s d : Type 0} {S : Shape} {Rule : ℕ → Type 0} {T : Tests s d} (K :
   push-waiting [] st f w = w
   push-waiting (x ∷ r) st f w = (f, w)
 
-  pub test-levels : (n : ℕ) (w : Walker s) (c : ℕ) (r : List ℕ) (st : List (List ℕ)) → Levels w → Visits (S .nodes) T n w c r st
+  pub test-levels : (n : ℕ) (w : Walker RayData) (c : ℕ) (r : List ℕ) (st : List (List ℕ)) → Levels w → Visits (S .nodes) T n w c r st
       → Levels (afterTest T w c r st .walker)
   test-levels n w c r st l v =
       let a = at-node w c r st l (v .is-due) in
@@ -117,9 +117,9 @@ module _ {s d : Type 0} {S : Shape} {Rule : ℕ → Type 0} {T : Tests s d} (K :
         waiting = push-waiting r st (a .rest) (a .below);
       }
 
-  step-levels : (n : ℕ) (w : Walker s) → Levels w → Levels (stepOf (S .nodes) T n w .walker)
+  step-levels : (n : ℕ) (w : Walker RayData) → Levels w → Levels (stepOf (S .nodes) T n w .walker)
   step-levels n w l =
-      step-cases (S .nodes) T n w (λ (r : Stepped s). Levels (r .walker))
+      step-cases (S .nodes) T n w (λ (r : Stepped RayData). Levels (r .walker))
       (record {
         refuses = λ e c. l;
         ends = λ f e. l;
@@ -128,13 +128,13 @@ module _ {s d : Type 0} {S : Shape} {Rule : ℕ → Type 0} {T : Tests s d} (K :
         visits = λ c r st v. test-levels n w c r st l v;
       })
 
-  pub run-levels : (l : List (Op d)) (w : Walker s) → Levels w → Levels (runOps (S .nodes) T l w .walker)
+  pub run-levels : (l : List (Op Distance)) (w : Walker RayData) → Levels w → Levels (runOps (S .nodes) T l w .walker)
   unfolding runOps
   run-levels [] w h = h
   run-levels (step n ∷ l) w h = run-levels l (stepOf (S .nodes) T n w .walker) (step-levels n w h)
   run-levels (tell y ∷ l) w h = run-levels l (tellOf T y w) (record { in-hand = h .in-hand; waiting = h .waiting })
 
-  pub fresh-levels : (ray : s) → Levels (fresh ray)
+  pub fresh-levels : (ray : RayData) → Levels (fresh ray)
   unfolding Level
   fresh-levels ray = record { in-hand = (λ h. record { node = h; level = 0; at-level = refl; deep = omega arith }, λ c i. in-none c i); waiting = tt }
 
@@ -145,6 +145,7 @@ module _ {s d : Type 0} {S : Shape} {Rule : ℕ → Type 0} {T : Tests s d} (K :
   waiting-few e most ((c ∷ r) ∷ st) h = let z = h .0 c (in-head c r) in omega (arith, most c (z .level) (z .node) (z .at-level), z .deep)
 
   -- the waiting groups do not outnumber the deepest level
-  pub calls-wait-few : (e : ℕ) → Deepest S e → (l : List (Op d)) (ray : s) → length (runOps (S .nodes) T l (fresh ray) .walker .stack) ≤ e
+  pub calls-wait-few : (e : ℕ) → Deepest S e → (l : List (Op Distance)) (ray : RayData)
+      → length (runOps (S .nodes) T l (fresh ray) .walker .stack) ≤ e
   calls-wait-few e deepest l ray = waiting-few e (deepest .most) (runOps (S .nodes) T l (fresh ray) .walker .stack)
       (run-levels l (fresh ray) (fresh-levels ray) .waiting)

@@ -18,7 +18,8 @@ use Rattle.walk.proofs.Gather.{Rising, gather-none, gather-is}
 use Rattle.walk.proofs.Subtrees.{childRange, child-rises, range-ends, held-ends, total-first, total-once}
 use Rattle.walk.proofs.Once.{children-part}
 
-module _ {s d : Type 0} {S : Shape} {Rule : ℕ → Type 0} {T : Tests s d} (K : SoundTests S Rule T) (ray : s) (accepted : T .forged ray ≡ false) where
+module _ {RayData Distance : Type 0} {S : Shape} {Rule : ℕ → Type 0} {T : Tests RayData Distance} (K : SoundTests S Rule T) (ray : RayData)
+    (accepted : T .forged ray ≡ false) where
   pub passed-rises : Rising (S .nodes) (T .children ray)
   passed-rises v h c i = child-rises S Rule (K .lawful .placed) (K .sound) v h c (omega (arith, children-part K ray v c accepted h))
 

@@ -32,8 +32,8 @@ not-not true false = refl
 not-not false true = refl
 not-not false false = refl
 
-module _ {s d : Type 0} (W : WalkRecord s d) (mask : s → ℕ → ℕ) (H : MaskLaws W mask) where
-  positions-are : (ray : s) (n v : ℕ) → W .forged ray ≡ false → v < W .shape .nodes → W .rule n v ≡ true
+module _ {RayData Distance : Type 0} (W : WalkRecord RayData Distance) (mask : RayData → ℕ → ℕ) (H : MaskLaws W mask) where
+  positions-are : (ray : RayData) (n v : ℕ) → W .forged ray ≡ false → v < W .shape .nodes → W .rule n v ≡ true
       → positionsIn (λ p. not (W .admits ray p)) (passedPositions (fieldsOf W mask) ray v) ≡ positionsPassed W ray v
   positions-are ray n v f h r =
       falling-cut (λ b. W .positionBase v + b) held 24 32 (omega arith)
@@ -48,7 +48,7 @@ module _ {s d : Type 0} (W : WalkRecord s d) (mask : s → ℕ → ℕ) (H : Mas
       held : ℕ → Bool
       held b = admitted b && isSet b (mask ray v % 0x100_0000)
 
-  children-are : (ray : s) (n v : ℕ) → W .forged ray ≡ false → v < W .shape .nodes → W .rule n v ≡ true
+  children-are : (ray : RayData) (n v : ℕ) → W .forged ray ≡ false → v < W .shape .nodes → W .rule n v ≡ true
       → childrenIn (W .octant ray) (passedChildren (fieldsOf W mask) ray v) ≡ childrenPassed W ray v
   unfolding childIndex
   children-are ray n v f h r =

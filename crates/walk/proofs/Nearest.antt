@@ -47,14 +47,14 @@ both : {A : Type 0} {b : Bool} → b ≡ true → b ≡ false → A
 both e f = clash (sym f ∙ e)
 
 -- A strict order of distances: between two of them every number lies above the lesser or below the greater.
-pub record Order {d : Type 0} (less : d → d → Bool) (Number : d → Type 0) : Type 0 where
-  pub through : (x y z : d) → less x y ≡ true → less y z ≡ true → less x z ≡ true
-  pub self : (x : d) → less x x ≡ false
-  pub between : (x y z : d) → Number z → less x y ≡ true → less x z ≡ false → less z y ≡ true
+pub record Order {Distance : Type 0} (less : Distance → Distance → Bool) (Number : Distance → Type 0) : Type 0 where
+  pub through : (x y z : Distance) → less x y ≡ true → less y z ≡ true → less x z ≡ true
+  pub self : (x : Distance) → less x x ≡ false
+  pub between : (x y z : Distance) → Number z → less x y ≡ true → less x z ≡ false → less z y ≡ true
 
-module _ {d : Type 0} (less : d → d → Bool) {Number : d → Type 0} (order : Order less Number) where
+module _ {Distance : Type 0} (less : Distance → Distance → Bool) {Number : Distance → Type 0} (order : Order less Number) where
   -- where y is below z and x is not, x is not below y
-  not-below : (x y z : d) → less y z ≡ true → less x z ≡ false → less x y ≡ false
+  not-below : (x y z : Distance) → less y z ≡ true → less x z ≡ false → less x y ≡ false
   not-below x y z e f = go (less x y) refl
     where
       go : (c : Bool) → less x y ≡ c → less x y ≡ false
@@ -62,15 +62,15 @@ module _ {d : Type 0} (less : d → d → Bool) {Number : d → Type 0} (order :
       go true h = both (order .through x y z h e) f
 
   -- where x is below z and the number y is not, x is below y
-  is-below : (x y z : d) → Number y → less x z ≡ true → less y z ≡ false → less x y ≡ true
+  is-below : (x y z : Distance) → Number y → less x z ≡ true → less y z ≡ false → less x y ≡ true
   is-below x y z n e f = go (less x y) refl
     where
       go : (c : Bool) → less x y ≡ c → less x y ≡ true
       go true h = h
       go false h = both (order .between x z y n e h) f
 
-module _ {d : Type 0} (less : d → d → Bool) (distanceOf : ℕ → d) where
-  module _ (reach : d) where
+module _ {Distance : Type 0} (less : Distance → Distance → Bool) (distanceOf : ℕ → Distance) where
+  module _ (reach : Distance) where
     -- a list with a position below the reach is not without one
     pub nearest-below : (l : List ℕ) (p : ℕ) → Nearest less distanceOf reach l p → NoneBelow less distanceOf reach l → ⊥
     nearest-below l p N h = both (N .below) (all-at _ (N .before) p (N .after) (subst (NoneBelow less distanceOf reach) (N .met) h))
@@ -93,7 +93,7 @@ module _ {d : Type 0} (less : d → d → Bool) (distanceOf : ℕ → d) where
 
   -- ---- a position in front of others
 
-  module _ {Number : d → Type 0} (order : Order less Number) (p : ℕ) (l : List ℕ) (reach : d) where
+  module _ {Number : Distance → Type 0} (order : Order less Number) (p : ℕ) (l : List ℕ) (reach : Distance) where
     -- it is below the reach: it is the nearest, if none of the others is nearer,
     pub front-nearest : less (distanceOf p) reach ≡ true → NoneBelow less distanceOf (distanceOf p) l → Nearest less distanceOf reach (p ∷ l) p
     front-nearest e h = record { before = []; after = l; met = refl; below = e; none-nearer = (order .self (distanceOf p), h); farther = tt }

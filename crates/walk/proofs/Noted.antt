@@ -12,38 +12,41 @@ use Rattle.walk.proofs.Lists.{all-map}
 use Rattle.walk.proofs.Nearest.{up-to-same, Order, front-nearest, nearer-later, nearest-stays, blocks-stays}
 
 -- Nearer is less than the ray's reach, a distance told that is less becomes the reach, and telling moves no pane.
-pub record Reaching {s d : Type 0} (told : d → s → s) (pane : ℕ → s → Pane d) (nearer : d → s → Bool) (less : d → d → Bool) (reach : s → d)
+pub record Reaching {RayData Distance : Type 0} (told : Distance → RayData → RayData) (pane : ℕ → RayData → Pane Distance)
+    (nearer : Distance → RayData → Bool) (less : Distance → Distance → Bool) (reach : RayData → Distance)
     : Type 0 where
-  pub nearer-is : (t : d) (r : s) → nearer t r ≡ less t (reach r)
-  pub told-reach : (t : d) (r : s) → less t (reach r) ≡ true → reach (told t r) ≡ t
-  pub told-pane : (p : ℕ) (t : d) (r : s) → pane p (told t r) ≡ pane p r
+  pub nearer-is : (t : Distance) (r : RayData) → nearer t r ≡ less t (reach r)
+  pub told-reach : (t : Distance) (r : RayData) → less t (reach r) ≡ true → reach (told t r) ≡ t
+  pub told-pane : (p : ℕ) (t : Distance) (r : RayData) → pane p (told t r) ≡ pane p r
 
 -- Position q has a pane, at its distance, and that is a number.
-pub record Seen {s d : Type 0} (pane : ℕ → s → Pane d) (Number : d → Type 0) (distanceOf : ℕ → d) (r : s) (q : ℕ) : Type 0 where
+pub record Seen {RayData Distance : Type 0} (pane : ℕ → RayData → Pane Distance) (Number : Distance → Type 0) (distanceOf : ℕ → Distance)
+    (r : RayData) (q : ℕ) : Type 0 where
   pub pane-is : pane q r ≡ distance (distanceOf q)
   pub number : Number (distanceOf q)
 
-module _ {d : Type 0} (less : d → d → Bool) (distanceOf : ℕ → d) (reach : d) where
+module _ {Distance : Type 0} (less : Distance → Distance → Bool) (distanceOf : ℕ → Distance) (reach : Distance) where
   -- From x noted and these positions closest has come to y: it kept x, none being below the reach, or noted the nearest.
-  pub data Picks (x y : Found d) (l : List ℕ) : Type 0 where
+  pub data Picks (x y : Found Distance) (l : List ℕ) : Type 0 where
     kept : y ≡ x → NoneBelow less distanceOf reach l → Picks x y l
     nearest : (p : ℕ) → y ≡ hit p (distanceOf p) → Nearest less distanceOf reach l p → Picks x y l
 
   -- And miss: it kept x likewise, or noted the first below the reach.
-  pub data Stops (x y : Found d) (l : List ℕ) : Type 0 where
+  pub data Stops (x y : Found Distance) (l : List ℕ) : Type 0 where
     missed : y ≡ x → NoneBelow less distanceOf reach l → Stops x y l
     blocked : (p : ℕ) → y ≡ hit p (distanceOf p) → Blocks less distanceOf reach l p → Stops x y l
 
-module _ {s d : Type 0} (m : ℕ) (T : Tests s d) (pane : ℕ → s → Pane d) (nearer : d → s → Bool) (less : d → d → Bool) (reach : s → d)
-    (R : Reaching (T .told) pane nearer less reach) (Number : d → Type 0) (order : Order less Number) (distanceOf : ℕ → d) where
-  abbrev Sees : s → ℕ → Type 0
+module _ {RayData Distance : Type 0} (m : ℕ) (T : Tests RayData Distance) (pane : ℕ → RayData → Pane Distance) (nearer : Distance → RayData → Bool)
+    (less : Distance → Distance → Bool) (reach : RayData → Distance)
+    (R : Reaching (T .told) pane nearer less reach) (Number : Distance → Type 0) (order : Order less Number) (distanceOf : ℕ → Distance) where
+  abbrev Sees : RayData → ℕ → Type 0
   Sees = Seen pane Number distanceOf
 
   abbrev React : Type 0
-  React = Reaction d (Found d)
+  React = Reaction Distance (Found Distance)
 
   -- the notes of the positions after a reaction
-  abbrev After : (ℕ → s → Found d → React) → s → List ℕ → Found d → React → Type 0
+  abbrev After : (ℕ → RayData → Found Distance → React) → RayData → List ℕ → Found Distance → React → Type 0
   After react r l y k = elim (k .stop) as (λ (b : Bool). Type 0) [
     | true ↦ (l ≡ []) × (y ≡ k .accumulator)
     | false ↦ Notes m T react (toldRay T (k .tells) r) (k .accumulator) l y
@@ -51,55 +54,56 @@ module _ {s d : Type 0} (m : ℕ) (T : Tests s d) (pane : ℕ → s → Pane d) 
 
   -- ---- closest
 
-  told-seen : (t : d) (r : s) (q : ℕ) → Sees r q → Sees (T .told t r) q
+  told-seen : (t : Distance) (r : RayData) (q : ℕ) → Sees r q → Sees (T .told t r) q
   told-seen t r q h = record { pane-is = R .told-pane q t r ∙ h .pane-is; number = h .number }
 
-  closest-is : (p : ℕ) (r : s) (x : Found d) → Sees r p
+  closest-is : (p : ℕ) (r : RayData) (x : Found Distance) → Sees r p
       → closest pane nearer p r x ≡ lower pane nearer (less (distanceOf p) (reach r)) p (distanceOf p) x
   closest-is p r x h =
-      ap (λ (q : Pane d). lowerAt pane nearer q p r x) (h .pane-is)
+      ap (λ (q : Pane Distance). lowerAt pane nearer q p r x) (h .pane-is)
       ∙ ap (λ (c : Bool). lower pane nearer c p (distanceOf p) x) (R .nearer-is (distanceOf p) r)
 
   -- a position below the reach, the others seen from its distance; and one that is not
-  lowers : (p : ℕ) (r : d) (x y : Found d) (l : List ℕ) → less (distanceOf p) r ≡ true
+  lowers : (p : ℕ) (r : Distance) (x y : Found Distance) (l : List ℕ) → less (distanceOf p) r ≡ true
       → Picks less distanceOf (distanceOf p) (hit p (distanceOf p)) y l → Picks less distanceOf r x y (p ∷ l)
   lowers p r x y l e (kept k h) = nearest p k (front-nearest less distanceOf order p l r e h)
   lowers p r x y l e (nearest q k N) = nearest q k (nearer-later less distanceOf order p l r e q N)
 
-  passes : (p : ℕ) (r : d) (x y : Found d) (l : List ℕ) → Number (distanceOf p) → less (distanceOf p) r ≡ false
+  passes : (p : ℕ) (r : Distance) (x y : Found Distance) (l : List ℕ) → Number (distanceOf p) → less (distanceOf p) r ≡ false
       → Picks less distanceOf r x y l → Picks less distanceOf r x y (p ∷ l)
   passes p r x y l n e (kept k h) = kept k (e, h)
   passes p r x y l n e (nearest q k N) = nearest q k (nearest-stays less distanceOf order p l r n e q N)
 
-  pub closest-picks : (l : List ℕ) (r : s) (x y : Found d) → All (Sees r) l → Notes m T (closest pane nearer) r x l y
+  pub closest-picks : (l : List ℕ) (r : RayData) (x y : Found Distance) → All (Sees r) l → Notes m T (closest pane nearer) r x l y
       → Picks less distanceOf (reach r) x y l
   closest-picks [] r x y h n = kept n tt
   closest-picks (p ∷ l) r x y h n =
       go (less (distanceOf p) (reach r)) refl (subst (After (closest pane nearer) r l y) (closest-is p r x (h .0)) n) (closest-picks l)
     where
       go : (c : Bool) → less (distanceOf p) (reach r) ≡ c → After (closest pane nearer) r l y (lower pane nearer c p (distanceOf p) x)
-          → ((r : s) (x y : Found d) → All (Sees r) l → Notes m T (closest pane nearer) r x l y → Picks less distanceOf (reach r) x y l)
+          → ((r : RayData) (x y : Found Distance) → All (Sees r) l → Notes m T (closest pane nearer) r x l y → Picks less distanceOf (reach r) x y l)
           → Picks less distanceOf (reach r) x y (p ∷ l)
       go true e k f =
           lowers p (reach r) x y l e
-          (subst (λ (t : d). Picks less distanceOf t (hit p (distanceOf p)) y l) (R .told-reach (distanceOf p) r e)
+          (subst (λ (t : Distance). Picks less distanceOf t (hit p (distanceOf p)) y l) (R .told-reach (distanceOf p) r e)
           (f (T .told (distanceOf p) r) (hit p (distanceOf p)) y (all-map (told-seen (distanceOf p) r) l (h .1)) k))
       go false e k f = passes p (reach r) x y l (h .0 .number) e (f r x y (h .1) k)
 
   -- ---- miss
 
-  abbrev blockedBy : Bool → ℕ → Found d → React
+  abbrev blockedBy : Bool → ℕ → Found Distance → React
   blockedBy c p x = record { accumulator = cond c (hit p (distanceOf p)) x; tells = []; stop = c }
 
-  miss-is : (p : ℕ) (r : s) (x : Found d) → Sees r p → miss pane nearer p r x ≡ blockedBy (less (distanceOf p) (reach r)) p x
-  miss-is p r x h = ap (λ (q : Pane d). blockAt pane nearer q p r x) (h .pane-is) ∙ ap (λ (c : Bool). blockedBy c p x) (R .nearer-is (distanceOf p) r)
+  miss-is : (p : ℕ) (r : RayData) (x : Found Distance) → Sees r p → miss pane nearer p r x ≡ blockedBy (less (distanceOf p) (reach r)) p x
+  miss-is p r x h = ap (λ (q : Pane Distance). blockAt pane nearer q p r x) (h .pane-is) ∙ ap (λ (c : Bool). blockedBy c p x)
+      (R .nearer-is (distanceOf p) r)
 
-  later : (p : ℕ) (r : d) (x y : Found d) (l : List ℕ) → less (distanceOf p) r ≡ false → Stops less distanceOf r x y l
+  later : (p : ℕ) (r : Distance) (x y : Found Distance) (l : List ℕ) → less (distanceOf p) r ≡ false → Stops less distanceOf r x y l
       → Stops less distanceOf r x y (p ∷ l)
   later p r x y l e (missed k h) = missed k (e, h)
   later p r x y l e (blocked q k B) = blocked q k (blocks-stays less distanceOf order p l r e q B)
 
-  pub miss-stops : (l : List ℕ) (r : s) (x y : Found d) → All (Sees r) l → Notes m T (miss pane nearer) r x l y
+  pub miss-stops : (l : List ℕ) (r : RayData) (x y : Found Distance) → All (Sees r) l → Notes m T (miss pane nearer) r x l y
       → Stops less distanceOf (reach r) x y l
   miss-stops [] r x y h n = missed n tt
   miss-stops (p ∷ l) r x y h n =
@@ -111,7 +115,7 @@ module _ {s d : Type 0} (m : ℕ) (T : Tests s d) (pane : ℕ → s → Pane d) 
       go false e k f = later p (reach r) x y l e (f k)
 
   -- the first position that stops it is the first below the reach
-  pub stops-below : (l : List ℕ) (r : s) → All (Sees r) l
+  pub stops-below : (l : List ℕ) (r : RayData) → All (Sees r) l
       → upTo (λ p. miss pane nearer p r none .stop) l ≡ upTo (λ p. less (distanceOf p) (reach r)) l
   stops-below l r h =
       up-to-same (λ p. miss pane nearer p r none .stop) (λ p. less (distanceOf p) (reach r)) l

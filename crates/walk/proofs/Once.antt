@@ -20,16 +20,16 @@ use Rattle.walk.proofs.Cases.{Visits, step-cases}
 use Rattle.walk.proofs.Subtrees.{childRange, total, total-is, range-ends, total-once}
 
 -- the sum of a weight over all nodes left to test, whether the ray passes them or not
-abbrev pub left : {s : Type 0} → (ℕ → ℕ) → Walker s → ℕ
+abbrev pub left : {RayData : Type 0} → (ℕ → ℕ) → Walker RayData → ℕ
 left f w = sumOver f (w .group) + sums f (w .stack)
 
-module _ {s d : Type 0} {S : Shape} {Rule : ℕ → Type 0} {T : Tests s d} (K : SoundTests S Rule T) where
+module _ {RayData Distance : Type 0} {S : Shape} {Rule : ℕ → Type 0} {T : Tests RayData Distance} (K : SoundTests S Rule T) where
   -- the children that a ray passes are a part of the child range
-  pub children-part : (ray : s) (v c : ℕ) → T .forged ray ≡ false → v < S .nodes → count c (T .children ray v) ≤ count c (childRange S v)
+  pub children-part : (ray : RayData) (v c : ℕ) → T .forged ray ≡ false → v < S .nodes → count c (T .children ray v) ≤ count c (childRange S v)
   children-part ray v c f h = omega (arith, K .lawful .own-children ray v c f h (K .sound .rule v h), count-range c (S .base v) (S .children v))
 
   -- a test of c takes c's own weight from what is left, and perhaps more
-  pub left-falls : (f : ℕ → ℕ) (n : ℕ) (w : Walker s) (c : ℕ) (r : List ℕ) (st : List (List ℕ)) → Visits (S .nodes) T n w c r st
+  pub left-falls : (f : ℕ → ℕ) (n : ℕ) (w : Walker RayData) (c : ℕ) (r : List ℕ) (st : List (List ℕ)) → Visits (S .nodes) T n w c r st
       → f c + left (total S f) (afterTest T w c r st .walker) ≤ left (total S f) w
   left-falls f n w c r st v =
       omega (
@@ -42,14 +42,15 @@ module _ {s d : Type 0} {S : Shape} {Rule : ℕ → Type 0} {T : Tests s d} (K :
       )
 
   -- how often x is in hand, or held by a node that is left to test or lies below one
-  abbrev pub remaining : ℕ → Walker s → ℕ
+  abbrev pub remaining : ℕ → Walker RayData → ℕ
   remaining x w = count x (w .positions) + left (total S (λ v. positionsHeld S v x)) w
 
-  step-remaining : (x n : ℕ) (w : Walker s) → count x (reportOf (stepOf (S .nodes) T n w .answer)) + remaining x (stepOf (S .nodes) T n w .walker) ≤
+  step-remaining : (x n : ℕ) (w : Walker RayData)
+      → count x (reportOf (stepOf (S .nodes) T n w .answer)) + remaining x (stepOf (S .nodes) T n w .walker) ≤
       remaining x w
   unfolding count sumOver
   step-remaining x n w =
-      step-cases (S .nodes) T n w (λ (r : Stepped s). count x (reportOf (r .answer)) + remaining x (r .walker) ≤ remaining x w)
+      step-cases (S .nodes) T n w (λ (r : Stepped RayData). count x (reportOf (r .answer)) + remaining x (r .walker) ≤ remaining x w)
       (record {
         refuses = λ e c. omega arith;
         ends = λ f e. omega arith;
@@ -62,7 +63,7 @@ module _ {s d : Type 0} {S : Shape} {Rule : ℕ → Type 0} {T : Tests s d} (K :
             omega (arith, left-falls (λ u. positionsHeld S u x) n w c r st v, own);
       })
 
-  run-remaining : (x : ℕ) (l : List (Op d)) (w : Walker s)
+  run-remaining : (x : ℕ) (l : List (Op Distance)) (w : Walker RayData)
       → count x (reported (runOps (S .nodes) T l w .answers)) + remaining x (runOps (S .nodes) T l w .walker) ≤ remaining x w
   unfolding runOps count
   run-remaining x [] w = omega arith
@@ -75,10 +76,10 @@ module _ {s d : Type 0} {S : Shape} {Rule : ℕ → Type 0} {T : Tests s d} (K :
       )
   run-remaining x (tell y ∷ l) w = run-remaining x l (tellOf T y w)
 
-  pub reported-once : (l : List (Op d)) (ray : s) (x : ℕ) → count x (reported (runOps (S .nodes) T l (fresh ray) .answers)) ≤ 1
+  pub reported-once : (l : List (Op Distance)) (ray : RayData) (x : ℕ) → count x (reported (runOps (S .nodes) T l (fresh ray) .answers)) ≤ 1
   unfolding count sumOver
   reported-once l ray x = omega (arith, run-remaining x l (fresh ray), total-once S Rule (K .lawful .placed) (K .sound) x)
 
   -- no position is reported twice
-  pub calls-report-once : (l : List (Op d)) (ray : s) → List·Nodup (reported (runOps (S .nodes) T l (fresh ray) .answers))
+  pub calls-report-once : (l : List (Op Distance)) (ray : RayData) → List·Nodup (reported (runOps (S .nodes) T l (fresh ray) .answers))
   calls-report-once l ray = no-duplicates (reported (runOps (S .nodes) T l (fresh ray) .answers)) (reported-once l ray)

@@ -36,32 +36,32 @@ counted n k h f = go (some? n)
     go (none e) = omega arith
     go (some e) = omega (arith, f e)
 
-pub slots-narrow : {s d : Type 0} (W : WalkRecord s d) (m : ℕ) → Narrow m (testsOf W)
+pub slots-narrow : {RayData Distance : Type 0} (W : WalkRecord RayData Distance) (m : ℕ) → Narrow m (testsOf W)
 slots-narrow W m ray n v f h r = falling-length (λ b. W .positionBase v + b) (λ b. passedPosition W ray v (W .positionBase v + b)) 24
 
 -- ---- what the tests of a slot tell
 
-module _ {s d : Type 0} (W : WalkRecord s d) where
-  pub child-tells : (ray : s) (v j : ℕ) → Tells ((innerBit (W .imask v) j ≡ 1) × (W .passes ray v j ≡ true)) (passedChild W ray v j)
+module _ {RayData Distance : Type 0} (W : WalkRecord RayData Distance) where
+  pub child-tells : (ray : RayData) (v j : ℕ) → Tells ((innerBit (W .imask v) j ≡ 1) × (W .passes ray v j ≡ true)) (passedChild W ray v j)
   child-tells ray v j = and-tells (eqb-tells (innerBit (W .imask v) j) 1) (true-tells (W .passes ray v j))
 
   -- a slot of node v whose leaf range holds x, and that the ray passes
-  abbrev pub PassedSlot : s → ℕ → ℕ → Type 0
+  abbrev pub PassedSlot : RayData → ℕ → ℕ → Type 0
   PassedSlot ray v x = (j : ℕ) × (j < 8) × ((inRange x (W .shape .start v j) (W .shape .count v j) ≡ 1) × (W .passes ray v j ≡ true))
 
-  pub slot-tells : (ray : s) (v x : ℕ) → Tells (PassedSlot ray v x) (inPassedSlot W ray v x)
+  pub slot-tells : (ray : RayData) (v x : ℕ) → Tells (PassedSlot ray v x) (inPassedSlot W ray v x)
   slot-tells ray v x =
       some-tells (λ j. (inRange x (W .shape .start v j) (W .shape .count v j) ≡ 1) × (W .passes ray v j ≡ true)) _
       (λ j. and-tells (eqb-tells (inRange x (W .shape .start v j) (W .shape .count v j)) 1) (true-tells (W .passes ray v j))) 8
 
-  pub position-tells : (ray : s) (v x : ℕ) → Tells (PassedSlot ray v x × (W .admits ray x ≡ true)) (passedPosition W ray v x)
+  pub position-tells : (ray : RayData) (v x : ℕ) → Tells (PassedSlot ray v x × (W .admits ray x ≡ true)) (passedPosition W ray v x)
   position-tells ray v x = and-tells (slot-tells ray v x) (true-tells (W .admits ray x))
 
-module _ {s d : Type 0} (W : WalkRecord s d) (Rule : ℕ → Type 0) (laws : SlotLaws W Rule) where
+module _ {RayData Distance : Type 0} (W : WalkRecord RayData Distance) (Rule : ℕ → Type 0) (laws : SlotLaws W Rule) where
   -- ---- children
 
   -- a child is found exactly if it stands at a slot of imask that the ray passes
-  pub children-iff : (ray : s) (v c : ℕ) → W .forged ray ≡ false
+  pub children-iff : (ray : RayData) (v c : ℕ) → W .forged ray ≡ false
       → In c (childrenPassed W ray v) ↔ PassesChild W ray v c
   children-iff ray v c f = (to, from)
     where
@@ -88,7 +88,7 @@ module _ {s d : Type 0} (W : WalkRecord s d) (Rule : ℕ → Type 0) (laws : Slo
           (falling-in (λ k. childNumber W v (bitXor k (W .octant ray))) (λ k. passedChild W ray v (bitXor k (W .octant ray))) 8
           (bitXor j (W .octant ray)) (xor-lt 3 j (W .octant ray) (q .of-eight) o) t)
 
-  slots-apart : (ray : s) (v i j : ℕ) → W .forged ray ≡ false → i < 8 → j < 8 → passedChild W ray v (bitXor i (W .octant ray)) ≡ true
+  slots-apart : (ray : RayData) (v i j : ℕ) → W .forged ray ≡ false → i < 8 → j < 8 → passedChild W ray v (bitXor i (W .octant ray)) ≡ true
       → passedChild W ray v (bitXor j (W .octant ray)) ≡ true
       → childNumber W v (bitXor i (W .octant ray)) ≡ childNumber W v (bitXor j (W .octant ray)) → i ≡ j
   unfolding childIndex
@@ -101,7 +101,7 @@ module _ {s d : Type 0} (W : WalkRecord s d) (Rule : ℕ → Type 0) (laws : Slo
       let z : x ≡ y = rank-inj x y (W .imask v) p q (omega arith) in
       sym (slot-back i (W .octant ray) h o) ∙ ap (λ (u : ℕ). bitXor u (W .octant ray)) z ∙ slot-back j (W .octant ray) k o
 
-  own-children : (ray : s) (v c : ℕ) → W .forged ray ≡ false → v < W .shape .nodes
+  own-children : (ray : RayData) (v c : ℕ) → W .forged ray ≡ false → v < W .shape .nodes
       → count c (childrenPassed W ray v) ≤ inRange c (W .shape .base v) (W .shape .children v)
   unfolding childIndex
   own-children ray v c f h =
@@ -116,7 +116,7 @@ module _ {s d : Type 0} (W : WalkRecord s d) (Rule : ℕ → Type 0) (laws : Slo
   -- ---- positions
 
   -- a position is found exactly if it stands in the leaf range of a slot that the ray passes, and passes itself
-  pub positions-iff : (ray : s) (v x : ℕ) → v < W .shape .nodes → Rule v
+  pub positions-iff : (ray : RayData) (v x : ℕ) → v < W .shape .nodes → Rule v
       → In x (positionsPassed W ray v) ↔ PassesPosition W ray v x
   positions-iff ray v x h rule = (to, from)
     where
@@ -148,7 +148,7 @@ module _ {s d : Type 0} (W : WalkRecord s d) (Rule : ℕ → Type 0) (laws : Slo
           (falling-in (λ b. W .positionBase v + b) (λ b. passedPosition W ray v (W .positionBase v + b)) 24 (x - W .positionBase v)
           (omega (arith, u .0, u .1)) t)
 
-  own-positions : (ray : s) (v x : ℕ) → v < W .shape .nodes → Rule v → count x (positionsPassed W ray v) ≤ positionsHeld (W .shape) v x
+  own-positions : (ray : RayData) (v x : ℕ) → v < W .shape .nodes → Rule v → count x (positionsPassed W ray v) ≤ positionsHeld (W .shape) v x
   own-positions ray v x h rule =
       counted (count x (positionsPassed W ray v)) (positionsHeld (W .shape) v x)
       (falling-once x (λ b. W .positionBase v + b) (λ b. passedPosition W ray v (W .positionBase v + b)) 24 (λ i j k l a b e. omega arith))
@@ -178,7 +178,7 @@ module _ {s d : Type 0} (W : WalkRecord s d) (Rule : ℕ → Type 0) (laws : Slo
 
     -- ---- reached and passed
 
-    module _ (ray : s) (accepted : W .forged ray ≡ false) where
+    module _ (ray : RayData) (accepted : W .forged ray ≡ false) where
       pub reached-iff : (v : ℕ) → ReachedIn (W .shape .nodes) (testsOf W) ray v ↔ ReachedBySlots W ray v
       reached-iff v = (
         reached-map (W .shape .nodes) (λ u c r i. children-iff ray u c accepted .0 i) v,
@@ -194,7 +194,8 @@ module _ {s d : Type 0} (W : WalkRecord s d) (Rule : ℕ → Type 0) (laws : Slo
 
 -- ---- a ray that passes no more slots and admits no more positions than another
 
-module _ {s d : Type 0} (W : WalkRecord s d) (a b : s) (fewer : (v j : ℕ) → W .passes a v j ≡ true → W .passes b v j ≡ true) where
+module _ {RayData Distance : Type 0} (W : WalkRecord RayData Distance) (a b : RayData)
+    (fewer : (v j : ℕ) → W .passes a v j ≡ true → W .passes b v j ≡ true) where
   pub fewer-reached : (v : ℕ) → ReachedBySlots W a v → ReachedBySlots W b v
   fewer-reached =
       reached-map (W .shape .nodes)

@@ -26,19 +26,19 @@ flat-single : (l : List ℕ) → flat single l ≡ l
 flat-single [] = refl
 flat-single (x ∷ l) = ap (x ∷_) (flat-single l)
 
-module _ {s d : Type 0} (m : ℕ) (T : Tests s d) where
+module _ {RayData Distance : Type 0} (m : ℕ) (T : Tests RayData Distance) where
   -- of every node ray q finds no more than ray r
-  pub record Fewer (r q : s) : Type 0 where
+  pub record Fewer (r q : RayData) : Type 0 where
     pub positions : (v p : ℕ) → In p (T .positions q v) → In p (T .positions r v)
     pub children : (v c : ℕ) → In c (T .children q v) → In c (T .children r v)
 
   -- the nodes that a walker holds and has not tested
-  abbrev untested : Walker s → List ℕ
+  abbrev untested : Walker RayData → List ℕ
   untested w = flat single (w .group) ++ flats single (w .stack)
 
-  module _ (fewer : (x : d) (r : s) → Fewer r (T .told x r)) (ray : s) where
+  module _ (fewer : (x : Distance) (r : RayData) → Fewer r (T .told x r)) (ray : RayData) where
     -- what a walker that began with the ray holds, the ray passes and reaches
-    record Came (w : Walker s) : Type 0 where
+    record Came (w : Walker RayData) : Type 0 where
       pub held : Fewer ray (w .ray)
       pub positions : (p : ℕ) → In p (w .positions) → PassedIn m T ray p
       pub nodes : (c : ℕ) → In c (untested w) → c < m → ReachedIn m T ray c
@@ -49,11 +49,11 @@ module _ {s d : Type 0} (m : ℕ) (T : Tests s d) where
     ReportsPassed done = Unit {0}
     ReportsPassed (refused e) = Unit {0}
 
-    record Comes (r : Stepped s) : Type 0 where
+    record Comes (r : Stepped RayData) : Type 0 where
       pub came : Came (r .walker)
       pub passed : ReportsPassed (r .answer)
 
-    step-comes : (n : ℕ) (w : Walker s) → Came w → Comes (stepOf m T n w)
+    step-comes : (n : ℕ) (w : Walker RayData) → Came w → Comes (stepOf m T n w)
     step-comes n w h =
         step-cases m T n w Comes
         (record {
@@ -85,7 +85,7 @@ module _ {s d : Type 0} (m : ℕ) (T : Tests s d) where
         below x c r st here e (inl i) l = child here (h .held .children c x (subst (In x) (flat-single (T .children (w .ray) c)) i))
         below x c r st here e (inr i) l = h .nodes x (subst (In x) (sym e) (in-tail x c _ (subst (In x) (push-flats single r st) i))) l
 
-    tell-came : (x : d) (w : Walker s) → Came w → Came (tellOf T x w)
+    tell-came : (x : Distance) (w : Walker RayData) → Came w → Came (tellOf T x w)
     tell-came x w h = record {
       held = record {
         positions = λ v p i. h .held .positions v p (fewer x (w .ray) .positions v p i);
@@ -95,7 +95,7 @@ module _ {s d : Type 0} (m : ℕ) (T : Tests s d) where
       nodes = h .nodes;
     }
 
-    run-passes : (l : List (Op d)) (w : Walker s) → Came w → All (PassedIn m T ray) (reported (runOps m T l w .answers))
+    run-passes : (l : List (Op Distance)) (w : Walker RayData) → Came w → All (PassedIn m T ray) (reported (runOps m T l w .answers))
     unfolding runOps
     run-passes [] w h = tt
     run-passes (step n ∷ l) w h =
@@ -109,7 +109,7 @@ module _ {s d : Type 0} (m : ℕ) (T : Tests s d) where
     run-passes (tell x ∷ l) w h = run-passes l (tellOf T x w) (tell-came x w h)
 
     -- from a walker just begun
-    pub calls-pass : (l : List (Op d)) → All (PassedIn m T ray) (reported (runOps m T l (fresh ray) .answers))
+    pub calls-pass : (l : List (Op Distance)) → All (PassedIn m T ray) (reported (runOps m T l (fresh ray) .answers))
     calls-pass l =
         run-passes l (fresh ray)
         (record {
@@ -124,25 +124,25 @@ falling-more : (f : ℕ → ℕ) (b c : ℕ → Bool) (w : ℕ) → ((i : ℕ) �
 falling-more f b c w h x i =
     let q = in-falling x f b w i in subst (λ (y : ℕ). In y (falling f c w)) (sym (q .3)) (falling-in f c w (q .0) (q .1) (h (q .0) (q .2)))
 
-module _ {s d : Type 0} (W : WalkRecord s d) where
+module _ {RayData Distance : Type 0} (W : WalkRecord RayData Distance) where
   -- a ray that was told something passes no more slots and admits no more positions, and has its octant
   pub record Lowers : Type 0 where
-    pub passes : (x : d) (r : s) (v j : ℕ) → W .passes (W .told x r) v j ≡ true → W .passes r v j ≡ true
-    pub admits : (x : d) (r : s) (p : ℕ) → W .admits (W .told x r) p ≡ true → W .admits r p ≡ true
-    pub octant : (x : d) (r : s) → W .octant (W .told x r) ≡ W .octant r
+    pub passes : (x : Distance) (r : RayData) (v j : ℕ) → W .passes (W .told x r) v j ≡ true → W .passes r v j ≡ true
+    pub admits : (x : Distance) (r : RayData) (p : ℕ) → W .admits (W .told x r) p ≡ true → W .admits r p ≡ true
+    pub octant : (x : Distance) (r : RayData) → W .octant (W .told x r) ≡ W .octant r
 
   module _ (lowers : Lowers) where
-    child-more : (x : d) (r : s) (v j : ℕ) → passedChild W (W .told x r) v j ≡ true → passedChild W r v j ≡ true
+    child-more : (x : Distance) (r : RayData) (v j : ℕ) → passedChild W (W .told x r) v j ≡ true → passedChild W r v j ≡ true
     child-more x r v j e =
         let t = told (child-tells W (W .told x r) v j) e in tells-true (child-tells W r v j) (t .0, lowers .passes x r v j (t .1))
 
-    position-more : (x : d) (r : s) (v p : ℕ) → passedPosition W (W .told x r) v p ≡ true → passedPosition W r v p ≡ true
+    position-more : (x : Distance) (r : RayData) (v p : ℕ) → passedPosition W (W .told x r) v p ≡ true → passedPosition W r v p ≡ true
     position-more x r v p e =
         let t = told (position-tells W (W .told x r) v p) e in
         tells-true (position-tells W r v p)
         ((t .0 .0, t .0 .1, (t .0 .2 .0, lowers .passes x r v (t .0 .0) (t .0 .2 .1))), lowers .admits x r p (t .1))
 
-    pub slots-fewer : (x : d) (r : s) → Fewer (W .shape .nodes) (testsOf W) r (W .told x r)
+    pub slots-fewer : (x : Distance) (r : RayData) → Fewer (W .shape .nodes) (testsOf W) r (W .told x r)
     slots-fewer x r = record {
       positions = λ v p i. falling-more (λ b. W .positionBase v + b) _ _ 24 (λ b e. position-more x r v (W .positionBase v + b) e) p i;
       children = λ v c i.

@@ -33,9 +33,9 @@ has-room : (r : List ℕ) (st : List (List ℕ)) → length st < 32 → noRoom r
 has-room [] st h = refl
 has-room (x ∷ r) st h = lt-leb 32 (length st) h
 
-module _ {s d : Type 0} {S : Shape} {Rule : ℕ → Type 0} {T : Tests s d} (K : SoundTests S Rule T) where
+module _ {RayData Distance : Type 0} {S : Shape} {Rule : ℕ → Type 0} {T : Tests RayData Distance} (K : SoundTests S Rule T) where
   -- what every walker that comes of a fresh one has
-  pub record Valid (w : Walker s) : Type 0 where
+  pub record Valid (w : Walker RayData) : Type 0 where
     pub accepted : T .forged (w .ray) ≡ false
     pub levels : Levels K w
     pub positions : (p : ℕ) → In p (w .positions) → p < S .positions
@@ -59,7 +59,7 @@ module _ {s d : Type 0} {S : Shape} {Rule : ℕ → Type 0} {T : Tests s d} (K :
   group-exists (c ∷ r) st i h = i c (in-head c r)
   group-exists [] st i h = stack-exists st h
 
-  node-exists : (w : Walker s) → Valid w → (c : ℕ) (r : List ℕ) (st : List (List ℕ)) → dueOf (w .positions) (w .group) (w .stack) ≡ test c r st
+  node-exists : (w : Walker RayData) → Valid w → (c : ℕ) (r : List ℕ) (st : List (List ℕ)) → dueOf (w .positions) (w .group) (w .stack) ≡ test c r st
       → c < S .nodes
   node-exists w v c r st e =
       subst Exists (no-hand (w .positions) (w .group) (w .stack) (test c r st) (test-hand (w .positions) (w .group) (w .stack) c r st e) e)
@@ -67,14 +67,14 @@ module _ {s d : Type 0} {S : Shape} {Rule : ℕ → Type 0} {T : Tests s d} (K :
 
   -- ---- no refusal
 
-  few-groups : (w : Walker s) → Valid w → length (w .stack) ≤ 31
+  few-groups : (w : Walker RayData) → Valid w → length (w .stack) ≤ 31
   few-groups w v = waiting-few K 31 (K .sound .levels) (w .stack) (v .levels .waiting)
 
-  not-forged : (w : Walker s) → Valid w → forgedWalker (S .nodes) T w ≡ false
+  not-forged : (w : Walker RayData) → Valid w → forgedWalker (S .nodes) T w ≡ false
   not-forged w v =
       rw (v .accepted, le-ltb 32 (length (w .stack)) (omega (arith, few-groups w v)), le-ltb (S .nodes) (w .tests) (omega (arith, v .few)))
 
-  pub no-refusal : Unrefused S T → (w : Walker s) → Valid w → Refusal (S .nodes) T (S .positions) w → ⊥
+  pub no-refusal : Unrefused S T → (w : Walker RayData) → Valid w → Refusal (S .nodes) T (S .positions) w → ⊥
   no-refusal U w v (too-many e) = clash (sym e ∙ fits (S .nodes) (S .positions) (U .positions) (U .nodes))
   no-refusal U w v (forgery e) = clash (sym (not-forged w v) ∙ e)
   no-refusal U w v (no-position p ps e b) =
@@ -103,7 +103,7 @@ module _ {s d : Type 0} {S : Shape} {Rule : ℕ → Type 0} {T : Tests s d} (K :
 
   -- ---- validity is kept
 
-  pub test-valid : (n : ℕ) (w : Walker s) (c : ℕ) (r : List ℕ) (st : List (List ℕ)) → Valid w → Visits (S .nodes) T n w c r st
+  pub test-valid : (n : ℕ) (w : Walker RayData) (c : ℕ) (r : List ℕ) (st : List (List ℕ)) → Valid w → Visits (S .nodes) T n w c r st
       → Valid (afterTest T w c r st .walker)
   test-valid n w c r st v h =
       record {
@@ -122,7 +122,7 @@ module _ {s d : Type 0} {S : Shape} {Rule : ℕ → Type 0} {T : Tests s d} (K :
           let own = K .lawful .own-positions (w .ray) c p (h .accepted) (h .node) (K .sound .rule c (h .node)) in
           absurd (omega (arith, own, held-ends S Rule (K .lawful .placed) (K .sound) c p (h .node) (omega arith)))
 
-  pub report-valid : (n : ℕ) (w : Walker s) (p : ℕ) (ps : List ℕ) → Valid w → Reports (S .nodes) T n w p ps → Valid (afterReport w p ps .walker)
+  pub report-valid : (n : ℕ) (w : Walker RayData) (p : ℕ) (ps : List ℕ) → Valid w → Reports (S .nodes) T n w p ps → Valid (afterReport w p ps .walker)
   report-valid n w p ps v h =
       record {
         accepted = v .accepted;
@@ -133,7 +133,7 @@ module _ {s d : Type 0} {S : Shape} {Rule : ℕ → Type 0} {T : Tests s d} (K :
         few = v .few;
       }
 
-  empty-valid : (w : Walker s) → Valid w → Valid (emptied w .walker)
+  empty-valid : (w : Walker RayData) → Valid w → Valid (emptied w .walker)
   unfolding sumOver
   empty-valid w v =
       record {
@@ -144,9 +144,9 @@ module _ {s d : Type 0} {S : Shape} {Rule : ℕ → Type 0} {T : Tests s d} (K :
         few = omega (arith, v .few);
       }
 
-  pub step-valid : (n : ℕ) (w : Walker s) → Valid w → Valid (stepOf (S .nodes) T n w .walker)
+  pub step-valid : (n : ℕ) (w : Walker RayData) → Valid w → Valid (stepOf (S .nodes) T n w .walker)
   step-valid n w v =
-      step-cases (S .nodes) T n w (λ (r : Stepped s). Valid (r .walker))
+      step-cases (S .nodes) T n w (λ (r : Stepped RayData). Valid (r .walker))
       (record {
         refuses = λ e c. v;
         ends = λ f e. v;
@@ -155,10 +155,10 @@ module _ {s d : Type 0} {S : Shape} {Rule : ℕ → Type 0} {T : Tests s d} (K :
         visits = λ c r st h. test-valid n w c r st v h;
       })
 
-  pub step-answered : Unrefused S T → (w : Walker s) → Valid w
+  pub step-answered : Unrefused S T → (w : Walker RayData) → Valid w
       → Answered (stepOf (S .nodes) T (S .positions) w .answer)
   step-answered U w v =
-      step-cases (S .nodes) T (S .positions) w (λ (r : Stepped s). Answered (r .answer))
+      step-cases (S .nodes) T (S .positions) w (λ (r : Stepped RayData). Answered (r .answer))
       (record {
         refuses = λ e c. absurd (no-refusal U w v c);
         ends = λ f e. tt;
@@ -167,7 +167,7 @@ module _ {s d : Type 0} {S : Shape} {Rule : ℕ → Type 0} {T : Tests s d} (K :
         visits = λ c r st h. tt;
       })
 
-  pub tell-valid : (x : d) (w : Walker s) → Valid w → Valid (tellOf T x w)
+  pub tell-valid : (x : Distance) (w : Walker RayData) → Valid w → Valid (tellOf T x w)
   tell-valid x w v =
       record {
         accepted = K .lawful .told-accepted x (w .ray) (v .accepted);
@@ -177,7 +177,7 @@ module _ {s d : Type 0} {S : Shape} {Rule : ℕ → Type 0} {T : Tests s d} (K :
         few = v .few;
       }
 
-  pub fresh-valid : 0 < S .nodes → (ray : s) → T .forged ray ≡ false → Valid (fresh ray)
+  pub fresh-valid : 0 < S .nodes → (ray : RayData) → T .forged ray ≡ false → Valid (fresh ray)
   unfolding sumOver count
   fresh-valid h ray f =
       record {
@@ -190,7 +190,7 @@ module _ {s d : Type 0} {S : Shape} {Rule : ℕ → Type 0} {T : Tests s d} (K :
 
   -- ---- lists of calls
 
-  run-answered : Unrefused S T → (l : List (Op d)) (w : Walker s) → All (StepsWith (S .positions)) l
+  run-answered : Unrefused S T → (l : List (Op Distance)) (w : Walker RayData) → All (StepsWith (S .positions)) l
       → Valid w → All Answered (runOps (S .nodes) T l w .answers)
   unfolding runOps
   run-answered U [] w a v = tt
@@ -201,13 +201,15 @@ module _ {s d : Type 0} {S : Shape} {Rule : ℕ → Type 0} {T : Tests s d} (K :
   run-answered U (tell x ∷ l) w a v = run-answered U l (tellOf T x w) (a .1) (tell-valid x w v)
 
 -- without nodes a walker just begun is done without a test
-pub empty-step : {s d : Type 0} (T : Tests s d) (n : ℕ) (ray : s) → n ≤ 65536 → T .forged ray ≡ false → stepOf 0 T n (fresh ray) ≡ emptied (fresh ray)
+pub empty-step : {RayData Distance : Type 0} (T : Tests RayData Distance) (n : ℕ) (ray : RayData) → n ≤ 65536 → T .forged ray ≡ false
+    → stepOf 0 T n (fresh ray) ≡ emptied (fresh ray)
 unfolding stepOf
 empty-step T n ray h f = rw (le-leb n 65536 h, f)
 
-module _ {s d : Type 0} {S : Shape} {Rule : ℕ → Type 0} {T : Tests s d} (K : SoundTests S Rule T) where
+module _ {RayData Distance : Type 0} {S : Shape} {Rule : ℕ → Type 0} {T : Tests RayData Distance} (K : SoundTests S Rule T) where
   -- a walker that holds nothing is done at every step
-  over-answered : S .nodes ≡ 0 → S .positions ≤ 65536 → (l : List (Op d)) (ray : s) → T .forged ray ≡ false → All (StepsWith (S .positions)) l
+  over-answered : S .nodes ≡ 0 → S .positions ≤ 65536 → (l : List (Op Distance)) (ray : RayData) → T .forged ray ≡ false
+      → All (StepsWith (S .positions)) l
       → All Answered (runOps (S .nodes) T l (emptied (fresh ray) .walker) .answers)
   unfolding runOps
   over-answered e h [] ray f a = tt
@@ -218,7 +220,8 @@ module _ {s d : Type 0} {S : Shape} {Rule : ℕ → Type 0} {T : Tests s d} (K :
       rw z (tt, over-answered e h l ray f (a .1))
   over-answered e h (tell x ∷ l) ray f a = over-answered e h l (T .told x ray) (K .lawful .told-accepted x ray f) (a .1)
 
-  empty-answered : S .nodes ≡ 0 → S .positions ≤ 65536 → (l : List (Op d)) (ray : s) → T .forged ray ≡ false → All (StepsWith (S .positions)) l
+  empty-answered : S .nodes ≡ 0 → S .positions ≤ 65536 → (l : List (Op Distance)) (ray : RayData) → T .forged ray ≡ false
+      → All (StepsWith (S .positions)) l
       → All Answered (runOps (S .nodes) T l (fresh ray) .answers)
   unfolding runOps
   empty-answered e h [] ray f a = tt
@@ -229,7 +232,7 @@ module _ {s d : Type 0} {S : Shape} {Rule : ℕ → Type 0} {T : Tests s d} (K :
   empty-answered e h (tell x ∷ l) ray f a = empty-answered e h l (T .told x ray) (K .lawful .told-accepted x ray f) (a .1)
 
   -- no step of any list that brings the record's own count is refused
-  pub calls-answered : Unrefused S T → (l : List (Op d)) (ray : s) → T .forged ray ≡ false
+  pub calls-answered : Unrefused S T → (l : List (Op Distance)) (ray : RayData) → T .forged ray ≡ false
       → All (StepsWith (S .positions)) l
       → All Answered (runOps (S .nodes) T l (fresh ray) .answers)
   calls-answered U l ray f a = go (decLt 0 (S .nodes))

@@ -69,15 +69,15 @@ ones-cut n =
     omega (arith, ones-falling f (n % 0x100_0000) 32, falling-length f (λ b. isSet b (n % 0x100_0000)) 24)
 
 -- no more steps than this are left
-abbrev pub stepsLeftWords : {s : Type 0} → ℕ → WalkerWords s → ℕ
+abbrev pub stepsLeftWords : {RayData : Type 0} → ℕ → WalkerWords RayData → ℕ
 stepsLeftWords m w = 25 * (m - w .tests) + onesBelow 32 (w .positions .bits)
 
-module _ {s d : Type 0} (m : ℕ) (N : NodeWords s d) (n : ℕ) (w : WalkerWords s) where
+module _ {RayData Distance : Type 0} (m : ℕ) (N : NodeWords RayData Distance) (n : ℕ) (w : WalkerWords RayData) where
   -- a step that goes on leaves fewer
-  abbrev FallsTo : Answer → WalkerWords s → Type 0
+  abbrev FallsTo : Answer → WalkerWords RayData → Type 0
   FallsTo a u = Going a → stepsLeftWords m u < stepsLeftWords m w
 
-  abbrev Falls : SteppedWords s → Type 0
+  abbrev Falls : SteppedWords RayData → Type 0
   Falls r = FallsTo (r .answer) (r .walker)
 
   visit-falls : (g : Group) (e : ℕ) → Falls (visitWords m N n w g e)
@@ -98,22 +98,22 @@ module _ {s d : Type 0} (m : ℕ) (N : NodeWords s d) (n : ℕ) (w : WalkerWords
       (λ _. visit-falls (unpacked (topOf (w .stack) (waitingDepth (w .stack) (w .depth)))) (waitingDepth (w .stack) (w .depth) - 1))
       (λ _ h. absurd h)))
 
-module _ {s d : Type 0} (m : ℕ) (N : NodeWords s d) where
-  advance-falls : (n : ℕ) (w : WalkerWords s) → WordsFit w → Falls m N n w (advanceWords m N n w)
+module _ {RayData Distance : Type 0} (m : ℕ) (N : NodeWords RayData Distance) where
+  advance-falls : (n : ℕ) (w : WalkerWords RayData) → WordsFit w → Falls m N n w (advanceWords m N n w)
   unfolding advanceWords
   advance-falls n w i =
       go (turnWords m N n (pastSkips N w) .answer) (turnWords m N n (pastSkips N w) .walker) (turn-falls m N n (pastSkips N w) (past-range N w i))
     where
-      fewer : (u : WalkerWords s) → stepsLeftWords m u < stepsLeftWords m (pastSkips N w) → stepsLeftWords m u < stepsLeftWords m w
+      fewer : (u : WalkerWords RayData) → stepsLeftWords m u < stepsLeftWords m (pastSkips N w) → stepsLeftWords m u < stepsLeftWords m w
       fewer u h = omega (arith, ones-skipped (N .skips (w .ray)) 32 (w .positions) (i .positions))
 
-      go : (a : Answer) (u : WalkerWords s) → FallsTo m N n (pastSkips N w) a u → FallsTo m N n w a (leaving w a u)
+      go : (a : Answer) (u : WalkerWords RayData) → FallsTo m N n (pastSkips N w) a u → FallsTo m N n w a (leaving w a u)
       go (tested v) u h = λ g. fewer u (h tt)
       go (position p) u h = λ g. fewer u (h tt)
       go done u h = λ g. absurd g
       go (refused e) u h = λ g. absurd g
 
-  pub words-fall : (n : ℕ) (w : WalkerWords s) → WordsFit w → Going (stepWords m N n w .answer)
+  pub words-fall : (n : ℕ) (w : WalkerWords RayData) → WordsFit w → Going (stepWords m N n w .answer)
       → stepsLeftWords m (stepWords m N n w .walker) < stepsLeftWords m w
   unfolding stepWords
   words-fall n w i =
@@ -122,14 +122,14 @@ module _ {s d : Type 0} (m : ℕ) (N : NodeWords s d) where
       (λ _. cond-elim (Falls m N n w) (leb m 0 && onlyFirstWords m N (pastSkips N w)) _ _ (λ _ h. absurd h) (λ _. advance-falls n w i)))
       (λ _ h. absurd h)
 
-module _ {s d : Type 0} (m : ℕ) (N : NodeWords s d) (ps cs : s → ℕ → List ℕ) (D : Decodes m N ps cs) where
-  module _ {a : Type 0} (react : ℕ → s → a → Reaction d a) where
-    told-left : (l : List d) (w : WalkerWords s) → stepsLeftWords m (toldAllWords N l w) ≡ stepsLeftWords m w
+module _ {RayData Distance : Type 0} (m : ℕ) (N : NodeWords RayData Distance) (ps cs : RayData → ℕ → List ℕ) (D : Decodes m N ps cs) where
+  module _ {a : Type 0} (react : ℕ → RayData → a → Reaction Distance a) where
+    told-left : (l : List Distance) (w : WalkerWords RayData) → stepsLeftWords m (toldAllWords N l w) ≡ stepsLeftWords m w
     told-left [] w = refl
     told-left (x ∷ l) w = told-left l (tellWords N x w)
 
     -- more steps change nothing
-    pub query-words-enough : (f g n : ℕ) (w : WalkerWords s) (x : a) → WordsFit w → stepsLeftWords m w < f → stepsLeftWords m w < g
+    pub query-words-enough : (f g n : ℕ) (w : WalkerWords RayData) (x : a) → WordsFit w → stepsLeftWords m w < f → stepsLeftWords m w < g
         → queryWords m N react f n w x ≡ queryWords m N react g n w x
     unfolding queryWords
     query-words-enough zero g n w x i h k = absurd (omega arith)
@@ -137,15 +137,15 @@ module _ {s d : Type 0} (m : ℕ) (N : NodeWords s d) (ps cs : s → ℕ → Lis
     query-words-enough (suc f) (suc g) n w x i h k =
         go (stepWords m N n w .answer) (stepWords m N n w .walker) (step-range m N ps cs D n w i) (words-fall m N n w i) (query-words-enough f g n)
       where
-        go : (b : Answer) (u : WalkerWords s) → WordsFit u → (Going b → stepsLeftWords m u < stepsLeftWords m w)
-            → ((u : WalkerWords s) (x : a) → WordsFit u → stepsLeftWords m u < f → stepsLeftWords m u < g → queryWords m N react f n u x
+        go : (b : Answer) (u : WalkerWords RayData) → WordsFit u → (Going b → stepsLeftWords m u < stepsLeftWords m w)
+            → ((u : WalkerWords RayData) (x : a) → WordsFit u → stepsLeftWords m u < f → stepsLeftWords m u < g → queryWords m N react f n u x
             ≡ queryWords m N react g n u x)
             → followWords m N react b u x (queryWords m N react f n) ≡ followWords m N react b u x (queryWords m N react g n)
         go (tested c) u j l q = q u x j (omega (arith, l tt)) (omega (arith, l tt))
         go (position p) u j l q =
-            let r : Reaction d a = react p (u .ray) x in
+            let r : Reaction Distance a = react p (u .ray) x in
             let z = told-left (r .tells) u in
-            ap (λ (o : OutcomeWords s a). cond (r .stop)
+            ap (λ (o : OutcomeWords RayData a). cond (r .stop)
             (record { walker = toldAllWords N (r .tells) u; accumulator = r .accumulator; ended = position p }) o)
             (q (toldAllWords N (r .tells) u) (r .accumulator) (all-range m N ps cs D react (r .tells) u j) (omega (arith, l tt))
             (omega (arith, l tt)))

@@ -23,25 +23,26 @@ first-and-last a b c d e h =
     (and-true a b (q .0) .0, p .1)
 
 -- nothing is left: no position in hand, and no child in hand or in a group that waits
-pub record Finished {s : Type 0} (w : WalkerWords s) : Type 0 where
+pub record Finished {RayData : Type 0} (w : WalkerWords RayData) : Type 0 where
   pub positions : ltb 0 (w .positions .bits) ≡ false
   pub current : hasChild (w .current) ≡ false
   pub stack : ltb 0 (waitingDepth (w .stack) (w .depth)) ≡ false
 
-pub tell-finished : {s d : Type 0} (N : NodeWords s d) (x : d) (w : WalkerWords s) → Finished w → Finished (tellWords N x w)
+pub tell-finished : {RayData Distance : Type 0} (N : NodeWords RayData Distance) (x : Distance) (w : WalkerWords RayData) → Finished w
+    → Finished (tellWords N x w)
 tell-finished N x w f = record { positions = f .positions; current = f .current; stack = f .stack }
 
 -- ---- a turn
 
-module _ {s d : Type 0} (m : ℕ) (N : NodeWords s d) (n : ℕ) (w : WalkerWords s) where
+module _ {RayData Distance : Type 0} (m : ℕ) (N : NodeWords RayData Distance) (n : ℕ) (w : WalkerWords RayData) where
   -- done or refused, a turn leaves the walker as it was, and done only where nothing is left
-  abbrev pub Rests : Answer → WalkerWords s → Type 0
+  abbrev pub Rests : Answer → WalkerWords RayData → Type 0
   Rests (tested v) u = Unit {0}
   Rests (position p) u = Unit {0}
   Rests done u = Finished u × (u ≡ w)
   Rests (refused e) u = u ≡ w
 
-  abbrev RestsOf : SteppedWords s → Type 0
+  abbrev RestsOf : SteppedWords RayData → Type 0
   RestsOf r = Rests (r .answer) (r .walker)
 
   visit-rests : (g : Group) (e : ℕ) → RestsOf (visitWords m N n w g e)
@@ -70,15 +71,15 @@ module _ {s d : Type 0} (m : ℕ) (N : NodeWords s d) (n : ℕ) (w : WalkerWords
     pub unskipped-turn : advanceWords m N n w ≡ turnWords m N n w
     unfolding advanceWords
     unskipped-turn =
-        ap (λ (u : WalkerWords s). let r = turnWords m N n u in record { walker = leaving w (r .answer) (r .walker); answer = r .answer })
+        ap (λ (u : WalkerWords RayData). let r = turnWords m N n u in record { walker = leaving w (r .answer) (r .walker); answer = r .answer })
         same-walker
         ∙ go (turnWords m N n w .answer) (turnWords m N n w .walker) turn-rests
       where
-        go : (a : Answer) (u : WalkerWords s) → Rests a u → _≡_ {A = SteppedWords s} (stayWords (leaving w a u) a) (stayWords u a)
+        go : (a : Answer) (u : WalkerWords RayData) → Rests a u → _≡_ {A = SteppedWords RayData} (stayWords (leaving w a u) a) (stayWords u a)
         go (tested v) u h = refl
         go (position p) u h = refl
         go done u h = refl
-        go (refused e) u h = ap (λ (x : WalkerWords s). stayWords x (refused e)) (sym h)
+        go (refused e) u h = ap (λ (x : WalkerWords RayData). stayWords x (refused e)) (sym h)
 
     pub unskipped-step : stepWords m N n w
         ≡ cond (sizesFit m n)
@@ -87,36 +88,36 @@ module _ {s d : Type 0} (m : ℕ) (N : NodeWords s d) (n : ℕ) (w : WalkerWords
     unfolding stepWords
     unskipped-step =
         rw unskipped-turn
-        (ap (λ (u : WalkerWords s). cond (sizesFit m n)
+        (ap (λ (u : WalkerWords RayData). cond (sizesFit m n)
         (cond (forgedWords m N w) (stayWords w (refused 10)) (cond (leb m 0 && onlyFirstWords m N u) (emptiedWords u) (turnWords m N n w)))
         (stayWords w (refused 2))) same-walker)
 
 -- ---- a step
 
-module _ {s d : Type 0} (m : ℕ) (N : NodeWords s d) (n : ℕ) (w : WalkerWords s) where
+module _ {RayData Distance : Type 0} (m : ℕ) (N : NodeWords RayData Distance) (n : ℕ) (w : WalkerWords RayData) where
   -- ---- what a step leaves
 
-  abbrev pub Leaves : Answer → WalkerWords s → Type 0
+  abbrev pub Leaves : Answer → WalkerWords RayData → Type 0
   Leaves (tested v) u = Unit {0}
   Leaves (position p) u = Unit {0}
   Leaves done u = Finished u × (forgedWords m N u ≡ false)
   Leaves (refused e) u = u ≡ w
 
-  abbrev pub LeavesOf : SteppedWords s → Type 0
+  abbrev pub LeavesOf : SteppedWords RayData → Type 0
   LeavesOf r = Leaves (r .answer) (r .walker)
 
   advance-leaves : forgedWords m N w ≡ false → LeavesOf (advanceWords m N n w)
   unfolding advanceWords
   advance-leaves f = go (turnWords m N n (pastSkips N w) .answer) (turnWords m N n (pastSkips N w) .walker) (turn-rests m N n (pastSkips N w))
     where
-      go : (a : Answer) (u : WalkerWords s) → Rests m N n (pastSkips N w) a u → Leaves a (leaving w a u)
+      go : (a : Answer) (u : WalkerWords RayData) → Rests m N n (pastSkips N w) a u → Leaves a (leaving w a u)
       go (tested v) u h = tt
       go (position p) u h = tt
       go done u h = (h .0, ap (forgedWords m N) (h .1) ∙ f)
       go (refused e) u h = refl
 
   -- the first node put down leaves nothing
-  emptied-finished : (u : WalkerWords s) → leb m 0 && onlyFirstWords m N u ≡ true → Finished (emptiedWords u .walker)
+  emptied-finished : (u : WalkerWords RayData) → leb m 0 && onlyFirstWords m N u ≡ true → Finished (emptiedWords u .walker)
   emptied-finished u a =
       let b =
       first-and-last (eqb (u .positions .bits) 0) (hasChild (u .current)) (eqb (firstChild (N .octant (u .ray)) (u .current)) 0)
@@ -124,7 +125,7 @@ module _ {s d : Type 0} (m : ℕ) (N : NodeWords s d) (n : ℕ) (w : WalkerWords
       record {
         positions = le-ltb 0 (u .positions .bits) (omega (arith, eqb-true (u .positions .bits) 0 (b .0)));
         current = refl;
-        stack = ap (λ (d : ℕ). ltb 0 (waitingDepth (u .stack) d)) (eqb-true (u .depth) 0 (b .1));
+        stack = ap (λ (k : ℕ). ltb 0 (waitingDepth (u .stack) k)) (eqb-true (u .depth) 0 (b .1));
       }
 
   pub words-leave : LeavesOf (stepWords m N n w)
@@ -148,7 +149,8 @@ module _ {s d : Type 0} (m : ℕ) (N : NodeWords s d) (n : ℕ) (w : WalkerWords
       ∙ rw (eq-eqb (w .positions .bits) 0 (omega arith), f .current, and-false (leb m 0), f .positions, f .stack)
 
 -- done stays done, whatever count a later step on the same record brings, if it is no cause of refusal
-pub words-done-stays : {s d : Type 0} (m : ℕ) (N : NodeWords s d) (n : ℕ) (w : WalkerWords s) → stepWords m N n w .answer ≡ done → (k : ℕ)
+pub words-done-stays : {RayData Distance : Type 0} (m : ℕ) (N : NodeWords RayData Distance) (n : ℕ) (w : WalkerWords RayData)
+    → stepWords m N n w .answer ≡ done → (k : ℕ)
     → sizesFit m k ≡ true
     → stepWords m N k (stepWords m N n w .walker) ≡ stayWords (stepWords m N n w .walker) done
 words-done-stays m N n w e k z =

@@ -45,13 +45,14 @@ first-group o h =
     ∙ ap₂ (λ (x : ℕ) (l : List ℕ). x ∷ l) (no-rank (bitXor 7 o) (xor-lt 3 7 o (omega arith) h))
     (children-none o (record { base = 0; bits = 0 }) (omega arith))
 
-module _ {s d : Type 0} (m : ℕ) (N : NodeWords s d) (ps cs : s → ℕ → List ℕ) (D : Decodes m N ps cs) where
-  abbrev T : Tests s d
+module _ {RayData Distance : Type 0} (m : ℕ) (N : NodeWords RayData Distance) (ps cs : RayData → ℕ → List ℕ) (D : Decodes m N ps cs) where
+  abbrev T : Tests RayData Distance
   T = testsWith N ps cs
 
   -- ---- words stay in range
 
-  test-range : (w : WalkerWords s) (g : Group) (e : ℕ) → WordsFit w → g .bits < 2 ^ 32 → g .base < 2 ^ 32 → firstChild (N .octant (w .ray)) g < m
+  test-range : (w : WalkerWords RayData) (g : Group) (e : ℕ) → WordsFit w → g .bits < 2 ^ 32 → g .base < 2 ^ 32
+      → firstChild (N .octant (w .ray)) g < m
       → WordsFit (afterTestWords m N w g e .walker)
   test-range w g e i h b l =
       record {
@@ -62,23 +63,24 @@ module _ {s d : Type 0} (m : ℕ) (N : NodeWords s d) (ps cs : s → ℕ → Lis
         words = pushed-words (w .stack) e (i .room) (hasChild (restOf g)) (packed (restOf g)) (let z = rest-lt g h in omega arith) (i .words);
       }
 
-  abbrev StaysIn : SteppedWords s → Type 0
+  abbrev StaysIn : SteppedWords RayData → Type 0
   StaysIn r = WordsFit (r .walker)
 
-  visit-range : (n : ℕ) (w : WalkerWords s) (g : Group) (e : ℕ) → WordsFit w → g .bits < 2 ^ 32 → g .base < 2 ^ 32 → StaysIn (visitWords m N n w g e)
+  visit-range : (n : ℕ) (w : WalkerWords RayData) (g : Group) (e : ℕ) → WordsFit w → g .bits < 2 ^ 32 → g .base < 2 ^ 32
+      → StaysIn (visitWords m N n w g e)
   unfolding visitWords
   visit-range n w g e i h b =
       cond-elim StaysIn (badChild m N n w g e) (stayWords w (refused 10)) (afterTestWords m N w g e) (λ _. i)
       (λ z. test-range w g e i h b (good-child m N n w g e z .node))
 
-  report-range : (w : WalkerWords s) → WordsFit w → WordsFit (afterReportWords w .walker)
+  report-range : (w : WalkerWords RayData) → WordsFit w → WordsFit (afterReportWords w .walker)
   report-range w i =
       record { positions = rest-lt (w .positions) (i .positions); base = i .base; bits = i .bits; room = i .room; words = i .words }
 
-  empty-range : (w : WalkerWords s) → WordsFit w → WordsFit (emptiedWords w .walker)
+  empty-range : (w : WalkerWords RayData) → WordsFit w → WordsFit (emptiedWords w .walker)
   empty-range w i = record { positions = i .positions; base = omega arith; bits = omega arith; room = i .room; words = i .words }
 
-  turn-range : (n : ℕ) (w : WalkerWords s) → WordsFit w → StaysIn (turnWords m N n w)
+  turn-range : (n : ℕ) (w : WalkerWords RayData) → WordsFit w → StaysIn (turnWords m N n w)
   unfolding turnWords reportWords popWords
   turn-range n w i =
       cond-elim StaysIn (ltb 0 (w .positions .bits)) _ _
@@ -90,18 +92,18 @@ module _ {s d : Type 0} (m : ℕ) (N : NodeWords s d) (ps cs : s → ℕ → Lis
       (top-bits (w .stack) (waitingDepth (w .stack) (w .depth)) (i .words)) (omega arith))
       (λ _. i)))
 
-  advance-range : (n : ℕ) (w : WalkerWords s) → WordsFit w → StaysIn (advanceWords m N n w)
+  advance-range : (n : ℕ) (w : WalkerWords RayData) → WordsFit w → StaysIn (advanceWords m N n w)
   unfolding advanceWords
   advance-range n w i =
       go (turnWords m N n (pastSkips N w) .answer) (turnWords m N n (pastSkips N w) .walker) (turn-range n (pastSkips N w) (past-range N w i))
     where
-      go : (a : Answer) (u : WalkerWords s) → WordsFit u → WordsFit (leaving w a u)
+      go : (a : Answer) (u : WalkerWords RayData) → WordsFit u → WordsFit (leaving w a u)
       go (tested v) u h = h
       go (position p) u h = h
       go done u h = h
       go (refused e) u h = i
 
-  pub step-range : (n : ℕ) (w : WalkerWords s) → WordsFit w → WordsFit (stepWords m N n w .walker)
+  pub step-range : (n : ℕ) (w : WalkerWords RayData) → WordsFit w → WordsFit (stepWords m N n w .walker)
   unfolding stepWords
   step-range n w i =
       cond-elim StaysIn (sizesFit m n) _ _
@@ -112,10 +114,10 @@ module _ {s d : Type 0} (m : ℕ) (N : NodeWords s d) (ps cs : s → ℕ → Lis
 
   -- ---- telling
 
-  pub tell-range : (x : d) (w : WalkerWords s) → WordsFit w → WordsFit (tellWords N x w)
+  pub tell-range : (x : Distance) (w : WalkerWords RayData) → WordsFit w → WordsFit (tellWords N x w)
   tell-range x w i = record { positions = i .positions; base = i .base; bits = i .bits; room = i .room; words = i .words }
 
-  pub tell-decoded : (x : d) (w : WalkerWords s) → decoded N (tellWords N x w) ≡ tellOf T x (decoded N w)
+  pub tell-decoded : (x : Distance) (w : WalkerWords RayData) → decoded N (tellWords N x w) ≡ tellOf T x (decoded N w)
   tell-decoded x w =
       ap₂ (λ (o : ℕ) (skips : ℕ → Bool). record {
         ray = T .told x (w .ray);
@@ -127,7 +129,7 @@ module _ {s d : Type 0} (m : ℕ) (N : NodeWords s d) (ps cs : s → ℕ → Lis
 
   -- ---- a walker just begun
 
-  pub fresh-range : (r : s) → WordsFit (freshWords r)
+  pub fresh-range : (r : RayData) → WordsFit (freshWords r)
   fresh-range r =
       record {
         positions = omega arith;
@@ -138,22 +140,23 @@ module _ {s d : Type 0} (m : ℕ) (N : NodeWords s d) (ps cs : s → ℕ → Lis
             λ i. omega (arith, zeros capacity i);
       }
 
-  pub fresh-decoded : (r : s) → T .forged r ≡ false → decoded N (freshWords r) ≡ fresh r
+  pub fresh-decoded : (r : RayData) → T .forged r ≡ false → decoded N (freshWords r) ≡ fresh r
   fresh-decoded r f =
       ap₂ (λ (l g : List ℕ). record { ray = r; tests = 0; positions = l; group = g; stack = [] })
       (positions-none (N .skips r) (record { base = 0; bits = 0 }) refl) (first-group (N .octant r) (D .octant-lt r f))
 
   -- ---- lists of calls
 
-  pub run-decoded : (l : List (Op d)) (w : WalkerWords s) → WordsFit w → decodedRun N (runWords m N l w) ≡ runOps m T l (decoded N w)
+  pub run-decoded : (l : List (Op Distance)) (w : WalkerWords RayData) → WordsFit w → decodedRun N (runWords m N l w) ≡ runOps m T l (decoded N w)
   unfolding runWords runOps
   run-decoded [] w i = refl
   run-decoded (step n ∷ l) w i =
-      ap (λ (r : Run s). record { walker = r .walker; answers = stepWords m N n w .answer ∷ r .answers })
+      ap (λ (r : Run RayData). record { walker = r .walker; answers = stepWords m N n w .answer ∷ r .answers })
       (run-decoded l (stepWords m N n w .walker) (step-range n w i))
-      ∙ ap (λ (r : Stepped s). record { walker = runOps m T l (r .walker) .walker; answers = r .answer ∷ runOps m T l (r .walker) .answers })
+      ∙ ap (λ (r : Stepped RayData). record { walker = runOps m T l (r .walker) .walker; answers = r .answer ∷ runOps m T l (r .walker) .answers })
       (step-decoded m N ps cs D n w i)
   run-decoded (tell x ∷ l) w i = run-decoded l (tellWords N x w) (tell-range x w i) ∙ ap (runOps m T l) (tell-decoded x w)
 
-  pub calls-decoded : (l : List (Op d)) (r : s) → T .forged r ≡ false → decodedRun N (runWords m N l (freshWords r)) ≡ runOps m T l (fresh r)
+  pub calls-decoded : (l : List (Op Distance)) (r : RayData) → T .forged r ≡ false
+      → decodedRun N (runWords m N l (freshWords r)) ≡ runOps m T l (fresh r)
   calls-decoded l r f = run-decoded l (freshWords r) (fresh-range r) ∙ ap (runOps m T l) (fresh-decoded r f)

@@ -56,13 +56,15 @@ first-same zero d false r [] f g l = rw (f refl, ← l)
 first-same zero d false r (x ∷ st) f g l = rw (f refl, ne-eqb d 0 (λ e. omega (arith, l)))
 
 -- a child that nothing stands in the way of
-pub record GoodChild {s d : Type 0} (m : ℕ) (N : NodeWords s d) (n : ℕ) (w : WalkerWords s) (g : Group) (e : ℕ) : Type 0 where
+pub record GoodChild {RayData Distance : Type 0} (m : ℕ) (N : NodeWords RayData Distance) (n : ℕ) (w : WalkerWords RayData) (g : Group)
+    (e : ℕ) : Type 0 where
   pub roomy : hasChild (restOf g) && not (hasRoom e) ≡ false
   pub node : firstChild (N .octant (w .ray)) g < m
   pub untested : w .tests < m
   pub rule : N .rule n (firstChild (N .octant (w .ray)) g) ≡ true
 
-pub good-child : {s d : Type 0} (m : ℕ) (N : NodeWords s d) (n : ℕ) (w : WalkerWords s) (g : Group) (e : ℕ) → badChild m N n w g e ≡ false
+pub good-child : {RayData Distance : Type 0} (m : ℕ) (N : NodeWords RayData Distance) (n : ℕ) (w : WalkerWords RayData) (g : Group) (e : ℕ)
+    → badChild m N n w g e ≡ false
     → GoodChild m N n w g e
 good-child m N n w g e z =
     let c = firstChild (N .octant (w .ray)) g in
@@ -73,7 +75,7 @@ good-child m N n w g e z =
     record { roomy = a3 .0; node = leb-false m c (a3 .1); untested = leb-false m (w .tests) (a2 .1); rule = not-false-true (N .rule n c) (a .1) }
 
 -- past the positions that are passed over words stay in range
-pub past-range : {s d : Type 0} (N : NodeWords s d) (w : WalkerWords s) → WordsFit w → WordsFit (pastSkips N w)
+pub past-range : {RayData Distance : Type 0} (N : NodeWords RayData Distance) (w : WalkerWords RayData) → WordsFit w → WordsFit (pastSkips N w)
 past-range N w i =
     record {
       positions = skipped-lt (N .skips (w .ray)) 32 (w .positions) (i .positions);
@@ -83,33 +85,33 @@ past-range N w i =
       words = i .words;
     }
 
-module _ {s d : Type 0} (m : ℕ) (N : NodeWords s d) (ps cs : s → ℕ → List ℕ) (D : Decodes m N ps cs) where
-  abbrev T : Tests s d
+module _ {RayData Distance : Type 0} (m : ℕ) (N : NodeWords RayData Distance) (ps cs : RayData → ℕ → List ℕ) (D : Decodes m N ps cs) where
+  abbrev T : Tests RayData Distance
   T = testsWith N ps cs
 
   -- what is due, and whether only the first node is in hand, on the lists
-  abbrev dueIn : WalkerWords s → Due
+  abbrev dueIn : WalkerWords RayData → Due
   dueIn w =
       dueOf (positionsIn (N .skips (w .ray)) (w .positions)) (childrenIn (N .octant (w .ray)) (w .current))
       (groupsIn (N .octant (w .ray)) (w .stack) (w .depth))
 
-  abbrev onlyIn : WalkerWords s → Bool
+  abbrev onlyIn : WalkerWords RayData → Bool
   onlyIn w =
       onlyFirst (positionsIn (N .skips (w .ray)) (w .positions)) (childrenIn (N .octant (w .ray)) (w .current))
       (groupsIn (N .octant (w .ray)) (w .stack) (w .depth))
 
   -- the first position in hand is not passed over
-  abbrev Front : WalkerWords s → Type 0
+  abbrev Front : WalkerWords RayData → Type 0
   Front w = AtFront (N .skips (w .ray)) (w .positions)
 
-  first-held : (w : WalkerWords s) → WordsFit w → Front w → 0 < w .positions .bits
+  first-held : (w : WalkerWords RayData) → WordsFit w → Front w → 0 < w .positions .bits
       → positionsIn (N .skips (w .ray)) (w .positions) ≡ firstPosition (w .positions) ∷ positionsIn (N .skips (w .ray)) (restOf (w .positions))
   first-held w i a h = positions-first (N .skips (w .ray)) (w .positions) h (i .positions) (front-first (N .skips (w .ray)) (w .positions) a h)
 
-  none-held : (w : WalkerWords s) → w .positions .bits ≡ 0 → positionsIn (N .skips (w .ray)) (w .positions) ≡ []
+  none-held : (w : WalkerWords RayData) → w .positions .bits ≡ 0 → positionsIn (N .skips (w .ray)) (w .positions) ≡ []
   none-held w e = positions-none (N .skips (w .ray)) (w .positions) e
 
-  only-same : (w : WalkerWords s) → WordsFit w → N .octant (w .ray) < 8 → Front w → onlyFirstWords m N w ≡ onlyIn w
+  only-same : (w : WalkerWords RayData) → WordsFit w → N .octant (w .ray) < 8 → Front w → onlyFirstWords m N w ≡ onlyIn w
   only-same w i o a = go (decLt 0 (w .positions .bits)) (hasChild (w .current)) refl
     where
       rest : (b : Bool) → hasChild (restOf (w .current)) ≡ b → b ≡ true → (x : ℕ) × (t : List ℕ)
@@ -142,14 +144,15 @@ module _ {s d : Type 0} (m : ℕ) (N : NodeWords s d) (ps cs : s → ℕ → Lis
           (λ z. children-none (N .octant (w .ray)) (restOf (w .current)) (leb-false 0x100_0000 _ z)) (rest (hasChild (restOf (w .current))) refl)
           (groups-length (N .octant (w .ray)) (w .depth) (w .stack)))
 
-  same-walker : (r : s) (t : ℕ) (h k : List ℕ) (g l : List ℕ) (st u : List (List ℕ)) → h ≡ k → g ≡ l → st ≡ u
-      → _≡_ {A = Walker s} (record { ray = r; tests = t; positions = h; group = g; stack = st })
+  same-walker : (r : RayData) (t : ℕ) (h k : List ℕ) (g l : List ℕ) (st u : List (List ℕ)) → h ≡ k → g ≡ l → st ≡ u
+      → _≡_ {A = Walker RayData} (record { ray = r; tests = t; positions = h; group = g; stack = st })
       (record { ray = r; tests = t; positions = k; group = l; stack = u })
   same-walker r t h k g l st u a b c = λ i. record { ray = r; tests = t; positions = a i; group = b i; stack = c i }
 
   -- ---- a visit
 
-  visit-decoded : (n : ℕ) (w : WalkerWords s) (g : Group) (e : ℕ) → T .forged (w .ray) ≡ false → capacity ≤ length (w .stack) → hasChild g ≡ true
+  visit-decoded : (n : ℕ) (w : WalkerWords RayData) (g : Group) (e : ℕ) → T .forged (w .ray) ≡ false → capacity ≤ length (w .stack)
+      → hasChild g ≡ true
       → g .bits < 2 ^ 32 → g .base < 2 ^ 32
       → decodedStep N (visitWords m N n w g e)
       ≡ advance m T n (decoded N w) (test (firstChild (N .octant (w .ray)) g) (childrenIn (N .octant (w .ray)) (restOf g))
@@ -188,7 +191,7 @@ module _ {s d : Type 0} (m : ℕ) (N : NodeWords s d) (ps cs : s → ℕ → Lis
           (groupsIn (N .octant (w .ray)) (w .stack) e)
       after z =
           let k = good-child m N n w g e z in
-          ap (λ (u : Walker s). stay u (tested (firstChild (N .octant (w .ray)) g)))
+          ap (λ (u : Walker RayData). stay u (tested (firstChild (N .octant (w .ray)) g)))
           (same-walker (w .ray) (suc (w .tests)) _ _ _ _ _ _
           (D .positions-are (w .ray) n (firstChild (N .octant (w .ray)) g) f (k .node) (k .rule))
           (D .children-are (w .ray) n (firstChild (N .octant (w .ray)) g) f (k .node) (k .rule))
@@ -196,7 +199,7 @@ module _ {s d : Type 0} (m : ℕ) (N : NodeWords s d) (ps cs : s → ℕ → Lis
 
   -- ---- what is due
 
-  pop-decoded : (n : ℕ) (w : WalkerWords s) (e : ℕ) → WordsFit w → T .forged (w .ray) ≡ false
+  pop-decoded : (n : ℕ) (w : WalkerWords RayData) (e : ℕ) → WordsFit w → T .forged (w .ray) ≡ false
       → (0 < e → hasChild (unpacked (topOf (w .stack) e)) ≡ true)
       → decodedStep N (popWords m N n w e) ≡ advance m T n (decoded N w) (dueWords (N .octant (w .ray)) (w .stack) e)
   unfolding popWords
@@ -207,12 +210,12 @@ module _ {s d : Type 0} (m : ℕ) (N : NodeWords s d) (ps cs : s → ℕ → Lis
       (visit-decoded n w (unpacked (topOf (w .stack) (suc e))) e f (i .room) (h (omega arith)) (top-bits (w .stack) (suc e) (i .words)) (omega arith))
 
   -- a step in words does what is due on the lists
-  abbrev DoesDue : ℕ → WalkerWords s → SteppedWords s → Type 0
+  abbrev DoesDue : ℕ → WalkerWords RayData → SteppedWords RayData → Type 0
   DoesDue n w r =
       decodedStep N r
       ≡ advance m T n (decoded N w) (dueIn w)
 
-  turn-decoded : (n : ℕ) (w : WalkerWords s) → WordsFit w → T .forged (w .ray) ≡ false → Front w → DoesDue n w (turnWords m N n w)
+  turn-decoded : (n : ℕ) (w : WalkerWords RayData) → WordsFit w → T .forged (w .ray) ≡ false → Front w → DoesDue n w (turnWords m N n w)
   unfolding turnWords reportWords
   turn-decoded n w i f front =
       cond-elim (DoesDue n w) (ltb 0 (w .positions .bits)) _ _ (λ a. in-hand (ltb-true 0 _ a))
@@ -222,7 +225,7 @@ module _ {s d : Type 0} (m : ℕ) (N : NodeWords s d) (ps cs : s → ℕ → Lis
       small = D .octant-lt (w .ray) f
 
       go : (x : Due) → dueIn w ≡ x
-          → (r : SteppedWords s) → decodedStep N r ≡ advance m T n (decoded N w) x → DoesDue n w r
+          → (r : SteppedWords RayData) → decodedStep N r ≡ advance m T n (decoded N w) x → DoesDue n w r
       go x e r q = q ∙ ap (advance m T n (decoded N w)) (sym e)
 
       -- an absent position is refused, and so is one that is none of the n
@@ -262,45 +265,45 @@ module _ {s d : Type 0} (m : ℕ) (N : NodeWords s d) (ps cs : s → ℕ → Lis
 
   -- ---- past the positions that are passed over
 
-  past-front : (w : WalkerWords s) → WordsFit w → Front (pastSkips N w)
+  past-front : (w : WalkerWords RayData) → WordsFit w → Front (pastSkips N w)
   past-front w i = skipped-front (N .skips (w .ray)) 32 (w .positions) (omega arith) (i .positions)
 
-  past-decoded : (w : WalkerWords s) → WordsFit w → decoded N (pastSkips N w) ≡ decoded N w
+  past-decoded : (w : WalkerWords RayData) → WordsFit w → decoded N (pastSkips N w) ≡ decoded N w
   past-decoded w i =
       same-walker (w .ray) (w .tests) _ _ _ _ _ _ (skipped-same (N .skips (w .ray)) 32 (w .positions) (i .positions)) refl refl
 
-  advance-decoded : (n : ℕ) (w : WalkerWords s) → WordsFit w → T .forged (w .ray) ≡ false → DoesDue n w (advanceWords m N n w)
+  advance-decoded : (n : ℕ) (w : WalkerWords RayData) → WordsFit w → T .forged (w .ray) ≡ false → DoesDue n w (advanceWords m N n w)
   unfolding advanceWords
   advance-decoded n w i f =
       go (r .answer) (r .walker) (turn-rests m N n (pastSkips N w))
       ∙ turn-decoded n (pastSkips N w) (past-range N w i) f (past-front w i)
-      ∙ ap (λ (u : Walker s). advance m T n u (dueOf (u .positions) (u .group) (u .stack))) (past-decoded w i)
+      ∙ ap (λ (u : Walker RayData). advance m T n u (dueOf (u .positions) (u .group) (u .stack))) (past-decoded w i)
     where
-      r : SteppedWords s
+      r : SteppedWords RayData
       r = turnWords m N n (pastSkips N w)
 
-      go : (a : Answer) (u : WalkerWords s) → Rests m N n (pastSkips N w) a u
-          → _≡_ {A = Stepped s} (stay (decoded N (leaving w a u)) a) (stay (decoded N u) a)
+      go : (a : Answer) (u : WalkerWords RayData) → Rests m N n (pastSkips N w) a u
+          → _≡_ {A = Stepped RayData} (stay (decoded N (leaving w a u)) a) (stay (decoded N u) a)
       go (tested v) u h = refl
       go (position p) u h = refl
       go done u h = refl
-      go (refused e) u h = ap (λ (x : Walker s). stay x (refused e)) (sym (ap (decoded N) h ∙ past-decoded w i))
+      go (refused e) u h = ap (λ (x : Walker RayData). stay x (refused e)) (sym (ap (decoded N) h ∙ past-decoded w i))
 
   -- ---- a step
 
-  same-forged : (w : WalkerWords s) → forgedWords m N w ≡ forgedWalker m T (decoded N w)
+  same-forged : (w : WalkerWords RayData) → forgedWords m N w ≡ forgedWalker m T (decoded N w)
   same-forged w = ap (λ (x : ℕ). T .forged (w .ray) || ltb 32 x || ltb m (w .tests)) (sym (groups-length (N .octant (w .ray)) (w .depth) (w .stack)))
 
-  pub forged-ray : (w : WalkerWords s) → forgedWords m N w ≡ false → T .forged (w .ray) ≡ false
+  pub forged-ray : (w : WalkerWords RayData) → forgedWords m N w ≡ false → T .forged (w .ray) ≡ false
   forged-ray w a = or-false (T .forged (w .ray)) (ltb capacity (w .depth))
       (or-false (T .forged (w .ray) || ltb capacity (w .depth)) (ltb m (w .tests)) a .0) .0
 
-  empty-decoded : (w : WalkerWords s) → decodedStep N (emptiedWords w) ≡ emptied (decoded N w)
+  empty-decoded : (w : WalkerWords RayData) → decodedStep N (emptiedWords w) ≡ emptied (decoded N w)
   empty-decoded w =
-      ap (λ (u : Walker s). stay u done)
+      ap (λ (u : Walker RayData). stay u done)
       (same-walker (w .ray) (w .tests) _ _ _ _ _ _ refl (children-none (N .octant (w .ray)) noGroup (omega arith)) refl)
 
-  unforged-decoded : (n : ℕ) (w : WalkerWords s) → WordsFit w → forgedWords m N w ≡ false
+  unforged-decoded : (n : ℕ) (w : WalkerWords RayData) → WordsFit w → forgedWords m N w ≡ false
       → decodedStep N (cond (leb m 0 && onlyFirstWords m N (pastSkips N w)) (emptiedWords (pastSkips N w)) (advanceWords m N n w))
       ≡ cond (leb m 0 && onlyIn w) (emptied (decoded N w)) (advance m T n (decoded N w) (dueIn w))
   unforged-decoded n w i a =
@@ -308,10 +311,10 @@ module _ {s d : Type 0} (m : ℕ) (N : NodeWords s d) (ps cs : s → ℕ → Lis
       let o = only-same u (past-range N w i) (D .octant-lt (w .ray) (forged-ray w a)) (past-front w i) in
       cond-same (decodedStep N) (leb m 0 && onlyFirstWords m N u) (leb m 0 && onlyIn w) (emptiedWords u) (advanceWords m N n w)
       (emptied (decoded N w)) (advance m T n (decoded N w) (dueIn w))
-      (ap (λ (x : Bool). leb m 0 && x) (o ∙ ap (λ (v : Walker s). onlyFirst (v .positions) (v .group) (v .stack)) (past-decoded w i)))
+      (ap (λ (x : Bool). leb m 0 && x) (o ∙ ap (λ (v : Walker RayData). onlyFirst (v .positions) (v .group) (v .stack)) (past-decoded w i)))
       (λ _. empty-decoded u ∙ ap emptied (past-decoded w i)) (λ _. advance-decoded n w i (forged-ray w a))
 
-  pub step-decoded : (n : ℕ) (w : WalkerWords s) → WordsFit w → decodedStep N (stepWords m N n w) ≡ stepOf m T n (decoded N w)
+  pub step-decoded : (n : ℕ) (w : WalkerWords RayData) → WordsFit w → decodedStep N (stepWords m N n w) ≡ stepOf m T n (decoded N w)
   unfolding stepWords stepOf
   step-decoded n w i =
       cond-same (decodedStep N) (sizesFit m n) (sizesFit m n) (cond (forgedWords m N w) (stayWords w (refused 10)) goes-on) (stayWords w (refused 2))
@@ -320,8 +323,8 @@ module _ {s d : Type 0} (m : ℕ) (N : NodeWords s d) (ps cs : s → ℕ → Lis
       (stay (decoded N w) (refused 10)) goes-on-lists (same-forged w) (λ _. refl) (λ a. unforged-decoded n w i a))
       (λ _. refl)
     where
-      goes-on : SteppedWords s
+      goes-on : SteppedWords RayData
       goes-on = cond (leb m 0 && onlyFirstWords m N (pastSkips N w)) (emptiedWords (pastSkips N w)) (advanceWords m N n w)
 
-      goes-on-lists : Stepped s
+      goes-on-lists : Stepped RayData
       goes-on-lists = cond (leb m 0 && onlyIn w) (emptied (decoded N w)) (advance m T n (decoded N w) (dueIn w))

@@ -11,17 +11,17 @@ All P [] = Unit {0}
 All P (x ∷ l) = P x × All P l
 
 -- one call: a step that brings the count of positions, or a distance told
-pub data Op (d : Type 0) : Type 0 where
-  step : ℕ → Op d
-  tell : d → Op d
+pub data Op (Distance : Type 0) : Type 0 where
+  step : ℕ → Op Distance
+  tell : Distance → Op Distance
 
 -- the walker last held, and the answers of the steps
-pub record Run (s : Type 0) : Type 0 where
-  pub walker : Walker s
+pub record Run (RayData : Type 0) : Type 0 where
+  pub walker : Walker RayData
   pub answers : List Answer
 
 -- each call takes what the one before it left: a refused step leaves the walker that it took
-unfoldable pub runOps : {s d : Type 0} → ℕ → Tests s d → List (Op d) → Walker s → Run s
+unfoldable pub runOps : {RayData Distance : Type 0} → ℕ → Tests RayData Distance → List (Op Distance) → Walker RayData → Run RayData
 unfolding stepOf
 runOps m T [] w = record { walker = w; answers = [] }
 runOps m T (step n ∷ l) w =
@@ -49,6 +49,6 @@ Answered done = Unit {0}
 Answered (refused e) = ⊥
 
 -- a step brings the record's own count
-abbrev pub StepsWith : {d : Type 0} → ℕ → Op d → Type 0
+abbrev pub StepsWith : {Distance : Type 0} → ℕ → Op Distance → Type 0
 StepsWith n (step k) = k ≡ n
 StepsWith n (tell x) = Unit {0}

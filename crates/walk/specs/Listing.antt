@@ -39,7 +39,7 @@ PassedBy m Child Position p = (v : ℕ) × ReachedBy m Child v × Position v p
 
 -- ---- a ray over a record of m nodes, by the lists that its tests give
 
-module _ {s d : Type 0} (m : ℕ) (T : Tests s d) (ray : s) where
+module _ {RayData Distance : Type 0} (m : ℕ) (T : Tests RayData Distance) (ray : RayData) where
   abbrev pub ReachedIn : ℕ → Type 0
   ReachedIn = ReachedBy m (λ v c. In c (T .children ray v))
 

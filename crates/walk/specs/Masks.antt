@@ -7,9 +7,9 @@ use Rattle.walk.specs.Slots.{WalkRecord, passedChild, inPassedSlot}
 use Rattle.walk.specs.Words.{isSet}
 use Rattle.walk.specs.WordStep.{NodeWords}
 
-module _ {s d : Type 0} (W : WalkRecord s d) (mask : s → ℕ → ℕ) where
+module _ {RayData Distance : Type 0} (W : WalkRecord RayData Distance) (mask : RayData → ℕ → ℕ) where
   -- a record's own fields, with a mask for each ray and node
-  abbrev pub fieldsOf : NodeWords s d
+  abbrev pub fieldsOf : NodeWords RayData Distance
   fieldsOf = record {
     rule = W .rule;
     told = W .told;
@@ -24,15 +24,15 @@ module _ {s d : Type 0} (W : WalkRecord s d) (mask : s → ℕ → ℕ) where
   }
 
   pub record MaskLaws : Type 0 where
-    pub octant-lt : (ray : s) → W .forged ray ≡ false → W .octant ray < 8
-    pub octant-told : (x : d) (ray : s) → W .octant (W .told x ray) ≡ W .octant ray
-    pub admits-told : (x : d) (ray : s) → W .admits (W .told x ray) ≡ W .admits ray
-    pub mask-lt : (ray : s) (v : ℕ) → mask ray v < 2 ^ 32
+    pub octant-lt : (ray : RayData) → W .forged ray ≡ false → W .octant ray < 8
+    pub octant-told : (x : Distance) (ray : RayData) → W .octant (W .told x ray) ≡ W .octant ray
+    pub admits-told : (x : Distance) (ray : RayData) → W .admits (W .told x ray) ≡ W .admits ray
+    pub mask-lt : (ray : RayData) (v : ℕ) → mask ray v < 2 ^ 32
     pub imask-lt : (v : ℕ) → v < W .shape .nodes → W .imask v < 256
     pub child-base-lt : (v : ℕ) → v < W .shape .nodes → W .shape .base v < 2 ^ 32
     -- bit b below 24 is the position b past the node's base
-    pub position-bit : (ray : s) (n v b : ℕ) → W .forged ray ≡ false → v < W .shape .nodes → W .rule n v ≡ true → b < 24
+    pub position-bit : (ray : RayData) (n v b : ℕ) → W .forged ray ≡ false → v < W .shape .nodes → W .rule n v ≡ true → b < 24
         → isSet b (mask ray v) ≡ inPassedSlot W ray v (W .positionBase v + b)
     -- bit 24 + k is the child in slot k XOR octant
-    pub child-bit : (ray : s) (n v k : ℕ) → W .forged ray ≡ false → v < W .shape .nodes → W .rule n v ≡ true → k < 8
+    pub child-bit : (ray : RayData) (n v k : ℕ) → W .forged ray ≡ false → v < W .shape .nodes → W .rule n v ≡ true → k < 8
         → isSet (24 + k) (mask ray v) ≡ passedChild W ray v (bitXor k (W .octant ray))

@@ -25,17 +25,17 @@ testedNodes (a ∷ l) = testOf a ++ testedNodes l
 -- ---- queries
 
 -- a ray after several distances were told
-abbrev pub toldRay : {s d : Type 0} → Tests s d → List d → s → s
+abbrev pub toldRay : {RayData Distance : Type 0} → Tests RayData Distance → List Distance → RayData → RayData
 toldRay T [] r = r
 toldRay T (x ∷ l) r = toldRay T l (T .told x r)
 
-module _ {s d a : Type 0} (m : ℕ) (T : Tests s d) (react : ℕ → s → a → Reaction d a) where
+module _ {RayData Distance a : Type 0} (m : ℕ) (T : Tests RayData Distance) (react : ℕ → RayData → a → Reaction Distance a) where
   -- the positions that a query's steps report, in order
-  abbrev pub queryReports : ℕ → ℕ → Walker s → a → List ℕ
+  abbrev pub queryReports : ℕ → ℕ → Walker RayData → a → List ℕ
   queryReports f n w x = reported (runOps m T (queryCalls m T react f n w x) w .answers)
 
   -- From x noted, it reacts to these positions in turn, to each with the ray as told until then, and has noted y. One that stops it is the last.
-  abbrev pub Notes : s → a → List ℕ → a → Type 0
+  abbrev pub Notes : RayData → a → List ℕ → a → Type 0
   Notes r x [] y = y ≡ x
   Notes r x (p ∷ l) y = elim (react p r x .stop) [
     | true ↦ (l ≡ []) × (y ≡ react p r x .accumulator)
@@ -50,7 +50,7 @@ upTo f (p ∷ l) = p ∷ cond (f p) [] (upTo f l)
 -- ---- distances
 
 -- Positions have distances, of which one may be less than another; a reach is one too.
-module _ {d : Type 0} (less : d → d → Bool) (distanceOf : ℕ → d) (reach : d) where
+module _ {Distance : Type 0} (less : Distance → Distance → Bool) (distanceOf : ℕ → Distance) (reach : Distance) where
   -- no position of a list is below the reach
   abbrev pub NoneBelow : List ℕ → Type 0
   NoneBelow l = All (λ q. less (distanceOf q) reach ≡ false) l

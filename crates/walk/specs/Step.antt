@@ -7,8 +7,8 @@ use lib.ListN.{length}
 use Rattle.causes.specs.Sizes.{sizesFit}
 use Rattle.walk.specs.Tests.{Tests}
 
-pub record Walker (s : Type 0) : Type 0 where
-  pub ray : s
+pub record Walker (RayData : Type 0) : Type 0 where
+  pub ray : RayData
   -- how many nodes it has tested
   pub tests : ℕ
   -- one node's passed positions, not yet reported
@@ -26,12 +26,12 @@ pub data Answer : Type 0 where
   refused : ℕ → Answer
 
 -- the walker after a step, and the step's answer
-pub record Stepped (s : Type 0) : Type 0 where
-  pub walker : Walker s
+pub record Stepped (RayData : Type 0) : Type 0 where
+  pub walker : Walker RayData
   pub answer : Answer
 
 -- a walker just begun: only the first node is in hand
-abbrev pub fresh : {s : Type 0} → s → Walker s
+abbrev pub fresh : {RayData : Type 0} → RayData → Walker RayData
 fresh r = record { ray = r; tests = 0; positions = []; group = 0 ∷ []; stack = [] }
 
 -- ---- what is due
@@ -57,7 +57,7 @@ dueOf [] [] st = dueOnStack st
 -- ---- what stands in the way
 
 -- a walker that is forged on a record of m nodes: by its ray, by over 32 groups, or by more tests than nodes
-abbrev pub forgedWalker : {s d : Type 0} → ℕ → Tests s d → Walker s → Bool
+abbrev pub forgedWalker : {RayData Distance : Type 0} → ℕ → Tests RayData Distance → Walker RayData → Bool
 forgedWalker m T w = T .forged (w .ray) || ltb 32 (length (w .stack)) || ltb m (w .tests)
 
 -- the rest of a group would be the 33rd to wait
@@ -66,11 +66,11 @@ noRoom [] st = false
 noRoom (x ∷ r) st = leb 32 (length st)
 
 -- position p is absent, or none of the n
-abbrev pub badPosition : {s d : Type 0} → Tests s d → ℕ → s → ℕ → Bool
+abbrev pub badPosition : {RayData Distance : Type 0} → Tests RayData Distance → ℕ → RayData → ℕ → Bool
 badPosition T n ray p = T .absent ray p || leb n p
 
 -- node c may not be tested: it leaves a 33rd group, or does not exist, or all tests were made, or it breaks the rule
-abbrev pub badNode : {s d : Type 0} → ℕ → Tests s d → ℕ → ℕ → ℕ → List ℕ → List (List ℕ) → Bool
+abbrev pub badNode : {RayData Distance : Type 0} → ℕ → Tests RayData Distance → ℕ → ℕ → ℕ → List ℕ → List (List ℕ) → Bool
 badNode m T n tests c r st = noRoom r st || leb m c || leb m tests || not (T .rule n c)
 
 -- only the first node is in hand and nothing waits
@@ -85,15 +85,15 @@ onlyFirst (p ∷ ps) g st = false
 -- ---- a step
 
 -- the walker stays as it is
-abbrev pub stay : {s : Type 0} → Walker s → Answer → Stepped s
+abbrev pub stay : {RayData : Type 0} → Walker RayData → Answer → Stepped RayData
 stay w a = record { walker = w; answer = a }
 
 -- the group in hand is emptied, and the walk is done
-abbrev pub emptied : {s : Type 0} → Walker s → Stepped s
+abbrev pub emptied : {RayData : Type 0} → Walker RayData → Stepped RayData
 emptied w = record { walker = record { ray = w .ray; tests = w .tests; positions = w .positions; group = []; stack = w .stack }; answer = done }
 
 -- position p was reported
-abbrev pub afterReport : {s : Type 0} → Walker s → ℕ → List ℕ → Stepped s
+abbrev pub afterReport : {RayData : Type 0} → Walker RayData → ℕ → List ℕ → Stepped RayData
 afterReport w p ps =
     record { walker = record { ray = w .ray; tests = w .tests; positions = ps; group = w .group; stack = w .stack }; answer = position p }
 
@@ -103,7 +103,7 @@ push [] st = st
 push (x ∷ r) st = (x ∷ r) ∷ st
 
 -- node c was tested
-abbrev pub afterTest : {s d : Type 0} → Tests s d → Walker s → ℕ → List ℕ → List (List ℕ) → Stepped s
+abbrev pub afterTest : {RayData Distance : Type 0} → Tests RayData Distance → Walker RayData → ℕ → List ℕ → List (List ℕ) → Stepped RayData
 afterTest T w c r st =
     record {
       walker =
@@ -111,13 +111,13 @@ afterTest T w c r st =
       answer = tested c;
     }
 
-abbrev pub advance : {s d : Type 0} → ℕ → Tests s d → ℕ → Walker s → Due → Stepped s
+abbrev pub advance : {RayData Distance : Type 0} → ℕ → Tests RayData Distance → ℕ → Walker RayData → Due → Stepped RayData
 advance m T n w (report p ps) = cond (badPosition T n (w .ray) p) (stay w (refused 10)) (afterReport w p ps)
 advance m T n w (test c r st) = cond (badNode m T n (w .tests) c r st) (stay w (refused 10)) (afterTest T w c r st)
 advance m T n w nothing = stay w done
 
 -- One step on a record of m nodes, taken to have n positions. Without nodes a walker that holds only the first is done, and holds nothing then.
-unfoldable pub stepOf : {s d : Type 0} → ℕ → Tests s d → ℕ → Walker s → Stepped s
+unfoldable pub stepOf : {RayData Distance : Type 0} → ℕ → Tests RayData Distance → ℕ → Walker RayData → Stepped RayData
 stepOf m T n w =
     cond (sizesFit m n)
     (cond (forgedWalker m T w) (stay w (refused 10))
@@ -126,5 +126,5 @@ stepOf m T n w =
     (stay w (refused 2))
 
 -- telling refuses nothing, and changes nothing but the ray
-abbrev pub tellOf : {s d : Type 0} → Tests s d → d → Walker s → Walker s
+abbrev pub tellOf : {RayData Distance : Type 0} → Tests RayData Distance → Distance → Walker RayData → Walker RayData
 tellOf T x w = record { ray = T .told x (w .ray); tests = w .tests; positions = w .positions; group = w .group; stack = w .stack }

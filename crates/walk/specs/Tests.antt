@@ -4,17 +4,17 @@ use mathlib.Core.Bool.{Bool}
 use mathlib.Core.List.{List}
 use Prim.Native.Nat.{ℕ}
 
--- s is what the tests read of a walker, its ray with the current reach; d is what a caller tells, a distance.
-pub record Tests (s d : Type 0) : Type 0 where
+-- `RayData` is what the tests read of a walker, its ray with the current reach; `Distance` is what a caller tells.
+pub record Tests (RayData Distance : Type 0) : Type 0 where
   -- `rule n v`: node v meets the node rule of a record of n positions
   pub rule : ℕ → ℕ → Bool
   -- the positions of a node that the ray passes, highest first; none that is passed over is among them
-  pub positions : s → ℕ → List ℕ
+  pub positions : RayData → ℕ → List ℕ
   -- the children of a node that the ray passes, by falling slot XOR octant
-  pub children : s → ℕ → List ℕ
+  pub children : RayData → ℕ → List ℕ
   -- the ray after a distance was told
-  pub told : d → s → s
+  pub told : Distance → RayData → RayData
   -- a ray that no walker just begun holds
-  pub forged : s → Bool
+  pub forged : RayData → Bool
   -- a position that is not there: its report is refused
-  pub absent : s → ℕ → Bool
+  pub absent : RayData → ℕ → Bool

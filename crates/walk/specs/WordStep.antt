@@ -13,8 +13,8 @@ use Rattle.causes.specs.Sizes.{sizesFit}
 use Rattle.walk.specs.Words.{Group, packed, unpacked, positionsIn, childrenIn, groupsIn, restOf, firstPosition, pastSkipped, firstChild}
 use Rattle.walk.specs.Words.{hasChild, waitingDepth}
 
-pub record WalkerWords (s : Type 0) : Type 0 where
-  pub ray : s
+pub record WalkerWords (RayData : Type 0) : Type 0 where
+  pub ray : RayData
   pub tests : ℕ
   -- positions in hand, and the group in hand
   pub positions : Group
@@ -23,20 +23,20 @@ pub record WalkerWords (s : Type 0) : Type 0 where
   pub depth : ℕ
   pub stack : List ℕ
 
-pub record SteppedWords (s : Type 0) : Type 0 where
-  pub walker : WalkerWords s
+pub record SteppedWords (RayData : Type 0) : Type 0 where
+  pub walker : WalkerWords RayData
   pub answer : Answer
 
 -- What a step in words reads: `rule`, `told`, `forged` and `absent` as in `Tests`, which positions are passed over where their report is due, and of
 -- a node its hit mask for a ray and its fields.
-pub record NodeWords (s d : Type 0) : Type 0 where
+pub record NodeWords (RayData Distance : Type 0) : Type 0 where
   pub rule : ℕ → ℕ → Bool
-  pub told : d → s → s
-  pub forged : s → Bool
-  pub absent : s → ℕ → Bool
-  pub skips : s → ℕ → Bool
-  pub octant : s → ℕ
-  pub mask : s → ℕ → ℕ
+  pub told : Distance → RayData → RayData
+  pub forged : RayData → Bool
+  pub absent : RayData → ℕ → Bool
+  pub skips : RayData → ℕ → Bool
+  pub octant : RayData → ℕ
+  pub mask : RayData → ℕ → ℕ
   pub imask : ℕ → ℕ
   pub childBase : ℕ → ℕ
   pub positionBase : ℕ → ℕ
@@ -45,7 +45,7 @@ abbrev pub noGroup : Group
 noGroup = record { base = 0; bits = 0 }
 
 -- a walker just begun: the first node is the only child of a group without imask
-abbrev pub freshWords : {s : Type 0} → s → WalkerWords s
+abbrev pub freshWords : {RayData : Type 0} → RayData → WalkerWords RayData
 freshWords r = record {
   ray = r;
   tests = 0;
@@ -57,18 +57,18 @@ freshWords r = record {
 }
 
 -- all words are in range, as a walker's fields of 32 and 64 bits are
-pub record WordsFit {s : Type 0} (w : WalkerWords s) : Type 0 where
+pub record WordsFit {RayData : Type 0} (w : WalkerWords RayData) : Type 0 where
   pub positions : w .positions .bits < 2 ^ 32
   pub base : w .current .base < 2 ^ 32
   pub bits : w .current .bits < 2 ^ 32
   pub room : capacity ≤ length (w .stack)
   pub words : (i : ℕ) → getD (w .stack) i 0 < 2 ^ 64
 
-abbrev pub stayWords : {s : Type 0} → WalkerWords s → Answer → SteppedWords s
+abbrev pub stayWords : {RayData : Type 0} → WalkerWords RayData → Answer → SteppedWords RayData
 stayWords w a = record { walker = w; answer = a }
 
 -- the group in hand is emptied, and the walk is done
-abbrev pub emptiedWords : {s : Type 0} → WalkerWords s → SteppedWords s
+abbrev pub emptiedWords : {RayData : Type 0} → WalkerWords RayData → SteppedWords RayData
 emptiedWords w =
     record {
       walker = record { ray = w .ray; tests = w .tests; positions = w .positions; current = noGroup; depth = w .depth; stack = w .stack };
@@ -76,7 +76,7 @@ emptiedWords w =
     }
 
 -- the position of the highest bit was reported
-abbrev pub afterReportWords : {s : Type 0} → WalkerWords s → SteppedWords s
+abbrev pub afterReportWords : {RayData : Type 0} → WalkerWords RayData → SteppedWords RayData
 afterReportWords w =
     record {
       walker =
@@ -85,11 +85,11 @@ afterReportWords w =
     }
 
 -- it is reported if it is one of the n
-unfoldable pub reportWords : {s : Type 0} → ℕ → WalkerWords s → SteppedWords s
+unfoldable pub reportWords : {RayData : Type 0} → ℕ → WalkerWords RayData → SteppedWords RayData
 reportWords n w = cond (leb n (firstPosition (w .positions))) (stayWords w (refused 10)) (afterReportWords w)
 
 -- the walker after a step that leads to u: a refused one leaves it as it was
-abbrev pub leaving : {s : Type 0} → WalkerWords s → Answer → WalkerWords s → WalkerWords s
+abbrev pub leaving : {RayData : Type 0} → WalkerWords RayData → Answer → WalkerWords RayData → WalkerWords RayData
 leaving w (tested v) u = u
 leaving w (position p) u = u
 leaving w done u = u
@@ -103,25 +103,25 @@ isTest done = false
 isTest (refused k) = false
 
 -- a node was tested and none of its positions is passed
-abbrev pub findsNone : {s : Type 0} → SteppedWords s → Bool
+abbrev pub findsNone : {RayData : Type 0} → SteppedWords RayData → Bool
 findsNone r = isTest (r .answer) && eqb (r .walker .positions .bits) 0
 
 -- the walker last held, and the answers of the steps
-pub record RunWords (s : Type 0) : Type 0 where
-  pub walker : WalkerWords s
+pub record RunWords (RayData : Type 0) : Type 0 where
+  pub walker : WalkerWords RayData
   pub answers : List Answer
 
 -- ---- what the words of a node and of a walker say
 
-module _ {s d : Type 0} (N : NodeWords s d) where
+module _ {RayData Distance : Type 0} (N : NodeWords RayData Distance) where
   -- the low 24 bits of a mask are positions; its top byte is laid over imask
-  abbrev pub passedPositions : s → ℕ → Group
+  abbrev pub passedPositions : RayData → ℕ → Group
   passedPositions r v = record { base = N .positionBase v; bits = N .mask r v % 0x100_0000 }
 
-  abbrev pub passedChildren : s → ℕ → Group
+  abbrev pub passedChildren : RayData → ℕ → Group
   passedChildren r v = record { base = N .childBase v; bits = N .mask r v / 0x100_0000 * 0x100_0000 + N .imask v }
 
-  abbrev pub tellWords : d → WalkerWords s → WalkerWords s
+  abbrev pub tellWords : Distance → WalkerWords RayData → WalkerWords RayData
   tellWords x w = record {
     ray = N .told x (w .ray);
     tests = w .tests;
@@ -133,7 +133,7 @@ module _ {s d : Type 0} (N : NodeWords s d) where
   }
 
   -- the walker on lists that the words stand for
-  abbrev pub decoded : WalkerWords s → Walker s
+  abbrev pub decoded : WalkerWords RayData → Walker RayData
   decoded w =
       record {
         ray = w .ray;
@@ -143,19 +143,19 @@ module _ {s d : Type 0} (N : NodeWords s d) where
         stack = groupsIn (N .octant (w .ray)) (w .stack) (w .depth);
       }
 
-  abbrev pub decodedStep : SteppedWords s → Stepped s
+  abbrev pub decodedStep : SteppedWords RayData → Stepped RayData
   decodedStep r = stay (decoded (r .walker)) (r .answer)
 
-  abbrev pub decodedRun : RunWords s → Run s
+  abbrev pub decodedRun : RunWords RayData → Run RayData
   decodedRun r = record { walker = decoded (r .walker); answers = r .answers }
 
   -- the tests of a step on lists: it differs in the lists that a node gives
-  abbrev pub testsWith : (s → ℕ → List ℕ) → (s → ℕ → List ℕ) → Tests s d
+  abbrev pub testsWith : (RayData → ℕ → List ℕ) → (RayData → ℕ → List ℕ) → Tests RayData Distance
   testsWith positions children =
       record { rule = N .rule; positions = positions; children = children; told = N .told; forged = N .forged; absent = N .absent }
 
   -- the walker without the positions in front of its hand that are passed over
-  abbrev pub pastSkips : WalkerWords s → WalkerWords s
+  abbrev pub pastSkips : WalkerWords RayData → WalkerWords RayData
   pastSkips w =
       record {
         ray = w .ray;
@@ -168,27 +168,27 @@ module _ {s d : Type 0} (N : NodeWords s d) where
 
 -- ---- a step on a record of m nodes
 
-module _ {s d : Type 0} (m : ℕ) (N : NodeWords s d) where
+module _ {RayData Distance : Type 0} (m : ℕ) (N : NodeWords RayData Distance) where
   -- ---- what stands in the way
 
-  abbrev pub forgedWords : WalkerWords s → Bool
+  abbrev pub forgedWords : WalkerWords RayData → Bool
   forgedWords w = N .forged (w .ray) || ltb capacity (w .depth) || ltb m (w .tests)
 
-  abbrev pub onlyFirstWords : WalkerWords s → Bool
+  abbrev pub onlyFirstWords : WalkerWords RayData → Bool
   onlyFirstWords w = eqb (w .positions .bits) 0 && hasChild (w .current) && eqb (firstChild (N .octant (w .ray)) (w .current)) 0 && not
       (hasChild (restOf (w .current))) && eqb (w .depth) 0
 
-  -- the first child of group g may not be tested, with d groups below
-  abbrev pub badChild : ℕ → WalkerWords s → Group → ℕ → Bool
-  badChild n w g d =
-      (hasChild (restOf g) && not (hasRoom d)) || leb m (firstChild (N .octant (w .ray)) g) || leb m (w .tests)
+  -- the first child of group g may not be tested, with depth groups below
+  abbrev pub badChild : ℕ → WalkerWords RayData → Group → ℕ → Bool
+  badChild n w g depth =
+      (hasChild (restOf g) && not (hasRoom depth)) || leb m (firstChild (N .octant (w .ray)) g) || leb m (w .tests)
       || not (N .rule n (firstChild (N .octant (w .ray)) g))
 
   -- ---- a step
 
-  -- the first child of group g is tested; the rest waits above d groups, if it holds a child
-  abbrev pub afterTestWords : WalkerWords s → Group → ℕ → SteppedWords s
-  afterTestWords w g d =
+  -- the first child of group g is tested; the rest waits above depth groups, if it holds a child
+  abbrev pub afterTestWords : WalkerWords RayData → Group → ℕ → SteppedWords RayData
+  afterTestWords w g depth =
       record {
         walker =
             record {
@@ -196,38 +196,38 @@ module _ {s d : Type 0} (m : ℕ) (N : NodeWords s d) where
               tests = suc (w .tests);
               positions = passedPositions N (w .ray) (firstChild (N .octant (w .ray)) g);
               current = passedChildren N (w .ray) (firstChild (N .octant (w .ray)) g);
-              depth = cond (hasChild (restOf g)) (suc d) d;
-              stack = cond (hasChild (restOf g)) (pushed (w .stack) d (packed (restOf g))) (w .stack);
+              depth = cond (hasChild (restOf g)) (suc depth) depth;
+              stack = cond (hasChild (restOf g)) (pushed (w .stack) depth (packed (restOf g))) (w .stack);
             };
         answer = tested (firstChild (N .octant (w .ray)) g);
       }
 
-  unfoldable pub visitWords : ℕ → WalkerWords s → Group → ℕ → SteppedWords s
-  visitWords n w g d = cond (badChild n w g d) (stayWords w (refused 10)) (afterTestWords w g d)
+  unfoldable pub visitWords : ℕ → WalkerWords RayData → Group → ℕ → SteppedWords RayData
+  visitWords n w g depth = cond (badChild n w g depth) (stayWords w (refused 10)) (afterTestWords w g depth)
 
-  -- the last group that waits, d being the depth with it on top
-  unfoldable pub popWords : ℕ → WalkerWords s → ℕ → SteppedWords s
-  popWords n w d = cond (ltb 0 d) (visitWords n w (unpacked (topOf (w .stack) d)) (d - 1)) (stayWords w done)
+  -- the last group that waits, depth being the depth with it on top
+  unfoldable pub popWords : ℕ → WalkerWords RayData → ℕ → SteppedWords RayData
+  popWords n w depth = cond (ltb 0 depth) (visitWords n w (unpacked (topOf (w .stack) depth)) (depth - 1)) (stayWords w done)
 
   -- positions come first, one that is absent refused; then the group in hand, then the stack
-  unfoldable pub turnWords : ℕ → WalkerWords s → SteppedWords s
+  unfoldable pub turnWords : ℕ → WalkerWords RayData → SteppedWords RayData
   turnWords n w =
       cond (ltb 0 (w .positions .bits))
       (cond (N .absent (w .ray) (firstPosition (w .positions))) (stayWords w (refused 10)) (reportWords n w))
       (cond (hasChild (w .current)) (visitWords n w (w .current) (w .depth)) (popWords n w (waitingDepth (w .stack) (w .depth))))
 
   -- first of all positions that are passed over go, and then the same turn does what is due
-  unfoldable pub advanceWords : ℕ → WalkerWords s → SteppedWords s
+  unfoldable pub advanceWords : ℕ → WalkerWords RayData → SteppedWords RayData
   unfolding turnWords
   advanceWords n w = let r = turnWords n (pastSkips N w) in record { walker = leaving w (r .answer) (r .walker); answer = r .answer }
 
   -- A turn, and up to k more after tests of nodes of which no position is passed: on until positions are in hand, nothing is left, or one is refused.
-  unfoldable pub seekWords : ℕ → ℕ → WalkerWords s → SteppedWords s
+  unfoldable pub seekWords : ℕ → ℕ → WalkerWords RayData → SteppedWords RayData
   unfolding advanceWords
   seekWords zero n w = advanceWords n w
   seekWords (suc k) n w = let r = advanceWords n w in cond (findsNone r) (seekWords k n (r .walker)) r
 
-  unfoldable pub stepWords : ℕ → WalkerWords s → SteppedWords s
+  unfoldable pub stepWords : ℕ → WalkerWords RayData → SteppedWords RayData
   stepWords n w =
       cond (sizesFit m n)
       (cond (forgedWords w) (stayWords w (refused 10))
@@ -236,7 +236,7 @@ module _ {s d : Type 0} (m : ℕ) (N : NodeWords s d) where
 
   -- ---- lists of calls
 
-  unfoldable pub runWords : List (Op d) → WalkerWords s → RunWords s
+  unfoldable pub runWords : List (Op Distance) → WalkerWords RayData → RunWords RayData
   unfolding stepWords
   runWords [] w = record { walker = w; answers = [] }
   runWords (step n ∷ l) w =
@@ -245,14 +245,14 @@ module _ {s d : Type 0} (m : ℕ) (N : NodeWords s d) where
   runWords (tell x ∷ l) w = runWords l (tellWords N x w)
 
   -- a node's words stand for the lists of its passed positions and children, where the node meets the rule
-  pub record Decodes (positions children : s → ℕ → List ℕ) : Type 0 where
-    pub octant-lt : (r : s) → N .forged r ≡ false → N .octant r < 8
-    pub octant-told : (x : d) (r : s) → N .octant (N .told x r) ≡ N .octant r
-    pub skips-told : (x : d) (r : s) → N .skips (N .told x r) ≡ N .skips r
-    pub mask-lt : (r : s) (v : ℕ) → N .mask r v < 2 ^ 32
+  pub record Decodes (positions children : RayData → ℕ → List ℕ) : Type 0 where
+    pub octant-lt : (r : RayData) → N .forged r ≡ false → N .octant r < 8
+    pub octant-told : (x : Distance) (r : RayData) → N .octant (N .told x r) ≡ N .octant r
+    pub skips-told : (x : Distance) (r : RayData) → N .skips (N .told x r) ≡ N .skips r
+    pub mask-lt : (r : RayData) (v : ℕ) → N .mask r v < 2 ^ 32
     pub imask-lt : (v : ℕ) → v < m → N .imask v < 256
     pub child-base-lt : (v : ℕ) → v < m → N .childBase v < 2 ^ 32
-    pub positions-are : (r : s) (n v : ℕ) → N .forged r ≡ false → v < m → N .rule n v ≡ true
+    pub positions-are : (r : RayData) (n v : ℕ) → N .forged r ≡ false → v < m → N .rule n v ≡ true
         → positionsIn (N .skips r) (passedPositions N r v) ≡ positions r v
-    pub children-are : (r : s) (n v : ℕ) → N .forged r ≡ false → v < m → N .rule n v ≡ true → childrenIn (N .octant r) (passedChildren N r v)
+    pub children-are : (r : RayData) (n v : ℕ) → N .forged r ≡ false → v < m → N .rule n v ≡ true → childrenIn (N .octant r) (passedChildren N r v)
         ≡ children r v

@@ -38,14 +38,15 @@ use Rattle.walk_record.proofs.Steps.{decodes}
 
 -- ---- any record
 
-module _ {s d : Type 0} (N : Nodes) (R : Rays s d) (rays : RayLaws R) (fields : FieldsFitIn N) (n : ℕ) (r : s) (accepted : R .forged r ≡ false) where
+module _ {RayData Distance : Type 0} (N : Nodes) (R : Rays RayData Distance) (rays : RayLaws R) (fields : FieldsFitIn N) (n : ℕ) (r : RayData)
+    (accepted : R .forged r ≡ false) where
   -- the run of a list of calls stands for the run on lists,
-  pub run-on-lists : (l : List (Op d))
+  pub run-on-lists : (l : List (Op Distance))
       → decodedRun (nodeWordsIn N R) (runIn N R l (freshWords r)) ≡ runOps (N .count) (testsOf (slotsIn N R n)) l (fresh r)
   unfolding runIn
   run-on-lists l = calls-decoded (N .count) (nodeWordsIn N R) _ _ (decodes N R rays fields n) l r accepted
 
-  module _ {a : Type 0} (react : ℕ → s → a → Reaction d a) (x : a) where
+  module _ {a : Type 0} (react : ℕ → RayData → a → Reaction Distance a) (x : a) where
     -- and a query for the query on lists;
     pub query-on-lists : decodedOutcome (nodeWordsIn N R) (queryIn N R react x n r)
         ≡ query (N .count) (testsOf (slotsIn N R n)) react (stepsFor (N .count)) n (fresh r) x
@@ -55,13 +56,13 @@ module _ {s d : Type 0} (N : Nodes) (R : Rays s d) (rays : RayLaws R) (fields : 
     -- so every query ends
     pub query-halts : Halted (queryIn N R react x n r .ended)
     query-halts =
-        subst (λ (o : QueryOutcome s a). Halted (o .ended)) (sym query-on-lists)
+        subst (λ (o : QueryOutcome RayData a). Halted (o .ended)) (sym query-on-lists)
         (Ends.query-halts (N .count) (testsOf (slotsIn N R n)) (slots-narrow (slotsIn N R n) _) react n r x)
 
 -- ---- a sound record
 
 -- What a walk over one needs: lawful rays, fields that fit, a sound record of sizes that fit, no position absent, and a ray that is not forged.
-pub record SoundWalk {s d : Type 0} (N : Nodes) (R : Rays s d) (n : ℕ) (r : s) : Type 0 where
+pub record SoundWalk {RayData Distance : Type 0} (N : Nodes) (R : Rays RayData Distance) (n : ℕ) (r : RayData) : Type 0 where
   pub rays : RayLaws R
   pub fields : FieldsFitIn N
   pub sound : SoundIn N n
@@ -70,11 +71,11 @@ pub record SoundWalk {s d : Type 0} (N : Nodes) (R : Rays s d) (n : ℕ) (r : s)
   pub present : AllPresent R n
   pub accepted : R .forged r ≡ false
 
-module _ {s d : Type 0} {N : Nodes} {R : Rays s d} {n : ℕ} {r : s} (w : SoundWalk N R n r) where
-  abbrev W : WalkRecord s d
+module _ {RayData Distance : Type 0} {N : Nodes} {R : Rays RayData Distance} {n : ℕ} {r : RayData} (w : SoundWalk N R n r) where
+  abbrev W : WalkRecord RayData Distance
   W = slotsIn N R n
 
-  abbrev T : Tests s d
+  abbrev T : Tests RayData Distance
   T = testsOf W
 
   laws : SlotLaws W (RuleIn N n)
@@ -89,29 +90,30 @@ module _ {s d : Type 0} {N : Nodes} {R : Rays s d} {n : ℕ} {r : s} (w : SoundW
 
   -- ---- every list of steps and tellings from a walker just begun, refused steps included
 
-  run-is : (l : List (Op d)) → decodedRun (nodeWordsIn N R) (runIn N R l (freshWords r)) ≡ runOps (N .count) T l (fresh r)
+  run-is : (l : List (Op Distance)) → decodedRun (nodeWordsIn N R) (runIn N R l (freshWords r)) ≡ runOps (N .count) T l (fresh r)
   run-is = run-on-lists N R (w .rays) (w .fields) n r (w .accepted)
 
   -- what holds of the answers on lists holds of the answers
-  carried : (P : List Answer → Type 0) (l : List (Op d)) → P (runOps (N .count) T l (fresh r) .answers) → P (runIn N R l (freshWords r) .answers)
-  carried P l = subst P (sym (ap (λ (q : Run s). q .answers) (run-is l)))
+  carried : (P : List Answer → Type 0) (l : List (Op Distance)) → P (runOps (N .count) T l (fresh r) .answers)
+      → P (runIn N R l (freshWords r) .answers)
+  carried P l = subst P (sym (ap (λ (q : Run RayData). q .answers) (run-is l)))
 
   -- no position is reported twice,
-  pub calls-report-once : (l : List (Op d)) → List·Nodup (reported (runIn N R l (freshWords r) .answers))
+  pub calls-report-once : (l : List (Op Distance)) → List·Nodup (reported (runIn N R l (freshWords r) .answers))
   unfolding shapeIn
   calls-report-once l = carried (λ a. List·Nodup (reported a)) l (Once.calls-report-once K l r)
 
   -- and the waiting groups of the walker then held do not outnumber the deepest node's level
-  pub calls-wait-few : (e : ℕ) → Deepest (shapeIn N n) e → (l : List (Op d)) → runIn N R l (freshWords r) .walker .depth ≤ e
+  pub calls-wait-few : (e : ℕ) → Deepest (shapeIn N n) e → (l : List (Op Distance)) → runIn N R l (freshWords r) .walker .depth ≤ e
   unfolding shapeIn
   calls-wait-few e deepest l =
       let u = runIn N R l (freshWords r) .walker in
-      let q = ap (λ (z : Run s). length (z .walker .stack)) (run-is l) in
+      let q = ap (λ (z : Run RayData). length (z .walker .stack)) (run-is l) in
       omega (arith, groups-length (R .octant (u .ray)) (u .depth) (u .stack), Levels.calls-wait-few K e deepest l r)
 
   -- Where telling makes a ray pass no more slots, only positions that the ray as begun passes are reported.
-  pub calls-pass : ((x : d) (q : s) (v j : ℕ) → slotTest N R (R .told x q) v j ≡ true → slotTest N R q v j ≡ true)
-      → (l : List (Op d)) → All (PassedBySlots W r) (reported (runIn N R l (freshWords r) .answers))
+  pub calls-pass : ((x : Distance) (q : RayData) (v j : ℕ) → slotTest N R (R .told x q) v j ≡ true → slotTest N R q v j ≡ true)
+      → (l : List (Op Distance)) → All (PassedBySlots W r) (reported (runIn N R l (freshWords r) .answers))
   unfolding shapeIn
   calls-pass lower l =
       carried (λ a. All (PassedBySlots W r) (reported a)) l
@@ -126,17 +128,17 @@ module _ {s d : Type 0} {N : Nodes} {R : Rays s d} {n : ℕ} {r : s} (w : SoundW
       }
 
   -- where each step brings the record's own count of positions none is refused
-  pub calls-answered : (l : List (Op d)) → All (StepsWith n) l → All Answered (runIn N R l (freshWords r) .answers)
+  pub calls-answered : (l : List (Op Distance)) → All (StepsWith n) l → All Answered (runIn N R l (freshWords r) .answers)
   unfolding shapeIn
   calls-answered l b = carried (λ a. All Answered a) l (Valid.calls-answered K U l r (w .accepted) b)
 
   -- ---- queries
 
   -- none is refused by the walk
-  pub query-answered : {a : Type 0} (react : ℕ → s → a → Reaction d a) (x : a) → Ended (queryIn N R react x n r .ended)
+  pub query-answered : {a : Type 0} (react : ℕ → RayData → a → Reaction Distance a) (x : a) → Ended (queryIn N R react x n r .ended)
   unfolding shapeIn
   query-answered {a} react x =
-      subst (λ (o : QueryOutcome s a). Ended (o .ended)) (sym (query-on-lists N R (w .rays) (w .fields) n r (w .accepted) react x))
+      subst (λ (o : QueryOutcome RayData a). Ended (o .ended)) (sym (query-on-lists N R (w .rays) (w .fields) n r (w .accepted) react x))
       (Ends.query-answered K U react r (w .accepted) x)
 
   -- any-hit lists the first node's listing, each position passed once and no other, after as many tests as nodes are reached

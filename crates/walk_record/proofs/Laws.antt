@@ -45,7 +45,7 @@ leaf-counts : (bit meta : ℕ) → bit ≡ 0 → slotPositions bit meta ≡ code
 unfolding slotPositions
 leaf-counts bit meta e = rw e
 
-module _ {s d : Type 0} (N : Nodes) (R : Rays s d) (laws : RayLaws R) (n : ℕ) where
+module _ {RayData Distance : Type 0} (N : Nodes) (R : Rays RayData Distance) (laws : RayLaws R) (n : ℕ) where
   -- ---- slots
 
   pub slot-laws : SlotLaws (slotsIn N R n) (RuleIn N n)
@@ -67,7 +67,7 @@ module _ {s d : Type 0} (N : Nodes) (R : Rays s d) (laws : RayLaws R) (n : ℕ) 
   met : (k v : ℕ) → nodeRule (N .node v) (N .count) k v ≡ true → Rule (N .node v) (N .count) k v
   met k v e = told (node-tells (N .node v) (N .count) k v) e
 
-  child-bit : (r : s) (k v i : ℕ) → R .forged r ≡ false → nodeRule (N .node v) (N .count) k v ≡ true → i < 8
+  child-bit : (r : RayData) (k v i : ℕ) → R .forged r ≡ false → nodeRule (N .node v) (N .count) k v ≡ true → i < 8
       → isSet (24 + i) (maskIn N R r v) ≡ passedChild (slotsIn N R n) r v (bitXor i (R .octant r))
   child-bit r k v i f e l =
       tells-same (tells-as (eqb-tells (field 1 (24 + i) (maskIn N R r v)) 1) to from) (child-tells (slotsIn N R n) r v (bitXor i (R .octant r)))
@@ -90,7 +90,7 @@ module _ {s d : Type 0} (N : Nodes) (R : Rays s d) (laws : RayLaws R) (n : ℕ) 
           (child-bit-set (slotTest N R r v) (N .node v) (R .octant r) k o (met k v e .slots) (bitXor i (R .octant r))
           (xor-lt 3 i (R .octant r) l o) (q .0) (q .1))
 
-  position-bit : (r : s) (k v b : ℕ) → R .forged r ≡ false → nodeRule (N .node v) (N .count) k v ≡ true → b < 24
+  position-bit : (r : RayData) (k v b : ℕ) → R .forged r ≡ false → nodeRule (N .node v) (N .count) k v ≡ true → b < 24
       → isSet b (maskIn N R r v) ≡ inPassedSlot (slotsIn N R n) r v (N .node v .«primitive_base_idx» + b)
   unfolding shapeIn
   position-bit r k v b f e l =
@@ -128,7 +128,7 @@ pub bytes-fit : (bytes : List ℕ) → ((i : ℕ) → getD bytes i 0 < 256) → 
 unfolding nodeFrom
 bytes-fit bytes h = record { imask = λ v l. h (80 * v + 15); childBase = λ v l. le-lt 4 bytes (80 * v + 16) (λ i k. h (80 * v + 16 + i)) }
 
-module _ {s d : Type 0} (N : Nodes) (R : Rays s d) (laws : RayLaws R) (n : ℕ) (fit : FieldsFitIn N) where
+module _ {RayData Distance : Type 0} (N : Nodes) (R : Rays RayData Distance) (laws : RayLaws R) (n : ℕ) (fit : FieldsFitIn N) where
   pub mask-laws : MaskLaws (slotsIn N R n) (maskIn N R)
   unfolding shapeIn
   mask-laws = record {

@@ -20,7 +20,7 @@ use Rattle.walk_record.proofs.Laws.{mask-laws}
 
 -- ---- for any walker of words
 
-module _ {s d : Type 0} (N : Nodes) (R : Rays s d) (n : ℕ) (w : WalkerWords s) where
+module _ {RayData Distance : Type 0} (N : Nodes) (R : Rays RayData Distance) (n : ℕ) (w : WalkerWords RayData) where
   -- a step that is refused leaves the walker as it was, and one that is done leaves nothing to do;
   pub step-leaves : LeavesOf (N .count) (nodeWordsIn N R) n w (stepIn N R n w)
   unfolding stepIn
@@ -43,32 +43,32 @@ module _ {s d : Type 0} (N : Nodes) (R : Rays s d) (n : ℕ) (w : WalkerWords s)
 
 -- ---- for words in range
 
-module _ {s d : Type 0} (N : Nodes) (R : Rays s d) (laws : RayLaws R) (fit : FieldsFitIn N) where
+module _ {RayData Distance : Type 0} (N : Nodes) (R : Rays RayData Distance) (laws : RayLaws R) (fit : FieldsFitIn N) where
   -- the words of its nodes stand for the positions and children that slot tests find
   pub decodes : (n : ℕ) → Decodes (N .count) (nodeWordsIn N R) (positionsPassed (slotsIn N R n)) (childrenPassed (slotsIn N R n))
   unfolding shapeIn
   decodes n = masks-decode (slotsIn N R n) (maskIn N R) (mask-laws N R laws n fit)
 
   -- a step is the step on the lists that the walker's words stand for,
-  pub step-on-lists : (n : ℕ) (w : WalkerWords s) → WordsFit w
+  pub step-on-lists : (n : ℕ) (w : WalkerWords RayData) → WordsFit w
       → decodedStep (nodeWordsIn N R) (stepIn N R n w) ≡ stepOf (N .count) (testsOf (slotsIn N R n)) n (decoded (nodeWordsIn N R) w)
   unfolding stepIn
   step-on-lists n w i = step-decoded (N .count) (nodeWordsIn N R) (positionsPassed (slotsIn N R n)) (childrenPassed (slotsIn N R n)) (decodes n) n w i
 
   -- leaves words in range,
-  pub step-range : (n : ℕ) (w : WalkerWords s) → WordsFit w → WordsFit (stepIn N R n w .walker)
+  pub step-range : (n : ℕ) (w : WalkerWords RayData) → WordsFit w → WordsFit (stepIn N R n w .walker)
   unfolding stepIn
   step-range n w i = WordRuns.step-range (N .count) (nodeWordsIn N R) (positionsPassed (slotsIn N R n)) (childrenPassed (slotsIn N R n)) (decodes n)
       n w i
 
   -- and, where there is a next one, lowers the number of steps left
-  pub step-falls : (n : ℕ) (w : WalkerWords s) → WordsFit w → Going (stepIn N R n w .answer)
+  pub step-falls : (n : ℕ) (w : WalkerWords RayData) → WordsFit w → Going (stepIn N R n w .answer)
       → stepsLeftWords (N .count) (stepIn N R n w .walker) < stepsLeftWords (N .count) w
   unfolding stepIn
   step-falls n w i = words-fall (N .count) (nodeWordsIn N R) n w i
 
   -- so that a query with more steps than are left is always the same
-  pub query-enough : {a : Type 0} (react : ℕ → s → a → Reaction d a) (f g n : ℕ) (w : WalkerWords s) (x : a) → WordsFit w
+  pub query-enough : {a : Type 0} (react : ℕ → RayData → a → Reaction Distance a) (f g n : ℕ) (w : WalkerWords RayData) (x : a) → WordsFit w
       → stepsLeftWords (N .count) w < f → stepsLeftWords (N .count) w < g
       → queryWords (N .count) (nodeWordsIn N R) react f n w x ≡ queryWords (N .count) (nodeWordsIn N R) react g n w x
   query-enough react f g n w x i h k =

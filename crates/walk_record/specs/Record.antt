@@ -10,40 +10,40 @@ use Rattle.record_shape.specs.Record.{Nodes, nodesAt, shapeIn}
 use Rattle.walk.specs.Slots.{WalkRecord}
 use Rattle.walk.specs.WordStep.{NodeWords}
 
--- How a walker's ray is read: s is what it holds of one, d is what is told.
-pub record Rays (s d : Type 0) : Type 0 where
+-- How a walker's ray is read: `RayData` is what it holds of one, `Distance` what is told.
+pub record Rays (RayData Distance : Type 0) : Type 0 where
   -- `passes r v b j`: the ray passes slot j of node v, which is b
-  pub passes : s → ℕ → Node → ℕ → Bool
+  pub passes : RayData → ℕ → Node → ℕ → Bool
   -- a position's own test, which passes over those that fail; and a position that is not there, whose report is refused
-  pub admits : s → ℕ → Bool
-  pub absent : s → ℕ → Bool
-  pub octant : s → ℕ
-  pub told : d → s → s
-  pub forged : s → Bool
+  pub admits : RayData → ℕ → Bool
+  pub absent : RayData → ℕ → Bool
+  pub octant : RayData → ℕ
+  pub told : Distance → RayData → RayData
+  pub forged : RayData → Bool
 
 -- an octant is one of eight, and telling changes it and the tests of positions as little as it makes a ray forged
-pub record RayLaws {s d : Type 0} (R : Rays s d) : Type 0 where
-  pub octant-lt : (r : s) → R .forged r ≡ false → R .octant r < 8
-  pub octant-told : (x : d) (r : s) → R .octant (R .told x r) ≡ R .octant r
-  pub admits-told : (x : d) (r : s) → R .admits (R .told x r) ≡ R .admits r
-  pub told-accepted : (x : d) (r : s) → R .forged r ≡ false → R .forged (R .told x r) ≡ false
+pub record RayLaws {RayData Distance : Type 0} (R : Rays RayData Distance) : Type 0 where
+  pub octant-lt : (r : RayData) → R .forged r ≡ false → R .octant r < 8
+  pub octant-told : (x : Distance) (r : RayData) → R .octant (R .told x r) ≡ R .octant r
+  pub admits-told : (x : Distance) (r : RayData) → R .admits (R .told x r) ≡ R .admits r
+  pub told-accepted : (x : Distance) (r : RayData) → R .forged r ≡ false → R .forged (R .told x r) ≡ false
 
 -- none of n positions is absent
-abbrev pub AllPresent : {s d : Type 0} → Rays s d → ℕ → Type 0
-AllPresent {s} R n = (r : s) (p : ℕ) → p < n → R .absent r p ≡ false
+abbrev pub AllPresent : {RayData Distance : Type 0} → Rays RayData Distance → ℕ → Type 0
+AllPresent {RayData} R n = (r : RayData) (p : ℕ) → p < n → R .absent r p ≡ false
 
 -- Each node's imask is a byte and its child_base_idx a word of 32 bits, as in any list of bytes.
 pub record FieldsFitIn (N : Nodes) : Type 0 where
   pub imask : (v : ℕ) → v < N .count → N .node v .imask < 256
   pub childBase : (v : ℕ) → v < N .count → N .node v .«child_base_idx» < 2 ^ 32
 
-module _ {s d : Type 0} (N : Nodes) (R : Rays s d) where
+module _ {RayData Distance : Type 0} (N : Nodes) (R : Rays RayData Distance) where
   -- which slots of which nodes the ray passes
-  abbrev pub slotTest : s → ℕ → ℕ → Bool
+  abbrev pub slotTest : RayData → ℕ → ℕ → Bool
   slotTest r v j = R .passes r v (N .node v) j
 
   -- the slots of a record of n positions
-  abbrev pub slotsIn : ℕ → WalkRecord s d
+  abbrev pub slotsIn : ℕ → WalkRecord RayData Distance
   slotsIn n = record {
     shape = shapeIn N n;
     imask = λ v. N .node v .imask;
@@ -58,11 +58,11 @@ module _ {s d : Type 0} (N : Nodes) (R : Rays s d) where
   }
 
   -- the hit mask of node v
-  abbrev pub maskIn : s → ℕ → ℕ
+  abbrev pub maskIn : RayData → ℕ → ℕ
   maskIn r v = hitMaskOf (slotTest r v) (N .node v) (R .octant r)
 
   -- what a step in words reads
-  abbrev pub nodeWordsIn : NodeWords s d
+  abbrev pub nodeWordsIn : NodeWords RayData Distance
   nodeWordsIn = record {
     rule = λ k v. nodeRule (N .node v) (N .count) k v;
     told = R .told;
@@ -81,8 +81,8 @@ module _ {s d : Type 0} (N : Nodes) (R : Rays s d) where
 abbrev pub FieldsFit : List ℕ → Type 0
 FieldsFit bytes = FieldsFitIn (nodesAt bytes)
 
-abbrev pub slotsAt : {s d : Type 0} → List ℕ → Rays s d → ℕ → WalkRecord s d
+abbrev pub slotsAt : {RayData Distance : Type 0} → List ℕ → Rays RayData Distance → ℕ → WalkRecord RayData Distance
 slotsAt bytes R n = slotsIn (nodesAt bytes) R n
 
-abbrev pub nodeWordsAt : {s d : Type 0} → List ℕ → Rays s d → NodeWords s d
+abbrev pub nodeWordsAt : {RayData Distance : Type 0} → List ℕ → Rays RayData Distance → NodeWords RayData Distance
 nodeWordsAt bytes R = nodeWordsIn (nodesAt bytes) R

@@ -12,50 +12,50 @@ use Rattle.walk.specs.WordQueries.{OutcomeWords, queryWords}
 use Rattle.walk_record.specs.Record.{Rays, slotsIn, nodeWordsIn, slotsAt}
 use Rattle.walk_record.specs.WalkRay.{walkRay, byBoxes}
 
-module _ {s d : Type 0} (N : Nodes) (R : Rays s d) where
+module _ {RayData Distance : Type 0} (N : Nodes) (R : Rays RayData Distance) where
   -- one step of a walker, the record taken to have n positions
-  unfoldable pub stepIn : ℕ → WalkerWords s → SteppedWords s
+  unfoldable pub stepIn : ℕ → WalkerWords RayData → SteppedWords RayData
   unfolding stepWords
   stepIn n w = stepWords (N .count) (nodeWordsIn N R) n w
 
   -- a list of calls
-  unfoldable pub runIn : List (Op d) → WalkerWords s → RunWords s
+  unfoldable pub runIn : List (Op Distance) → WalkerWords RayData → RunWords RayData
   unfolding runWords
   runIn l w = runWords (N .count) (nodeWordsIn N R) l w
 
   -- a query from a walker just begun, with x noted before
-  unfoldable pub queryIn : {a : Type 0} → (ℕ → s → a → Reaction d a) → a → ℕ → s → OutcomeWords s a
+  unfoldable pub queryIn : {a : Type 0} → (ℕ → RayData → a → Reaction Distance a) → a → ℕ → RayData → OutcomeWords RayData a
   unfolding queryWords
   queryIn react x n r = queryWords (N .count) (nodeWordsIn N R) react (stepsFor (N .count)) n (freshWords r) x
 
   -- any-hit: what it has noted is its list
-  abbrev pub anyHitIn : ℕ → s → OutcomeWords s (List ℕ)
+  abbrev pub anyHitIn : ℕ → RayData → OutcomeWords RayData (List ℕ)
   anyHitIn n r = queryIn append [] n r
 
   -- the first node's listing: its passed positions, highest first, then its reached children's listings by falling slot XOR octant
-  abbrev pub listingIn : ℕ → s → List ℕ
+  abbrev pub listingIn : ℕ → RayData → List ℕ
   listingIn n r = listing (N .count) (testsOf (slotsIn N R n)) r 0
 
 -- ---- over a record's bytes
 
-module _ {s d : Type 0} (bytes : List ℕ) (R : Rays s d) where
-  unfoldable pub stepAt : ℕ → WalkerWords s → SteppedWords s
+module _ {RayData Distance : Type 0} (bytes : List ℕ) (R : Rays RayData Distance) where
+  unfoldable pub stepAt : ℕ → WalkerWords RayData → SteppedWords RayData
   unfolding stepIn
   stepAt n w = stepIn (nodesAt bytes) R n w
 
-  unfoldable pub runAt : List (Op d) → WalkerWords s → RunWords s
+  unfoldable pub runAt : List (Op Distance) → WalkerWords RayData → RunWords RayData
   unfolding runIn
   runAt l w = runIn (nodesAt bytes) R l w
 
-  unfoldable pub queryAt : {a : Type 0} → (ℕ → s → a → Reaction d a) → a → ℕ → s → OutcomeWords s a
+  unfoldable pub queryAt : {a : Type 0} → (ℕ → RayData → a → Reaction Distance a) → a → ℕ → RayData → OutcomeWords RayData a
   unfolding queryIn
   queryAt react x n r = queryIn (nodesAt bytes) R react x n r
 
-  unfoldable pub anyHitAt : ℕ → s → OutcomeWords s (List ℕ)
+  unfoldable pub anyHitAt : ℕ → RayData → OutcomeWords RayData (List ℕ)
   unfolding queryAt
   anyHitAt n r = queryAt append [] n r
 
-  abbrev pub listingAt : ℕ → s → List ℕ
+  abbrev pub listingAt : ℕ → RayData → List ℕ
   listingAt n r = listingIn (nodesAt bytes) R n r
 
 -- ---- what a ray reaches and passes there, by boxes alone

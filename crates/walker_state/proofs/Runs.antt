@@ -27,11 +27,11 @@ not-true e = absurd (subst T (sym e) tt)
 
 -- ---- a refused step gives back the walker that it took
 
-module _ {s d : Type 0} (m : ℕ) (N : NodeWords s d) (n : ℕ) (w : WalkerWords s) where
-  abbrev Stays : SteppedWords s → Type 0
+module _ {RayData Distance : Type 0} (m : ℕ) (N : NodeWords RayData Distance) (n : ℕ) (w : WalkerWords RayData) where
+  abbrev Stays : SteppedWords RayData → Type 0
   Stays r = isRefused (r .answer) ≡ true → r .walker ≡ w
 
-  left : (a : Answer) (u : WalkerWords s) → isRefused a ≡ true → leaving w a u ≡ w
+  left : (a : Answer) (u : WalkerWords RayData) → isRefused a ≡ true → leaving w a u ≡ w
   left (tested v) u e = not-true e
   left (position p) u e = not-true e
   left done u e = not-true e
