@@ -13,10 +13,10 @@ use Rattle.float.proofs.Magnitude.{sub-within, mul-within}
 use Rattle.float.proofs.Order.{lt-through, lt-self, lt-between}
 use Rattle.ray.specs.declared.Ray.{Ray}
 use Rattle.ray.specs.declared.Vec3.{Vec3}
-use Rattle.ray.specs.Ray.{rayOf, counts, acceptedRay}
+use Rattle.ray.specs.Ray.{rayOf, reaching, counts, seenAt, acceptedRay}
 use Rattle.ray.proofs.Bounds.{inverse-within}
 use Rattle.ray.proofs.Bounds as R
-use Rattle.ray.proofs.Counts.{counts-is}
+use Rattle.ray.proofs.Counts.{counts-seen, seen-itself}
 use Rattle.aabb.specs.declared.Aabb.{Aabb}
 use Rattle.aabb.specs.Aabb.{planeDistance, slabNear, boxNear, boxFar, entryDistance, acceptedBox}
 use Rattle.aabb.proofs.Bounds as B
@@ -25,7 +25,7 @@ use Rattle.node_hits.proofs.Terms.{max-no-nan, min-no-nan, within-no-nan}
 use Rattle.walk.specs.Queries.{distance}
 use Rattle.walk.proofs.Nearest.{Order}
 use Rattle.walk.proofs.Noted.{Reaching}
-use Rattle.walk_record.specs.WalkRay.{WalkRay, reaching, toldWalkRay}
+use Rattle.walk_record.specs.WalkRay.{WalkRay, toldWalkRay}
 use Rattle.closest.specs.Panes.{paneMet, paneOf, nearer}
 
 -- no NaN
@@ -94,12 +94,20 @@ module _ (indices : List ℕ) (panes : List Float) where
   reach-pane p t b true = refl
   reach-pane p t b false = refl
 
-  told-reach : (t : Float) (b : WalkRay) → lt t (b .ray .tmax) ≡ true → toldWalkRay t b .ray .tmax ≡ t
-  told-reach t b e = ap (λ (c : Bool). cond c (reaching t (b .ray)) (b .ray) .tmax) (counts-is (b .ray) t ∙ e)
+  -- nor what is seen where
+  reach-seen : (t x : Float) (b : WalkRay) (c : Bool) → seenAt (cond c (reaching t (b .ray)) (b .ray)) x ≡ seenAt (b .ray) x
+  unfolding seenAt
+  reach-seen t x b true = refl
+  reach-seen t x b false = refl
 
-  pub panes-reached : Reaching toldWalkRay (paneOf indices panes) nearer lt (λ b. b .ray .tmax)
+  told-reach : (t : Float) (b : WalkRay) → lt (seenAt (b .ray) t) (b .ray .tmax) ≡ true → toldWalkRay t b .ray .tmax ≡ t
+  told-reach t b e = ap (λ (c : Bool). cond c (reaching t (b .ray)) (b .ray) .tmax) (counts-seen (b .ray) t ∙ e)
+
+  pub panes-reached : Reaching toldWalkRay (paneOf indices panes) nearer lt (λ b. b .ray .tmax) (λ b. seenAt (b .ray))
   panes-reached = record {
-    nearer-is = λ t b. counts-is (b .ray) t;
+    nearer-is = λ t b. counts-seen (b .ray) t;
+    seen-is = λ t x b. seen-itself (b .ray) t x;
     told-reach = told-reach;
     told-pane = λ p t b. reach-pane p t b (counts (b .ray) t);
+    told-seen = λ t x b. reach-seen t x b (counts (b .ray) t);
   }

@@ -10,7 +10,7 @@ use native.Mathlib.Omega.{arith}
 use lib.Ieee.{Float}
 use lib.ListN.{length, getD}
 use Rattle.ray.specs.declared.Ray.{Ray}
-use Rattle.ray.specs.Ray.{counts}
+use Rattle.ray.specs.Ray.{reaching, counts}
 use Rattle.walk.specs.Step as S
 use Rattle.walk.specs.Queries.{Reaction, Pane, distance, faulty, Found, none, hit, fault, closest, miss, lower, lowerAt, blockAt}
 use Rattle.record_shape.specs.Record.{nodeCount}
@@ -18,7 +18,7 @@ use Rattle.walk.specs.Words as W
 use Rattle.walk.specs.Words.{firstPosition, restOf}
 use Rattle.walk.specs.WordStep.{WalkerWords, SteppedWords, NodeWords, afterReportWords, seekWords}
 use Rattle.walk.specs.WordQueries.{OutcomeWords, toldAllWords}
-use Rattle.walk_record.specs.WalkRay.{WalkRay, reaching, byBoxes}
+use Rattle.walk_record.specs.WalkRay.{WalkRay, byBoxes}
 use Rattle.walk_record.specs.Record.{FieldsFit, nodeWordsAt}
 use Rattle.advance.specs.declared.Group.{Group}
 use Rattle.advance.specs.declared.Walk.{Walk}

@@ -1,5 +1,5 @@
 -- What closest and miss are to answer over panes without a fault, in terms of the positions that their walks report (01, "Walking"; "Corners of each
--- file", cwbvh/mod.rs). Told distances prune the walk, so these need not be all positions that the ray passes.
+-- file", cwbvh/mod.rs; 02, [1]). Told distances prune the walk, so these need not be all positions that the ray passes.
 use mathlib.Core.Bool.{true}
 use mathlib.Core.List.{List, List·Nodup}
 use mathlib.Core.Logic.{_⊎_, _↔_}
@@ -8,6 +8,7 @@ use Prim.Native.Nat.{ℕ, _/_, _%_, _<_}
 use lib.Ieee.{Float, lt}
 use lib.ListN.{length, getD}
 use Rattle.ray.specs.declared.Ray.{Ray}
+use Rattle.ray.specs.Ray.{seenAt}
 use Rattle.aabb.specs.Aabb.{acceptedBox, entryDistance}
 use Rattle.walk.specs.Step.{Answer}
 use Rattle.walk.specs.Calls.{All, reported}
@@ -46,16 +47,20 @@ module _ (bytes indices : List ℕ) (panes : List Float) (ray : Ray) where
   abbrev entersAt : ℕ → Float
   entersAt = distanceOf indices panes ray
 
+  -- and where it sees that pane: nowhere, if it enters it before its start
+  abbrev seesAt : ℕ → Float
+  seesAt p = seenAt ray (entersAt p)
+
   -- what closest answers
   pub record ClosestAnswers : Type 0 where
     -- no refusal
     pub answers : (closestOf bytes indices panes ray .answer ≡ noHit)
         ⊎ ((p : ℕ) × (t : Float) × (closestOf bytes indices panes ray .answer ≡ hitAt p t))
-    -- A hit is the nearest position reported, the first met of equal ones, at its pane's distance, and that is below the reach.
+    -- A hit is the nearest position reported that is seen, the first met of equal ones, at its pane's distance, and that is below the reach.
     pub hit : (p : ℕ) (t : Float)
-        → closestOf bytes indices panes ray .answer ≡ hitAt p t ↔ (t ≡ entersAt p) × Nearest lt entersAt (ray .tmax) closestReports p
-    -- No hit: no position reported is below the reach.
-    pub no-hit : closestOf bytes indices panes ray .answer ≡ noHit ↔ NoneBelow lt entersAt (ray .tmax) closestReports
+        → closestOf bytes indices panes ray .answer ≡ hitAt p t ↔ (t ≡ entersAt p) × Nearest lt seesAt (ray .tmax) closestReports p
+    -- No hit: no position reported is seen below the reach.
+    pub no-hit : closestOf bytes indices panes ray .answer ≡ noHit ↔ NoneBelow lt seesAt (ray .tmax) closestReports
     -- No position is reported twice; each is one that the ray passes, so that any-hit lists it too; and each has a pane, met at its distance.
     pub once : List·Nodup closestReports
     pub passed : All (Passed bytes (length indices) ray) closestReports
@@ -67,13 +72,13 @@ module _ (bytes indices : List ℕ) (panes : List Float) (ray : Ray) where
   pub record MissAnswers : Type 0 where
     -- no refusal
     pub answers : (missOf bytes indices panes ray .answer ≡ missed) ⊎ (missOf bytes indices panes ray .answer ≡ blocked)
-    -- Blocked: the last position reported is below the reach, and none before it.
-    pub blocked-iff : missOf bytes indices panes ray .answer ≡ blocked ↔ ((p : ℕ) × Blocks lt entersAt (ray .tmax) missReports p)
+    -- Blocked: the last position reported is seen below the reach, and none before it.
+    pub blocked-iff : missOf bytes indices panes ray .answer ≡ blocked ↔ ((p : ℕ) × Blocks lt seesAt (ray .tmax) missReports p)
     -- Missed: none is.
-    pub missed-iff : missOf bytes indices panes ray .answer ≡ missed ↔ NoneBelow lt entersAt (ray .tmax) missReports
-    -- It reports what closest does, up to the first below the reach. So it misses exactly if closest has no hit, and
+    pub missed-iff : missOf bytes indices panes ray .answer ≡ missed ↔ NoneBelow lt seesAt (ray .tmax) missReports
+    -- It reports what closest does, up to the first that is seen below the reach. So it misses exactly if closest has no hit, and
     -- is blocked exactly if closest has one.
-    pub as-closest : missReports ≡ upTo (λ p. lt (entersAt p) (ray .tmax)) closestReports
+    pub as-closest : missReports ≡ upTo (λ p. lt (seesAt p) (ray .tmax)) closestReports
     pub missed-no-hit : missOf bytes indices panes ray .answer ≡ missed ↔ closestOf bytes indices panes ray .answer ≡ noHit
     pub blocked-hit : missOf bytes indices panes ray .answer ≡ blocked
         ↔ ((p : ℕ) × (t : Float) × (closestOf bytes indices panes ray .answer ≡ hitAt p t))

@@ -1,3 +1,4 @@
+pub mod Limit
 pub mod Terms
 pub mod Passing
 pub mod Reach

@@ -13,7 +13,7 @@ use Rattle.node.specs.declared.Slot.{Slot}
 use Rattle.node.specs.declared.Node.{Node}
 use Rattle.node_rule.specs.Rule.{Head}
 use Rattle.node_slot.specs.Slot.{nearLimit, nearX, nearY, nearZ, farX, farY, farZ, nearOf, farOf, passes}
-use Rattle.node_hits.proofs.Terms.{Inverted, SlotBytes, Terms, terms-finite, max-no-nan, min-no-nan, within-no-nan, finite-no-nan}
+use Rattle.node_hits.proofs.Terms.{Inverted, SlotBytes, Terms, terms-finite, max-no-nan, min-no-nan, within-no-nan}
 
 -- a value is at most each far value and tmax
 pub record AtMostFar (v : Node) (t : Slot) (r : Ray) (a : Float) : Type 0 where
@@ -81,9 +81,6 @@ module _ (v : Node) (t : Slot) (r : Ray) (f : Terms v t r) where
   near-nan-xyz : T (not (isNan (maxOf (maxOf (nearX v t r) (nearY v t r)) (nearZ v t r))))
   near-nan-xyz = max-no-nan (maxOf (nearX v t r) (nearY v t r)) (nearZ v t r) near-nan-xy near-nan-z
 
-  limit-nan : T (not (isNan (nearLimit r)))
-  limit-nan = finite-no-nan (nearLimit r) (f .limit)
-
   far-nan-x : T (not (isNan (farX v t r)))
   far-nan-x = within-no-nan 72 (farX v t r) (f .x .far)
 
@@ -118,7 +115,7 @@ module _ (v : Node) (t : Slot) (r : Ray) (f : Terms v t r) where
   unfolding passes nearOf
   passes-to h =
       let far = farOf v t r in
-      let w = max-to (maxOf (maxOf (nearX v t r) (nearY v t r)) (nearZ v t r)) (nearLimit r) far near-nan-xyz limit-nan h in
+      let w = max-to (maxOf (maxOf (nearX v t r) (nearY v t r)) (nearZ v t r)) (nearLimit r) far near-nan-xyz (f .limit) h in
       let xyz = max-to (maxOf (nearX v t r) (nearY v t r)) (nearZ v t r) far near-nan-xy near-nan-z (w .0) in
       let xy = max-to (nearX v t r) (nearY v t r) far near-nan-x near-nan-y (xyz .0) in
       record {
@@ -133,7 +130,7 @@ module _ (v : Node) (t : Slot) (r : Ray) (f : Terms v t r) where
   unfolding passes nearOf
   passes-from h =
       let far = farOf v t r in
-      max-from (maxOf (maxOf (nearX v t r) (nearY v t r)) (nearZ v t r)) (nearLimit r) far near-nan-xyz limit-nan
+      max-from (maxOf (maxOf (nearX v t r) (nearY v t r)) (nearZ v t r)) (nearLimit r) far near-nan-xyz (f .limit)
       (max-from (maxOf (nearX v t r) (nearY v t r)) (nearZ v t r) far near-nan-xy near-nan-z
       (max-from (nearX v t r) (nearY v t r) far near-nan-x near-nan-y (far-from (nearX v t r) (h .near-x)) (far-from (nearY v t r) (h .near-y)))
       (far-from (nearZ v t r) (h .near-z)))

@@ -1,5 +1,5 @@
--- On a node that meets the rule, for an accepted ray with the inverse of its direction, no value of the slot test is a NaN or infinite;
--- tmax alone may be infinite, as the ray has it.
+-- On a node that meets the rule, for an accepted ray with the inverse of its direction, no value of the slot test is a NaN; only tmax and the near
+-- limit may be infinite, as the ray has them, and through them the least far and the largest near value.
 use mathlib.Core.Path.{_≡_, sym, subst}
 use mathlib.Core.Bool.{Bool, true, false, not, cond}
 use Prim.Native.Nat.{ℕ, _*_, _%_, _^_, _≤_, _<_}
@@ -8,13 +8,12 @@ use native.Mathlib.Omega.{arith}
 use lib.Dec.{T, le→leb, lit<, lit≤}
 use lib.IntN.{pos}
 use lib.Pow.{pow-mono}
-use lib.Ieee.{Float, nan, inf, fin, binary32, round, ofBits, ofInt, lt, isNan}
-use lib.Ieee.Scale.{finite}
+use lib.Ieee.{Float, binary32, ofBits, ofInt, lt, isNan}
 use Rattle.float.specs.Compare.{minOf, maxOf, inBounds}
 use Rattle.float.specs.Magnitude.{Within}
 use Rattle.float.specs.PowerOfTwo.{scaleOf}
 use Rattle.float.proofs.Held.{held-pow}
-use Rattle.float.proofs.Magnitude.{atmost-le, atmost-finite, atmost-no-nan, add-within, sub-within, mul-within}
+use Rattle.float.proofs.Magnitude.{atmost-le, atmost-no-nan, add-within, sub-within, mul-within}
 use Rattle.float.proofs.Rounding.{round-atmost}
 use Rattle.ray.specs.declared.Ray.{Ray}
 use Rattle.ray.specs.Ray.{safeInverse, belowZero}
@@ -24,8 +23,8 @@ use Rattle.node.specs.declared.Node.{Node}
 use Rattle.node_rule.specs.Rule.{pointOk, Exponent, Head}
 use Rattle.node_rule.proofs.PointBits.{point-bits}
 use Rattle.node_slot.specs.Slot.{nearLimit, adjustedInverse, adjustedOrigin, planeAt, nearByte, farByte, nearX, nearY, nearZ, farX, farY, farZ}
-use Rattle.node_slot.specs.Slot.{nearOf}
-use Rattle.node_slot.specs.Slot.{farOf}
+use Rattle.node_slot.specs.Slot.{nearOf, farOf}
+use Rattle.node_hits.proofs.Limit.{limit-number}
 
 -- the inverse is the direction's
 pub record Inverted (r : Ray) : Type 0 where
@@ -94,18 +93,10 @@ pub record Terms (v : Node) (t : Slot) (r : Ray) : Type 0 where
   pub x : AxisTerms (v .px) (v .ex) (t .«min_x») (t .«max_x») (r .direction .x) (r .origin .x) (r .inverse .x)
   pub y : AxisTerms (v .py) (v .ey) (t .«min_y») (t .«max_y») (r .direction .y) (r .origin .y) (r .inverse .y)
   pub z : AxisTerms (v .pz) (v .ez) (t .«min_z») (t .«max_z») (r .direction .z) (r .origin .z) (r .inverse .z)
-  pub limit : T (finite (nearLimit r))
+  pub limit : T (not (isNan (nearLimit r)))
   pub tmax : T (not (isNan (r .tmax)))
-  pub near : T (finite (nearOf v t r))
+  pub near : T (not (isNan (nearOf v t r)))
   pub far : T (not (isNan (farOf v t r)))
-
-pub max-finite : (a b : Float) → T (finite a) → T (finite b) → T (finite (maxOf a b))
-unfolding maxOf
-max-finite a b h k = go (lt b a)
-  where
-    go : (c : Bool) → T (finite (cond c a b))
-    go true = h
-    go false = k
 
 pub max-no-nan : (a b : Float) → T (not (isNan a)) → T (not (isNan b)) → T (not (isNan (maxOf a b)))
 unfolding maxOf
@@ -114,12 +105,6 @@ max-no-nan a b h k = go (lt b a)
     go : (c : Bool) → T (not (isNan (cond c a b)))
     go true = h
     go false = k
-
-pub finite-no-nan : (a : Float) → T (finite a) → T (not (isNan a))
-unfolding isNan
-finite-no-nan nan h = h
-finite-no-nan (inf s) h = tt
-finite-no-nan (fin s m e) h = tt
 
 pub min-no-nan : (a b : Float) → T (not (isNan a)) → T (not (isNan b)) → T (not (isNan (minOf a b)))
 unfolding minOf
@@ -131,13 +116,6 @@ min-no-nan a b h k = go (lt a b)
 
 pub within-no-nan : (k : ℕ) (x : Float) → Within k x → T (not (isNan x))
 within-no-nan k x h = atmost-no-nan x (2 ^ k) 1 h
-
-pub within-finite : (k : ℕ) (x : Float) → Within k x → T (finite x)
-within-finite k x h = atmost-finite x (2 ^ k) 1 h
-
-pub limit-finite : (r : Ray) → T (finite (nearLimit r))
-unfolding nearLimit round
-limit-finite r = tt
 
 pub terms-finite : (v : Node) (t : Slot) (r : Ray) → Head v → SlotBytes t → Accepted r → Inverted r → Terms v t r
 unfolding nearOf farOf
@@ -152,14 +130,14 @@ terms-finite v t r h b a i =
       x = x;
       y = y;
       z = z;
-      limit = limit-finite r;
+      limit = limit-number r;
       tmax = a .tmax;
       near =
-          max-finite (maxOf (maxOf (nearX v t r) (nearY v t r)) (nearZ v t r)) (nearLimit r)
-          (max-finite (maxOf (nearX v t r) (nearY v t r)) (nearZ v t r)
-          (max-finite (nearX v t r) (nearY v t r) (within-finite 72 (nearX v t r) (x .near)) (within-finite 72 (nearY v t r) (y .near)))
-          (within-finite 72 (nearZ v t r) (z .near)))
-          (limit-finite r);
+          max-no-nan (maxOf (maxOf (nearX v t r) (nearY v t r)) (nearZ v t r)) (nearLimit r)
+          (max-no-nan (maxOf (nearX v t r) (nearY v t r)) (nearZ v t r)
+          (max-no-nan (nearX v t r) (nearY v t r) (within-no-nan 72 (nearX v t r) (x .near)) (within-no-nan 72 (nearY v t r) (y .near)))
+          (within-no-nan 72 (nearZ v t r) (z .near)))
+          (limit-number r);
       far =
           min-no-nan (minOf (minOf (farX v t r) (farY v t r)) (farZ v t r)) (r .tmax)
           (min-no-nan (minOf (farX v t r) (farY v t r)) (farZ v t r)

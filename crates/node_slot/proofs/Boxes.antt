@@ -1,5 +1,5 @@
 -- The parts of the test of a slot make up its definition.
-use mathlib.Core.Path.{_≡_, refl}
+use mathlib.Core.Path.{_≡_, refl, ap, _∙_}
 use mathlib.Core.Bool.{Bool, true, false, cond}
 use mathlib.Core.List.{List}
 use Prim.Native.Nat.{ℕ, _+_, _-_, _<_}
@@ -11,14 +11,20 @@ use Rattle.ray.specs.declared.Vec3.{Vec3}
 use Rattle.ray.specs.Ray.{belowZero}
 use Rattle.node.specs.declared.Node.{Node}
 use Rattle.node.specs.Node.{slotOffset, slotFrom}
-use Rattle.node_slot.specs.Slot.{nearLimit, nearOf, farOf, passes}
+use Rattle.float.specs.Compare.{maxOf}
+use Rattle.node_slot.specs.Slot.{leastLimit, nearLimit, nearOf, farOf, passes}
 use Rattle.node_slot.specs.declared.Ends.{Ends}
 use Rattle.node_slot.specs.Parts.{rayGridOf, nearEnd, endsOf, boxPasses, slotPasses}
 
--- the near limit as code writes it
-pub limit-is : (r : Ray) → ofBits binary32 953267991 ≡ nearLimit r
-unfolding nearLimit ofBits round
-limit-is r = refl
+-- 0.0001 as code writes it
+least-is : ofBits binary32 953267991 ≡ leastLimit
+unfolding leastLimit ofBits round
+least-is = refl
+
+-- the near limit as code takes it
+pub limit-is : (r : Ray) (limit : Float) → limit ≡ maxOf (r .tmin) (ofBits binary32 953267991) → limit ≡ nearLimit r
+unfolding nearLimit
+limit-is r limit e = e ∙ ap (maxOf (r .tmin)) least-is
 
 near-end-lt : (d : Float) → nearEnd d < 2
 near-end-lt d = go (belowZero d)

@@ -13,9 +13,14 @@ use Rattle.ray.specs.Ray.{belowZero}
 use Rattle.node.specs.declared.Slot.{Slot}
 use Rattle.node.specs.declared.Node.{Node}
 
--- no slot counts nearer than this: 0.0001
+-- no slot counts nearer than this, whatever the ray: 0.0001
+unfoldable pub leastLimit : Float
+leastLimit = round binary32 false 1 10000
+
+-- the near limit of a ray: the larger of its start and 0.0001, which it is for a start that is a NaN (02, [1])
 unfoldable pub nearLimit : Ray → Float
-nearLimit r = round binary32 false 1 10000
+unfolding maxOf leastLimit
+nearLimit r = maxOf (r .tmin) leastLimit
 
 -- the ray in the node's grid, on one axis: what a step of the grid adds to the distance, and the distance of p's plane
 unfoldable pub adjustedInverse : ℕ → Float → Float

@@ -179,7 +179,8 @@ pub fn intersect_ray(s: &[u8], o: usize, meta8: u64, ray: Ray, e: Ends, octant: 
     ensures { λ r. ⌜ r ≡ hitMask (nodeFrom (now (s .entry)) o) ray octant ⌝ }
 {
     let g = ray_in_grid(s, o, ray);
-    let on = marks(s, o, e, g, NEAR_LIMIT, ray.tmax);
+    let limit = float::max(ray.tmin, NEAR_LIMIT);
+    let on = marks(s, o, e, g, limit, ray.tmax);
     if on == 0 {
         return 0;
     }

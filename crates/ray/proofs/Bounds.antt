@@ -5,7 +5,7 @@ use Prim.Native.Nat.{ℕ, _^_, _≤_, _<_}
 use native.Mathlib.Omega.{arith}
 use lib.IntN.{pos, negsuc}
 use lib.Dec.{T, lit<, lit≤}
-use lib.Ieee.{Float, fin, binary32, div, le, isNan}
+use lib.Ieee.{Float, nan, fin, binary32, div, le, isNan}
 use lib.Ieee.Fits.{and-l, and-r}
 use Rattle.float.specs.Compare.{inBounds}
 use Rattle.float.specs.Magnitude.{Within}
@@ -62,16 +62,29 @@ safe-inverse-within v p = go (tiny v) refl
 pub record Accepted (r : Ray) : Type 0 where
   pub origin : Bounded (r .origin)
   pub direction : Bounded (r .direction)
+  pub tmin : T (not (isNan (r .tmin)))
   pub tmax : T (not (isNan (r .tmax)))
 
 pub accepted : (r : Ray) → T (acceptedRay r) → Accepted r
 unfolding acceptedRay
 accepted r t =
-    let both = and-l (boundedVec (r .origin) && boundedVec (r .direction)) (not (isNan (r .tmax))) t in record {
+    let bounds = boundedVec (r .origin) && boundedVec (r .direction) in
+    let start = and-l (bounds && not (isNan (r .tmin))) (not (isNan (r .tmax))) t in
+    let both = and-l bounds (not (isNan (r .tmin))) start in record {
       origin = bounded (r .origin) (and-l (boundedVec (r .origin)) (boundedVec (r .direction)) both);
       direction = bounded (r .direction) (and-r (boundedVec (r .origin)) (boundedVec (r .direction)) both);
-      tmax = and-r (boundedVec (r .origin) && boundedVec (r .direction)) (not (isNan (r .tmax))) t;
+      tmin = and-r bounds (not (isNan (r .tmin))) start;
+      tmax = and-r (bounds && not (isNan (r .tmin))) (not (isNan (r .tmax))) t;
     }
+
+-- with a NaN as its start a ray is not accepted
+pub nan-start-refused : (r : Ray) → r .tmin ≡ nan → acceptedRay r ≡ false
+unfolding acceptedRay isNan
+nan-start-refused r e = rw e (go (boundedVec (r .origin) && boundedVec (r .direction)) (not (isNan (r .tmax))))
+  where
+    go : (a b : Bool) → a && false && b ≡ false
+    go true b = refl
+    go false b = refl
 
 -- the inverse of a bounded component
 pub inverse-within : (v : Float) → Within 40 v → Within 23 (safeInverse v)

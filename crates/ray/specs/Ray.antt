@@ -2,7 +2,7 @@
 use Prim.Native.Nat.{ℕ, _+_, _-_}
 use mathlib.Core.Bool.{Bool, true, false, not, _&&_, cond}
 use lib.IntN.{pos, negsuc}
-use lib.Ieee.{Float, fin, binary32, div, lt, le, isNan}
+use lib.Ieee.{Float, inf, fin, binary32, div, lt, le, isNan}
 use Rattle.float.specs.Compare.{plusZero, inBounds}
 use Rattle.float.specs.Sign.{signBit}
 use Rattle.ray.specs.declared.Vec3.{Vec3}
@@ -34,14 +34,25 @@ rayOf o d near far = record {
   tmax = far;
 }
 
--- a distance counts for a ray: it is below the ray's reach, so no NaN does
+-- a ray with another start, and one with another reach
+abbrev pub startingAt : Float → Ray → Ray
+startingAt t r = record { origin = r .origin; direction = r .direction; inverse = r .inverse; tmin = t; tmax = r .tmax }
+
+abbrev pub reaching : Float → Ray → Ray
+reaching t r = record { origin = r .origin; direction = r .direction; inverse = r .inverse; tmin = r .tmin; tmax = t }
+
+-- a distance counts for a ray: it is not below the ray's start, and is below its reach; so no NaN does (02, [1])
 unfoldable pub counts : Ray → Float → Bool
-counts r t = lt t (r .tmax)
+counts r t = not (lt t (r .tmin)) && lt t (r .tmax)
+
+-- where a ray sees something at this distance: nowhere, which is infinitely far, if that is below the ray's start
+unfoldable pub seenAt : Ray → Float → Float
+seenAt r t = cond (lt t (r .tmin)) (inf false) t
 
 -- each component finite and within ±2 ^ 40
 unfoldable pub boundedVec : Vec3 → Bool
 boundedVec v = inBounds (v .x) && inBounds (v .y) && inBounds (v .z)
 
--- no cause 9: origin and direction bounded, tmax no NaN; tmin is free
+-- no cause 9: origin and direction bounded, neither tmin nor tmax a NaN
 unfoldable pub acceptedRay : Ray → Bool
-acceptedRay r = boundedVec (r .origin) && boundedVec (r .direction) && not (isNan (r .tmax))
+acceptedRay r = boundedVec (r .origin) && boundedVec (r .direction) && not (isNan (r .tmin)) && not (isNan (r .tmax))

@@ -10,7 +10,7 @@ pub struct Vec3 {
     pub z: f32,
 }
 
-// A ray with the inverse of its direction. `tmin` is stored and read by no walk.
+// A ray with the inverse of its direction, and the distances between which it meets something: its start and its reach.
 pub struct Ray {
     pub origin: Vec3,
     pub direction: Vec3,
@@ -80,10 +80,13 @@ impl Ray {
         }
     }
 
-    // Whether a distance counts: it is below the reach. NaN counts for no ray.
+    // Whether a distance counts: it is not before the start, and below the reach. NaN counts for no ray.
     pub fn counts(self, distance: f32) -> bool
         ensures { λ r. ⌜ r ≡ counts self distance ⌝ }
     {
+        if distance < self.tmin {
+            return false;
+        }
         distance < self.tmax
     }
 
@@ -93,7 +96,9 @@ impl Ray {
     {
         if self.origin.bounded() {
             if self.direction.bounded() {
-                return self.tmax == self.tmax;
+                if self.tmin == self.tmin {
+                    return self.tmax == self.tmax;
+                }
             }
         }
         false

@@ -8,7 +8,7 @@ use lib.Dec.{eqb, ltb, T}
 use lib.ListN.{length}
 use lib.Ieee.{Float}
 use borrow.Author.Tests.{ltb-false}
-use Rattle.ray.specs.Ray.{counts}
+use Rattle.ray.specs.Ray.{reaching, counts}
 use Rattle.lists.proofs.Tells.{tells-true, eqb-tells}
 use Rattle.causes.specs.Causes.{_unless_, firstCause}
 use Rattle.causes.specs.Sizes.{sizesFit, recordConditions, recordCause}
@@ -18,7 +18,7 @@ use Rattle.node_slot.specs.Parts.{endsOf}
 use Rattle.record_shape.specs.Record.{nodeCount}
 use Rattle.walk.specs.Step as S
 use Rattle.walk.specs.WordStep.{WalkerWords, SteppedWords, stayWords, emptiedWords, advanceWords, stepWords}
-use Rattle.walk_record.specs.WalkRay.{WalkRay, forgedRay, reaching, byBoxes}
+use Rattle.walk_record.specs.WalkRay.{WalkRay, forgedRay, byBoxes}
 use Rattle.walk_record.proofs.WalkRay.{walk-ray-laws}
 use Rattle.walk_record.specs.Record.{nodeWordsAt}
 use Rattle.walk_record.specs.Walk.{stepAt}

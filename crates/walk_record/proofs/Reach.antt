@@ -1,5 +1,5 @@
--- What a ray reaches and passes in a record, a ray with a higher reach reaches and passes too: for any bytes and any floats. So whatever is told,
--- the ray then held reaches no node and passes no position that it did not before.
+-- What a ray reaches and passes in a record, a ray with a higher reach or an earlier start reaches and passes too: for any bytes and any floats. So
+-- whatever is told, the ray then held reaches no node and passes no position that it did not before.
 use mathlib.Core.Bool.{Bool, true, false, cond}
 use mathlib.Core.List.{List}
 use mathlib.Core.Path.{_≡_, refl}
@@ -8,35 +8,35 @@ use lib.ListN.{getD}
 use lib.Ieee.{Float}
 use Rattle.float.proofs.Order.{le-of-lt}
 use Rattle.ray.specs.declared.Ray.{Ray}
-use Rattle.ray.specs.Ray.{counts}
+use Rattle.ray.specs.Ray.{reaching, counts}
 use Rattle.ray.proofs.Counts.{counts-below}
 use Rattle.node.specs.Node.{noSlot}
 use Rattle.node_slot.specs.Mask.{passesSlot}
 use Rattle.record_shape.specs.Record.{Nodes, nodesAt}
-use Rattle.node_hits.proofs.Reach.{LowerReach, lower-reach-passes-fewer}
+use Rattle.node_hits.proofs.Reach.{Narrower, lower-reach, passes-fewer}
 use Rattle.walk.proofs.Slots.{fewer-reached, fewer-passed}
 use Rattle.walk_record.specs.Record.{slotsAt}
-use Rattle.walk_record.specs.WalkRay.{WalkRay, walkRay, reaching, toldWalkRay, byBoxes}
+use Rattle.walk_record.specs.WalkRay.{WalkRay, walkRay, toldWalkRay, byBoxes}
 use Rattle.walk_record.specs.Walk.{Reached, Passed}
 
-passed-slot : (N : Nodes) (r s : Ray) → LowerReach r s → (v j : ℕ) → passesSlot (N .node v) r j ≡ true → passesSlot (N .node v) s j ≡ true
-passed-slot N r s lower v j = lower-reach-passes-fewer (N .node v) (getD (N .node v .slots) j noSlot) r s lower
+passed-slot : (N : Nodes) (r s : Ray) → Narrower r s → (v j : ℕ) → passesSlot (N .node v) r j ≡ true → passesSlot (N .node v) s j ≡ true
+passed-slot N r s narrower v j = passes-fewer (N .node v) (getD (N .node v .slots) j noSlot) r s narrower
 
-module _ (bytes : List ℕ) (n : ℕ) (r s : Ray) (lower : LowerReach r s) where
-  pub lower-reach-reaches-fewer : (v : ℕ) → Reached bytes n r v → Reached bytes n s v
-  lower-reach-reaches-fewer = fewer-reached (slotsAt bytes byBoxes n) (walkRay r) (walkRay s) (passed-slot (nodesAt bytes) r s lower)
+module _ (bytes : List ℕ) (n : ℕ) (r s : Ray) (narrower : Narrower r s) where
+  pub narrower-reaches-fewer : (v : ℕ) → Reached bytes n r v → Reached bytes n s v
+  narrower-reaches-fewer = fewer-reached (slotsAt bytes byBoxes n) (walkRay r) (walkRay s) (passed-slot (nodesAt bytes) r s narrower)
 
-  pub lower-reach-meets-fewer : (p : ℕ) → Passed bytes n r p → Passed bytes n s p
-  lower-reach-meets-fewer = fewer-passed (slotsAt bytes byBoxes n) (walkRay r) (walkRay s) (passed-slot (nodesAt bytes) r s lower) (λ p e. e)
+  pub narrower-meets-fewer : (p : ℕ) → Passed bytes n r p → Passed bytes n s p
+  narrower-meets-fewer = fewer-passed (slotsAt bytes byBoxes n) (walkRay r) (walkRay s) (passed-slot (nodesAt bytes) r s narrower) (λ p e. e)
 
 -- ---- telling
 
 -- a distance that counts lowers the reach
-told-lower : (t : Float) (r : Ray) → counts r t ≡ true → LowerReach (reaching t r) r
-told-lower t r h = record { origin = refl; direction = refl; inverse = refl; tmin = refl; reach = le-of-lt t (r .tmax) (counts-below r t h) }
+told-lower : (t : Float) (r : Ray) → counts r t ≡ true → Narrower (reaching t r) r
+told-lower t r h = lower-reach r t (le-of-lt t (r .tmax) (counts-below r t h))
 
--- so that what a higher reach keeps held before the telling
-told-held : (P : Ray → Type 0) → ((r s : Ray) → LowerReach r s → P r → P s) → (t : Float) (b : WalkRay) → P (toldWalkRay t b .ray) → P (b .ray)
+-- so that what a wider ray keeps held before the telling
+told-held : (P : Ray → Type 0) → ((r s : Ray) → Narrower r s → P r → P s) → (t : Float) (b : WalkRay) → P (toldWalkRay t b .ray) → P (b .ray)
 told-held P keeps t b = go (counts (b .ray) t) refl
   where
     go : (c : Bool) → counts (b .ray) t ≡ c → P (cond c (reaching t (b .ray)) (b .ray)) → P (b .ray)
@@ -49,7 +49,7 @@ told-passes-fewer N t b v j = told-held (λ r. passesSlot (N .node v) r j ≡ tr
 
 module _ (bytes : List ℕ) (n : ℕ) (t : Float) (b : WalkRay) where
   pub told-reaches-fewer : (v : ℕ) → Reached bytes n (toldWalkRay t b .ray) v → Reached bytes n (b .ray) v
-  told-reaches-fewer v = told-held (λ r. Reached bytes n r v) (λ r s l. lower-reach-reaches-fewer bytes n r s l v) t b
+  told-reaches-fewer v = told-held (λ r. Reached bytes n r v) (λ r s l. narrower-reaches-fewer bytes n r s l v) t b
 
   pub told-meets-fewer : (p : ℕ) → Passed bytes n (toldWalkRay t b .ray) p → Passed bytes n (b .ray) p
-  told-meets-fewer p = told-held (λ r. Passed bytes n r p) (λ r s l. lower-reach-meets-fewer bytes n r s l p) t b
+  told-meets-fewer p = told-held (λ r. Passed bytes n r p) (λ r s l. narrower-meets-fewer bytes n r s l p) t b

@@ -8,7 +8,7 @@ use lib.Ieee.{Float, nan, inf, fin, up, down, lt, eq, isNan}
 use borrow.Author.Tests.{eqb-true, eq-eqb}
 use Rattle.lists.proofs.Tells.{clash}
 use Rattle.ray.specs.declared.Vec3.{Vec3}
-use Rattle.ray.specs.Ray.{safeInverse, octantOf, rayOf, boundedVec, acceptedRay}
+use Rattle.ray.specs.Ray.{safeInverse, octantOf, rayOf, reaching, boundedVec, acceptedRay}
 use Rattle.ray.proofs.Bounds.{accepted, inverse-within}
 use Rattle.ray.proofs.Bounds
 use Rattle.ray.proofs.Counts.{counts-below}
@@ -16,7 +16,7 @@ use Rattle.float.specs.Magnitude.{Within}
 use Rattle.float.proofs.Magnitude.{atmost-no-nan}
 use Rattle.walk.proofs.Cases.{and-true, not-false-true}
 use Rattle.walk_record.specs.Record.{RayLaws, AllPresent}
-use Rattle.walk_record.specs.WalkRay.{WalkRay, walkRay, ownInverse, forgedRay, reaching, toldWalkRay, byBoxes}
+use Rattle.walk_record.specs.WalkRay.{WalkRay, walkRay, ownInverse, forgedRay, toldWalkRay, byBoxes}
 
 -- what is below something is no NaN
 below-no-nan : (x y : Float) → lt x y ≡ true → isNan x ≡ false
@@ -39,9 +39,11 @@ reach-accepted t b false n f = f
 reach-accepted t b true n f =
     let a = and-true (acceptedRay (b .ray) && ownInverse (b .ray)) (eqb (b .octant) (octantOf (b .ray .direction))) (not-false-true _ f) in
     let c = and-true (acceptedRay (b .ray)) (ownInverse (b .ray)) (a .0) in
-    let g = and-true (boundedVec (b .ray .origin) && boundedVec (b .ray .direction)) (not (isNan (b .ray .tmax))) (c .0) in
+    let bounds = boundedVec (b .ray .origin) && boundedVec (b .ray .direction) in
+    let s = and-true (bounds && not (isNan (b .ray .tmin))) (not (isNan (b .ray .tmax))) (c .0) in
+    let g = and-true bounds (not (isNan (b .ray .tmin))) (s .0) in
     let h = and-true (boundedVec (b .ray .origin)) (boundedVec (b .ray .direction)) (g .0) in
-    rw (h .0, h .1, n refl, c .1, a .1)
+    rw (h .0, h .1, g .1, n refl, c .1, a .1)
 
 told-accepted : (t : Float) (b : WalkRay) → forgedRay b ≡ false → forgedRay (toldWalkRay t b) ≡ false
 told-accepted t b = reach-accepted t b _ (λ e. below-no-nan t (b .ray .tmax) (counts-below (b .ray) t e))

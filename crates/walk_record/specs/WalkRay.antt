@@ -4,7 +4,7 @@ use Prim.Native.Nat.{ℕ}
 use lib.Dec.{eqb}
 use lib.Ieee.{Float, eq}
 use Rattle.ray.specs.declared.Ray.{Ray}
-use Rattle.ray.specs.Ray.{safeInverse, octantOf, counts, acceptedRay}
+use Rattle.ray.specs.Ray.{safeInverse, octantOf, reaching, counts, acceptedRay}
 use Rattle.node_slot.specs.Mask.{passesSlot}
 use Rattle.walk_record.specs.Record.{Rays}
 
@@ -25,10 +25,6 @@ ownInverse r =
 -- forged: cause 9 holds of the ray, or its inverse or its octant is not its direction's
 abbrev pub forgedRay : WalkRay → Bool
 forgedRay b = not (acceptedRay (b .ray) && ownInverse (b .ray) && eqb (b .octant) (octantOf (b .ray .direction)))
-
--- a ray with another reach
-abbrev pub reaching : Float → Ray → Ray
-reaching t r = record { origin = r .origin; direction = r .direction; inverse = r .inverse; tmin = r .tmin; tmax = t }
 
 -- a distance that counts becomes the reach; any other does nothing
 abbrev pub toldWalkRay : Float → WalkRay → WalkRay
