@@ -94,6 +94,9 @@ module _ (indices : List ℕ) (panes : List Float) where
   reach-pane p t b true = refl
   reach-pane p t b false = refl
 
+  pub told-pane : (p : ℕ) (t : Float) (b : WalkRay) → paneOf indices panes p (toldWalkRay t b) ≡ paneOf indices panes p b
+  told-pane p t b = reach-pane p t b (counts (b .ray) t)
+
   -- nor what is seen where
   reach-seen : (t x : Float) (b : WalkRay) (c : Bool) → seenAt (cond c (reaching t (b .ray)) (b .ray)) x ≡ seenAt (b .ray) x
   unfolding seenAt
@@ -108,6 +111,6 @@ module _ (indices : List ℕ) (panes : List Float) where
     nearer-is = λ t b. counts-seen (b .ray) t;
     seen-is = λ t x b. seen-itself (b .ray) t x;
     told-reach = told-reach;
-    told-pane = λ p t b. reach-pane p t b (counts (b .ray) t);
+    told-pane = told-pane;
     told-seen = λ t x b. reach-seen t x b (counts (b .ray) t);
   }

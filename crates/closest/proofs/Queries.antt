@@ -78,7 +78,7 @@ closest-held (Refused k) tests h = absurd h
 -- ---- how they react to a position, by its pane
 
 module _ (indices : List ℕ) (panes : List Float) (p : ℕ) (b : WalkRay) (x : Found Float) where
-  closest-at : (t : Float) → paneOf indices panes p b ≡ distance t → (c : Bool) → counts (b .ray) t ≡ c
+  pub closest-at : (t : Float) → paneOf indices panes p b ≡ distance t → (c : Bool) → counts (b .ray) t ≡ c
       → closest (paneOf indices panes) nearer p b x ≡ lower (paneOf indices panes) nearer c p t x
   closest-at t q c h =
       ap (λ (y : Pane Float). lowerAt (paneOf indices panes) nearer y p b x) q ∙ ap (λ (d : Bool). lower (paneOf indices panes) nearer d p t x) h
@@ -87,7 +87,7 @@ module _ (indices : List ℕ) (panes : List Float) (p : ℕ) (b : WalkRay) (x : 
       → closest (paneOf indices panes) nearer p b x ≡ record { accumulator = fault k; tells = []; stop = true }
   closest-faulty k q = ap (λ (y : Pane Float). lowerAt (paneOf indices panes) nearer y p b x) q
 
-  miss-at : (t : Float) → paneOf indices panes p b ≡ distance t → (c : Bool) → counts (b .ray) t ≡ c
+  pub miss-at : (t : Float) → paneOf indices panes p b ≡ distance t → (c : Bool) → counts (b .ray) t ≡ c
       → miss (paneOf indices panes) nearer p b x ≡ record { accumulator = cond c (hit p t) x; tells = []; stop = c }
   miss-at t q c h =
       ap (λ (y : Pane Float). blockAt (paneOf indices panes) nearer y p b x) q

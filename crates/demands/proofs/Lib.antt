@@ -14,5 +14,6 @@ pub mod SoundWalks
 pub mod Walks
 pub mod Runs
 pub mod Done
+pub mod NearLimit
 pub mod SoundPanes
 pub mod Panes

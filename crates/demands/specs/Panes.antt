@@ -1,6 +1,6 @@
 -- What closest and miss are to answer over panes without a fault, in terms of the positions that their walks report (01, "Walking"; "Corners of each
 -- file", cwbvh/mod.rs; 02, [1]). Told distances prune the walk, so these need not be all positions that the ray passes.
-use mathlib.Core.Bool.{true}
+use mathlib.Core.Bool.{true, false}
 use mathlib.Core.List.{List, List·Nodup}
 use mathlib.Core.Logic.{_⊎_, _↔_}
 use mathlib.Core.Path.{_≡_}
@@ -12,6 +12,7 @@ use Rattle.ray.specs.Ray.{seenAt}
 use Rattle.aabb.specs.Aabb.{acceptedBox, entryDistance}
 use Rattle.walk.specs.Step.{Answer}
 use Rattle.walk.specs.Calls.{All, reported}
+use Rattle.walk.specs.Listing.{In}
 use Rattle.walk.specs.Queries.{distance, none, closest, miss}
 use Rattle.walk.specs.Reports.{testedNodes, upTo, NoneBelow, Nearest, Blocks}
 use Rattle.walk_record.specs.Walk.{Passed}
@@ -24,6 +25,13 @@ pub record Panes (indices : List ℕ) (panes : List Float) : Type 0 where
   pub whole : length panes % 6 ≡ 0
   pub accepted : (k : ℕ) → k < length panes / 6 → acceptedBox (boxIn panes k) ≡ true
   pub named : (p : ℕ) → p < length indices → getD indices p 0 < length panes / 6
+
+-- A position that was reported, its pane met at distance t, and t counts: it is not below the ray's start, and is below its reach.
+pub record HitCounts (indices : List ℕ) (panes : List Float) (ray : Ray) (reports : List ℕ) (p : ℕ) (t : Float) : Type 0 where
+  pub reported : In p reports
+  pub met : paneMet panes (getD indices p 0) ray ≡ distance t
+  pub not-before-start : lt t (ray .tmin) ≡ false
+  pub below-reach : lt t (ray .tmax) ≡ true
 
 -- the distance at which a ray enters a position's pane
 abbrev pub distanceOf : List ℕ → List Float → Ray → ℕ → Float

@@ -21,5 +21,6 @@ pub mod WordKept
 pub mod WordEnds
 pub mod Reports
 pub mod Nearest
+pub mod Hits
 pub mod Noted
 pub mod Told

@@ -9,6 +9,7 @@ use Rattle.walk.specs.Calls.{All}
 use Rattle.walk.specs.Queries.{Reaction, Pane, distance, Found, none, hit, closest, miss, lower, lowerAt, blockAt}
 use Rattle.walk.specs.Reports.{toldRay, Notes, upTo, NoneBelow, Nearest, Blocks}
 use Rattle.walk.proofs.Lists.{all-map}
+use Rattle.walk.proofs.Hits.{After}
 use Rattle.walk.proofs.Nearest.{up-to-same, Order, front-nearest, nearer-later, nearest-stays, blocks-stays}
 
 -- Nearer is seen less far than the ray's reach, and what is seen less far than anything is seen where it is. A distance told that is so seen
@@ -49,13 +50,6 @@ module _ {RayData Distance : Type 0} (m : ℕ) (T : Tests RayData Distance) (pan
 
   abbrev React : Type 0
   React = Reaction Distance (Found Distance)
-
-  -- the notes of the positions after a reaction
-  abbrev After : (ℕ → RayData → Found Distance → React) → RayData → List ℕ → Found Distance → React → Type 0
-  After react r l y k = elim (k .stop) as (λ (b : Bool). Type 0) [
-    | true ↦ (l ≡ []) × (y ≡ k .accumulator)
-    | false ↦ Notes m T react (toldRay T (k .tells) r) (k .accumulator) l y
-  ]
 
   -- ---- closest
 
@@ -108,9 +102,9 @@ module _ {RayData Distance : Type 0} (m : ℕ) (T : Tests RayData Distance) (pan
       → Picks less distanceOf (reach r) x y l
   closest-picks [] r x y h n = kept n tt
   closest-picks (p ∷ l) r x y h n =
-      go (less (distanceOf p) (reach r)) refl (subst (After (closest pane nearer) r l y) (closest-is p r x (h .0)) n) (closest-picks l)
+      go (less (distanceOf p) (reach r)) refl (subst (After m T (closest pane nearer) r l y) (closest-is p r x (h .0)) n) (closest-picks l)
     where
-      go : (c : Bool) → less (distanceOf p) (reach r) ≡ c → After (closest pane nearer) r l y (lower pane nearer c p (distanceOf p) x)
+      go : (c : Bool) → less (distanceOf p) (reach r) ≡ c → After m T (closest pane nearer) r l y (lower pane nearer c p (distanceOf p) x)
           → ((r : RayData) (x y : Found Distance) → All (Sees r) l → Notes m T (closest pane nearer) r x l y → Picks less distanceOf (reach r) x y l)
           → Picks less distanceOf (reach r) x y (p ∷ l)
       go true e k f =
@@ -146,9 +140,9 @@ module _ {RayData Distance : Type 0} (m : ℕ) (T : Tests RayData Distance) (pan
       → Stops less distanceOf (reach r) x y l
   miss-stops [] r x y h n = missed n tt
   miss-stops (p ∷ l) r x y h n =
-      go (less (distanceOf p) (reach r)) refl (subst (After (miss pane nearer) r l y) (miss-is p r x (h .0)) n) (miss-stops l r x y (h .1))
+      go (less (distanceOf p) (reach r)) refl (subst (After m T (miss pane nearer) r l y) (miss-is p r x (h .0)) n) (miss-stops l r x y (h .1))
     where
-      go : (c : Bool) → less (distanceOf p) (reach r) ≡ c → After (miss pane nearer) r l y (blockedBy c p x)
+      go : (c : Bool) → less (distanceOf p) (reach r) ≡ c → After m T (miss pane nearer) r l y (blockedBy c p x)
           → (Notes m T (miss pane nearer) r x l y → Stops less distanceOf (reach r) x y l) → Stops less distanceOf (reach r) x y (p ∷ l)
       go true e k f = blocked p (k .1) (record { before = []; last = ap (p ∷_) (k .0); below = e; first = tt })
       go false e k f = later p (reach r) x y l e (f k)
