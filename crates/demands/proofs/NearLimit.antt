@@ -146,9 +146,9 @@ module _ (bytes indices : List ℕ) (panes : List Float) (are-bytes : (i : ℕ) 
         h .0,
         h .1,
         hit-came (missReports bytes indices panes ray) (h .0) (h .1) _ (h .2)
-        (miss-came (paneOf indices panes) nearer (nodeCount bytes) T (told-pane indices panes) told-counts
-        (missReports bytes indices panes ray) (walkRay ray) none _
-        (query-noted bytes (b .0) are-bytes n (b .1) (miss (paneOf indices panes) nearer) none)),
+            (miss-came (paneOf indices panes) nearer (nodeCount bytes) T (told-pane indices panes) told-counts
+            (missReports bytes indices panes ray) (walkRay ray) none _
+            (query-noted bytes (b .0) are-bytes n (b .1) (miss (paneOf indices panes) nearer) none)),
       )
 
 -- ---- telling
