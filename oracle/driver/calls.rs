@@ -33,11 +33,11 @@ pub fn told(rng: &mut Rng) -> Vec<f32> {
     if rng.once_in(2) { vec![f32::INFINITY] } else { (0..k).map(|_| distance(rng)).collect() }
 }
 
-/// What the published traversal does from a walker on, which must be what the rules say.
+/// What the published traversal does from a walker on, which must be what the rules say, with the same tmax at the end.
 pub fn agreed_steps(record: &[u8], n: usize, from: &Held, told: &[f32]) -> Vec<Step> {
-    let steps = query::steps(&bvh_of(record, &vec![0; n]), from, told);
-    assert_eq!(steps, walk::steps(record, n, from, told));
-    steps
+    let published = query::steps(&bvh_of(record, &vec![0; n]), from, told);
+    assert_eq!(published, walk::steps(record, n, from, told));
+    published.0
 }
 
 /// Walkers just begun, to done and two steps further.
@@ -122,7 +122,7 @@ fn run_on(rng: &mut Rng, g: &mut Group, k: usize) {
         let about = target_box(rng, &t);
         let (r, told) = (ray(rng, &about), told(rng));
         let h = odd_walker(rng, &r, c.record.len() / 80, n);
-        if walk::steps(&c.record, n, &h, &told).contains(&Step::Refused(10)) {
+        if walk::steps(&c.record, n, &h, &told).0.contains(&Step::Refused(10)) {
             continue;
         }
         let mut run = ground.held(&h);

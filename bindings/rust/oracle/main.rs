@@ -219,7 +219,7 @@ fn one_ray(rng: &mut Rng, t: &Tree, s: &Scene, hurt: &Scene, n: usize, counts: &
     assert!(asked(hurt, &odd) == by_rules);
     let hurt_record = Record::from_parts(hurt.record.clone(), hurt.list.clone());
     let h = forged(rng, &r, hurt.record.len() / 80);
-    assert_eq!(steps(Walk::resume(&hurt_record, state(&h)), &told), walk::steps(&hurt.record, hurt.list.len(), &h, &told));
+    assert_eq!(steps(Walk::resume(&hurt_record, state(&h)), &told), walk::steps(&hurt.record, hurt.list.len(), &h, &told).0);
     counts.rays += 1;
 }
 
