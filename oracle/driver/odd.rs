@@ -84,6 +84,9 @@ pub fn forged(rng: &mut Rng, r: &Ray, m: usize) -> Vec<Held> {
             all.push(Held::fresh(&bad));
         }
     }
+    for (tmin, tmax) in [(f32::NAN, r.tmax), (f32::NAN, f32::INFINITY), (r.tmin, f32::NAN), (f32::NAN, f32::NAN)] {
+        all.push(Held::fresh(&Ray { tmin, tmax, ..*r }));
+    }
     for axis in 0..3 {
         let turned = |x: f32, k: usize| match k {
             0 => -x,
