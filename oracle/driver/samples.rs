@@ -1,7 +1,7 @@
 //! The samples that the Rust can say something of, and the record line of T.
 use crate::accept::{Room, accepted_box, conversion_refusal};
 use crate::calls::agreed_steps;
-use crate::convert::{bvh_of, convert};
+use crate::convert::{Converted, bvh_of, convert};
 use crate::generate::{Boxes, chain};
 use crate::query;
 use crate::scene::{Asked, Scene, through_t};
@@ -72,11 +72,8 @@ fn near_limits(all: &mut Tally) {
 
 const T_LINES: &str = "0 0000000000000000000000007978780001000000000000002021000000000000008000000000000040c00000000000000000000000000000808000000000000000000000000000008080000000000000\nindices 0 1\n";
 
-pub fn run() -> bool {
-    let mut all = Tally { failed: 0 };
-    let t = sample_tree();
-    let c = convert(&t, 3, false);
-    print!("{}", shown(&c));
+/// What conversion writes for T, and e bytes.
+fn conversions(all: &mut Tally, t: &Tree, c: &Converted) {
     all.holds("S1 the e bytes of T are 121, 120, 120", c.record[12..15] == [121, 120, 120]);
     all.holds("S2 extent 255 and the next: 127, 128", (exponent(255.0), exponent(next_up(255.0))) == (127, 128));
     all.holds(
@@ -84,12 +81,20 @@ pub fn run() -> bool {
         (exponent(261120.0), exponent(next_up(261120.0))) == (137, 138),
     );
     all.holds("S4 extent 0: 53", exponent(0.0) == 53);
-    let o = convert(&t, 3, true);
+    let o = convert(t, 3, true);
     let metas: Vec<usize> = (0..8).filter(|&s| o.record[24 + s] != 0).collect();
     all.holds(
         "S5 with ordering A takes slot 0 and B takes slot 4",
         metas == [0, 4] && o.list == [0, 1] && (o.record[32], o.record[40]) == (0, 0x40) && (o.record[36], o.record[44]) == (0x80, 0xc0),
     );
+}
+
+pub fn run() -> bool {
+    let mut all = Tally { failed: 0 };
+    let t = sample_tree();
+    let c = convert(&t, 3, false);
+    print!("{}", shown(&c));
+    conversions(&mut all, &t, &c);
     let bvh = bvh_of(&c.record, &c.list);
     let panes: Vec<Aabb> = vec![t.aabb(1), t.aabb(2)];
     let ray = |y: f32| Ray::new(vec3a(-1.0, 0.5, 0.5), vec3a(1.0, y, 0.0), 0.0, f32::INFINITY);
