@@ -137,11 +137,18 @@ fn any_hits(s: &Scene, name: &str, rays: &[[f32; 8]]) {
     );
 }
 
+/// A position's distance by its pane, or +infinity where it is below tmin.
+#[inline(always)]
+fn distance(s: &Scene, r: &Ray, id: usize) -> f32 {
+    let t = s.boxes[s.bvh.primitive_indices[id] as usize].intersect_ray(r);
+    if t < r.tmin { f32::INFINITY } else { t }
+}
+
 /// A closest hit as the published code finds it: position and distance.
 #[inline(always)]
 fn closest(s: &Scene, r: &[f32; 8]) -> Option<(u32, f32)> {
     let mut hit = RayHit::none();
-    let met = s.bvh.ray_traverse(published(r), &mut hit, |r, id| s.boxes[s.bvh.primitive_indices[id] as usize].intersect_ray(r));
+    let met = s.bvh.ray_traverse(published(r), &mut hit, |r, id| distance(s, r, id));
     met.then_some((hit.primitive_id, hit.t))
 }
 
@@ -171,7 +178,7 @@ fn closests(s: &Scene, name: &str, rays: &[[f32; 8]]) {
 
 #[inline(always)]
 fn missed(s: &Scene, r: &[f32; 8]) -> bool {
-    s.bvh.ray_traverse_miss(published(r), |r, id| s.boxes[s.bvh.primitive_indices[id] as usize].intersect_ray(r))
+    s.bvh.ray_traverse_miss(published(r), |r, id| distance(s, r, id))
 }
 
 fn misses(s: &Scene, name: &str, rays: &[[f32; 8]]) {

@@ -19,7 +19,7 @@ pub fn accepted_box(b: &Aabb) -> bool {
 /// No cause 9 holds of the ray.
 pub fn accepted_ray(r: &Ray) -> bool {
     let f = [r.origin.x, r.origin.y, r.origin.z, r.direction.x, r.direction.y, r.direction.z];
-    f.iter().all(|&x| in_bounds(x)) && !r.tmax.is_nan()
+    f.iter().all(|&x| in_bounds(x)) && !r.tmin.is_nan() && !r.tmax.is_nan()
 }
 
 /// The lengths of the slices that a conversion is given, beside the tree's own.

@@ -3,9 +3,9 @@
 use crate::accept::{MOST_LEAVES, MOST_NODES};
 use crate::checks::damage;
 use crate::convert::{bvh_of, convert};
-use crate::generate::{corner, ray};
+use crate::generate::{beside, corner, ray};
 use crate::odd::{self, forged, ladder, odd_walker};
-use crate::queries::{odd_ray, queried_tree, target_box};
+use crate::queries::{aimed, odd_ray, queried_tree, target_box};
 use crate::query;
 use crate::rng::Rng;
 use crate::run::{Ground, Run};
@@ -16,28 +16,29 @@ use crate::walker::{Held, Step};
 use glam::vec3a;
 use obvhs::ray::Ray;
 
-/// A distance to tell: it lowers tmax, or does nothing.
-fn distance(rng: &mut Rng) -> f32 {
-    match rng.below(6) {
+/// A distance to tell a walker with this tmin: it lowers tmax, or does nothing.
+fn distance(rng: &mut Rng, tmin: f32) -> f32 {
+    match rng.below(8) {
         0 => f32::NAN,
         1 => corner(rng),
         2 => rng.between(0.0, 10.0),
+        4 | 5 => beside(rng, tmin),
         3 => rng.pick(&[0.0, -0.0, f32::INFINITY, f32::NEG_INFINITY]),
         _ => f32::MAX,
     }
 }
 
-/// Distances to tell at reports.
-pub fn told(rng: &mut Rng) -> Vec<f32> {
+/// Distances to tell at reports of a walk along the ray.
+pub fn told(rng: &mut Rng, r: &Ray) -> Vec<f32> {
     let k = 1 + rng.below(5);
-    if rng.once_in(2) { vec![f32::INFINITY] } else { (0..k).map(|_| distance(rng)).collect() }
+    if rng.once_in(2) { vec![f32::INFINITY] } else { (0..k).map(|_| distance(rng, r.tmin)).collect() }
 }
 
-/// What the published traversal does from a walker on, which must be what the rules say.
+/// What the published traversal does from a walker on, which must be what the rules say, with the same tmax at the end.
 pub fn agreed_steps(record: &[u8], n: usize, from: &Held, told: &[f32]) -> Vec<Step> {
-    let steps = query::steps(&bvh_of(record, &vec![0; n]), from, told);
-    assert_eq!(steps, walk::steps(record, n, from, told));
-    steps
+    let published = query::steps(&bvh_of(record, &vec![0; n]), from, told);
+    assert_eq!(published, walk::steps(record, n, from, told));
+    published.0
 }
 
 /// Walkers just begun, to done and two steps further.
@@ -47,8 +48,8 @@ fn walks(rng: &mut Rng, records: usize, rays: usize) -> Group {
         let ground = Ground::new(record, t.indices.len());
         let mut all = vec![];
         for _ in 0..rays {
-            let about = target_box(rng, t);
-            let (r, told) = (ray(rng, &about), told(rng));
+            let r = aimed(rng, t, record);
+            let told = told(rng, &r);
             let mut run = ground.begun(&r);
             let steps = run.to_end(if told == [f32::INFINITY] { &[] } else { &told }, 2);
             assert_eq!(steps, agreed_steps(record, ground.n, &Held::fresh(&r), &told));
@@ -72,7 +73,7 @@ fn some_calls(rng: &mut Rng, mut run: Run, calls: usize) -> Vec<u32> {
     let (bytes, n) = (run.ground.bytes, run.ground.n);
     for _ in 0..calls {
         match rng.below(14) {
-            0 => run.tell(distance(rng)),
+            0 => run.tell(distance(rng, run.tmin())),
             1 => run.positions(rng.pick(&[n, n.saturating_sub(1), n / 2, 0, n + 1, MOST_LEAVES, MOST_LEAVES + 1, u32::MAX as usize])),
             2 => run.lend(rng.pick(&[bytes, bytes, 0, bytes.saturating_sub(80), bytes.saturating_sub(1), bytes + 1, bytes + 80])),
             3 | 4 => run.restore(),
@@ -96,8 +97,7 @@ fn drawn(rng: &mut Rng, g: &mut Group, k: usize) {
     let ground = Ground::new(&record, n);
     let mut all = vec![];
     for i in 0..6 {
-        let about = target_box(rng, &t);
-        let r = ray(rng, &about);
+        let r = aimed(rng, &t, &record);
         let calls = 3 + rng.below(12);
         if i == 5 {
             let odd = odd_ray(rng, &r);
@@ -119,10 +119,10 @@ fn run_on(rng: &mut Rng, g: &mut Group, k: usize) {
     let ground = Ground::new(&c.record, n);
     let mut all = vec![];
     while all.len() < 6 {
-        let about = target_box(rng, &t);
-        let (r, told) = (ray(rng, &about), told(rng));
+        let r = aimed(rng, &t, &c.record);
+        let told = told(rng, &r);
         let h = odd_walker(rng, &r, c.record.len() / 80, n);
-        if walk::steps(&c.record, n, &h, &told).contains(&Step::Refused(10)) {
+        if walk::steps(&c.record, n, &h, &told).0.contains(&Step::Refused(10)) {
             continue;
         }
         let mut run = ground.held(&h);
@@ -165,7 +165,10 @@ fn forged_ones(rng: &mut Rng) -> Group {
         for h in forged(rng, &r, c.record.len() / 80) {
             let mut run = ground.held(&h);
             assert_eq!(run.step(), Step::Refused(10));
-            run.tell(distance(rng));
+            // the last of these is below most tmins, and counts where tmin is a NaN
+            for d in [distance(rng, r.tmin), 2.5, r.tmin, r.tmin.next_down(), -7.5] {
+                run.tell(d);
+            }
             assert_eq!(run.step(), Step::Refused(10));
             run.positions(MOST_LEAVES + 1);
             assert_eq!(run.step(), Step::Refused(2));

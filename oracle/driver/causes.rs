@@ -5,10 +5,8 @@ use crate::convert::convert;
 use crate::generate::{Boxes, Shape, ray, tree};
 use crate::queries::{odd_ray, scene, target_box};
 use crate::rng::Rng;
-use crate::scene::{Asked, Scene};
+use crate::scene::{Asked, Scene, through_t};
 use crate::store::*;
-use crate::tree::{aabb_words, sample_tree};
-use glam::vec3a;
 use obvhs::ray::Ray;
 use std::collections::BTreeSet;
 
@@ -121,28 +119,25 @@ fn pairs(rng: &mut Rng, draws: usize) -> Group {
 
 /// T's record, list and panes, with zeros added or something cut off.
 fn sized(bytes: usize, n: usize, corners: usize) -> Scene {
-    let t = sample_tree();
-    let c = convert(&t, 3, false);
-    let panes = [1, 2].iter().flat_map(|&v| aabb_words(&t.aabb(v))).collect();
-    let mut s = Scene { record: c.record, list: c.list, panes };
+    let mut s = Scene::sample();
     s.record.resize(bytes, 0);
     s.list.resize(n, 0);
     s.panes.resize(corners, 0);
     s
 }
 
-/// The ray of the samples, and the same refused 9.
-fn sample_rays() -> [Ray; 2] {
-    let r = Ray::new(vec3a(-1.0, 0.5, 0.5), vec3a(1.0, 0.0, 0.0), 0.0, f32::INFINITY);
-    [r, Ray { tmax: f32::NAN, ..r }]
+/// The ray of the samples, and the same refused 9 by its tmax and by its tmin.
+fn sample_rays() -> [Ray; 3] {
+    let r = through_t(-1.0, 0.0);
+    [r, Ray { tmax: f32::NAN, ..r }, Ray { tmin: f32::NAN, ..r }]
 }
 
 fn lengths() -> Group {
     let mut g = Group::new(QUERY_SIZES, 0);
-    let (most, [good, bad]) = (80 * MOST_NODES, sample_rays());
+    let (most, [good, far, near]) = (80 * MOST_NODES, sample_rays());
     let mut add = |s: Scene| {
         let n = s.list.len();
-        g.add(s.case(&[Asked { ray: good, n, room: 5 }, Asked { ray: good, n, room: 1 }, Asked { ray: bad, n, room: 0 }]));
+        g.add(s.case(&[(good, 5), (good, 1), (far, 0), (near, 5)].map(|(ray, room)| Asked { ray, n, room })));
     };
     for n in [0, 1, 2, 3, MOST_LEAVES - 1, MOST_LEAVES, MOST_LEAVES + 1] {
         for bytes in [0, 79, 81, most - 1, most + 1, most + 80, most + 159] {

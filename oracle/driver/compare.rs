@@ -3,9 +3,9 @@ use crate::accept::{Room, conversion_refusal};
 use crate::checks::{damage, forward, validated};
 use crate::conversions::some_tree;
 use crate::convert::convert;
-use crate::generate::{BOXES, Shape, ray, tree};
+use crate::generate::{BOXES, Shape, tree};
 use crate::calls::{agreed_steps, told};
-use crate::queries::{scene, target_box};
+use crate::queries::{aimed, scene};
 use crate::record::{Verdict, check};
 use crate::rng::Rng;
 use crate::tree::Tree;
@@ -59,8 +59,8 @@ pub fn run(seed: u64, trees: usize) -> bool {
         }
         let s = scene(rng, &t, &c);
         for _ in 0..20 {
-            let about = target_box(rng, &t);
-            let (r, told) = (ray(rng, &about), told(rng));
+            let r = aimed(rng, &t, &c.record);
+            let told = told(rng, &r);
             let a = s.agreed(&r);
             agreed_steps(&c.record, n, &Held::fresh(&r), &told);
             rays += 1;

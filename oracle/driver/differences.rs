@@ -5,10 +5,11 @@ use crate::generate::{BOXES, Boxes, Shape, chain, tree};
 use crate::query;
 use crate::record::{Verdict, check};
 use crate::rng::Rng;
+use crate::scene::{Scene, through_t};
 use crate::small::{Small, records};
 use glam::{Vec3A, power_of_two_not_below, vec3a};
 use obvhs::aabb::Aabb;
-use obvhs::ray::Ray;
+use obvhs::ray::{Ray, RayHit};
 
 fn scaled(extent: f32) -> f32 {
     extent.max(1e-20) * (1.0 / 255.0)
@@ -76,6 +77,24 @@ fn zeros() {
     println!("entry of the ray from (1, 0.5, 0.5) along -x into (0,0,0)-(1,1,1): published {d:?}, given as +0");
 }
 
+/// The published closest hit with the panes' distances as they are, beside the one with those below tmin hidden.
+fn hidden_panes() {
+    let s = Scene::sample();
+    let bvh = bvh_of(&s.record, &s.list);
+    let panes = query::panes_of(&s.panes);
+    let r = through_t(0.5, 0.0);
+    let mut hit = RayHit::none();
+    bvh.ray_traverse(r, &mut hit, |r, id| panes[bvh.primitive_indices[id] as usize].intersect_ray(r));
+    let found = s.agreed(&r).closest.found;
+    println!(
+        "T, from (0.5, 0.5, 0.5) along x, tmin 0: published {} at {:?}, with panes below tmin hidden {} at {:?}",
+        hit.primitive_id,
+        hit.t,
+        found[0],
+        f32::from_bits(found[1])
+    );
+}
+
 fn soundness() {
     println!("the record check beside `validate` without its box comparisons:");
     for Small { what, n, record, ends } in records() {
@@ -111,12 +130,15 @@ fn refusals() {
     let bvh = bvh_of(&c.record, &c.list);
     let r = Ray::new(vec3a(0.0, 0.0, 0.0), vec3a(1.0, 0.0, 0.0), 0.0, f32::NAN);
     println!("tmax NaN: published any-hit tests {} nodes, refused 9", query::any_hit(&bvh, r).tests);
+    let r = Ray::new(vec3a(0.0, 0.0, 0.0), vec3a(1.0, 0.0, 0.0), f32::NAN, f32::INFINITY);
+    println!("tmin NaN: published any-hit tests {} nodes, refused 9", query::any_hit(&bvh, r).tests);
 }
 
 pub fn run() -> bool {
     std::panic::set_hook(Box::new(|_| {}));
     refusals();
     zeros();
+    hidden_panes();
     soundness();
     logarithm();
     true

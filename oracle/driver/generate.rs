@@ -308,6 +308,31 @@ fn inside(rng: &mut Rng, b: &Aabb) -> Vec3A {
     )
 }
 
+/// The float below, or this one, or the float above.
+pub fn beside(rng: &mut Rng, x: f32) -> f32 {
+    rng.pick(&[x.next_down(), x, x.next_up()])
+}
+
+/// A tmin that is no NaN: mostly nearer than all boxes, or about the place where the ray comes to this one or leaves it; else
+/// about tmax, about 0.0001, or any, seldom infinite.
+fn tmin(rng: &mut Rng, r: &Ray, about: &Aabb) -> f32 {
+    let (a, b) = ((about.min - r.origin) * r.inv_direction, (about.max - r.origin) * r.inv_direction);
+    let (near, far) = (a.min(b).max_element(), a.max(b).min_element());
+    let t = match rng.below(24) {
+        0..10 => rng.pick(&[0.0, 0.0, 0.0, -0.0, -5.0]),
+        10..13 => beside(rng, near),
+        13..16 => beside(rng, far),
+        16 | 17 => near + (far - near) * rng.unit(),
+        18 if r.tmax.is_finite() => beside(rng, r.tmax),
+        19 => beside(rng, 0.0001),
+        20 => rng.pick(&[1.0, 0.00005, 1e-40, -1e-40]),
+        21 => rng.pick(&[f32::NEG_INFINITY, f32::MIN, f32::MAX, f32::INFINITY]),
+        22 => scaled(rng, -20, 20),
+        _ => rng.between(0.0, 4.0),
+    };
+    if t.is_nan() { 0.0 } else { t }
+}
+
 /// An accepted ray, mostly one that has to do with the box: from inside it, or through a point of it from some way back.
 pub fn ray(rng: &mut Rng, about: &Aabb) -> Ray {
     let mut d = direction(rng);
@@ -336,6 +361,6 @@ pub fn ray(rng: &mut Rng, about: &Aabb) -> Ray {
         _ => aim - d * back,
     };
     let held = |v: Vec3A| Vec3A::from([v.x, v.y, v.z].map(|x| x.clamp(-BOUND, BOUND)));
-    let tmin = rng.pick(&[0.0, -0.0, 1.0, f32::INFINITY, -5.0]);
-    Ray::new(held(origin), held(d), tmin, reach(rng))
+    let r = Ray::new(held(origin), held(d), 0.0, reach(rng));
+    Ray { tmin: tmin(rng, &r, about), ..r }
 }

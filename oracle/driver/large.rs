@@ -22,7 +22,10 @@ fn across(rng: &mut Rng, n: u32) -> Ray {
         vec3a(rng.between(-0.1, 1.1) * long, middle + rng.between(-far, far), middle + rng.between(-far, far))
     };
     let (from, to) = (place(rng, 300.0), place(rng, 30.0));
-    Ray::new(from, (to - from) * rng.pick(&[1.0, 0.001]), 0.0, reach(rng))
+    let slower = rng.pick(&[1.0, 0.001]);
+    // the place aimed at is at distance 1, or 1000
+    let tmin = if rng.once_in(2) { 0.0 } else { rng.between(-0.1, 1.1) / slower };
+    Ray::new(from, (to - from) * slower, tmin, reach(rng))
 }
 
 /// Tests as 0 and reports as one more than the position, without the end.
@@ -39,7 +42,7 @@ fn walk_digest(steps: &[Step]) -> u32 {
 /// digest of these.
 fn ray_case(rng: &mut Rng, s: &Scene, r: &Ray) -> Vec<u32> {
     let a = s.agreed(r);
-    let told: Vec<f32> = told(rng).into_iter().cycle().take(3).collect();
+    let told: Vec<f32> = told(rng, r).into_iter().cycle().take(3).collect();
     let steps = agreed_steps(&s.record, s.list.len(), &Held::fresh(r), &told);
     let hit = !a.closest.found.is_empty();
     let found = if hit { a.closest.found } else { vec![0, 0] };

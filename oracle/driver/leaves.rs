@@ -55,12 +55,14 @@ fn rays(rng: &mut Rng, count: usize) -> Group {
     for _ in 0..count {
         let b = any_box(rng);
         let mut r = ray(rng, &b);
-        // one component or tmax at a corner, or all
-        match rng.below(8) {
+        // one component, tmin or tmax at a corner, or all
+        match rng.below(9) {
             0 => r = Ray::new(corner3(rng), corner3(rng), corner(rng), corner(rng)),
             1 => r = Ray::new(r.origin, corner3(rng), corner(rng), r.tmax),
             2 => r.origin.x = corner(rng),
             3 => r.tmax = corner(rng),
+            4 => r.tmin = corner(rng),
+            5 => r.tmin = rng.pick(&[f32::NAN, f32::NAN, f32::INFINITY, f32::NEG_INFINITY]),
             _ => {}
         }
         let mut case = vec![];

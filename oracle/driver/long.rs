@@ -18,6 +18,13 @@ pub fn along(rng: &mut Rng, back: bool) -> Ray {
     Ray::new(vec3a(from, middle, middle), vec3a(to * rng.between(0.5, 2.0), 0.0, 0.0), 0.0, f32::INFINITY)
 }
 
+/// The same with tmin where it has passed about a tenth of a row of n boxes.
+fn later(r: &Ray, n: usize) -> Ray {
+    let row = 16.0 * n as f32;
+    let x = if r.direction.x < 0.0 { 0.9 * row } else { 0.1 * row };
+    Ray { tmin: (x - r.origin.x) / r.direction.x, ..*r }
+}
+
 /// The record of a row of boxes, a few of which are its panes.
 fn row(n: u32, seed: u32, limit: u32, order: bool) -> Scene {
     let made = Made { n, seed, reach: 64 };
@@ -45,8 +52,13 @@ pub fn groups(seed: u64) -> Vec<Group> {
         let mut rooms = vec![n + 3, n, n - 1, 0];
         rooms.extend([64, 255, 256, 257, 1024, 1025].into_iter().filter(|&room| room < n));
         let ray = |rng: &mut Rng, i: usize| along(rng, (i + k) % 2 == 0);
-        let asked: Vec<Asked> = rooms.iter().enumerate().map(|(i, &room)| Asked { ray: ray(rng, i), n, room }).collect();
+        let mut asked: Vec<Asked> = rooms.iter().enumerate().map(|(i, &room)| Asked { ray: ray(rng, i), n, room }).collect();
         asked.iter().for_each(|q| assert_eq!(s.agreed(&q.ray).any.found.len(), n));
+        if k % 4 == 1 {
+            let ray = later(&asked[0].ray, n);
+            assert!((4 * n / 5..n).contains(&s.agreed(&ray).any.found.len()));
+            asked.push(Asked { ray, n, room: n });
+        }
         g.add(s.case(&asked));
         if n > 256 && k % 2 == 1 {
             let b = broken(&s);

@@ -1,13 +1,15 @@
 //! Stored answers about one node: its metas decoded, the node rule, hit masks, and what its slots hold.
-use crate::accept::accepted_ray;
+use crate::accept::{accepted_ray, in_bounds};
 use crate::conversions::some_tree;
 use crate::convert::{bvh_of, convert, nodes_of};
-use crate::generate::{bounded_bits, corner, ray};
+use crate::generate::{beside, bounded_bits, corner, ray};
 use crate::leaves::word;
 use crate::record::{Node, rule_of};
 use crate::rng::Rng;
 use crate::store::*;
 use crate::tree::BOUND;
+use crate::walker::slot_span;
+use glam::Vec3A;
 use obvhs::ray::Ray;
 
 /// The most nodes of the record that `replay_nodes` has room for.
@@ -218,21 +220,50 @@ fn converted_node(rng: &mut Rng, k: usize) -> Bytes {
     record[80 * i..80 * i + 80].try_into().unwrap()
 }
 
-/// An accepted ray about the box of a slot in use, at times with its reach just where it meets a plane of the box.
+/// A tmin about where the ray comes to a slot's box or leaves it, about 0.0001, infinite or a NaN.
+fn near_end(rng: &mut Rng, d: &Bytes, slot: usize, r: &Ray) -> f32 {
+    let (near, far) = slot_span(r, &Node(d), slot);
+    match rng.below(8) {
+        0 => beside(rng, near),
+        1..4 => beside(rng, far),
+        4 | 5 => beside(rng, 0.0001),
+        _ => rng.pick(&[f32::NAN, f32::NAN, f32::INFINITY, f32::NEG_INFINITY]),
+    }
+}
+
+/// A ray from the node's corner that leaves the box of a slot at about 0.0001, if one is accepted.
+fn short_ray(rng: &mut Rng, d: &Bytes, slot: usize) -> Option<Ray> {
+    let node = Node(d);
+    let f = |a: usize| node.end(slot, a, true) as f32 * f32::from_bits((node.e(a) as u32) << 23) / 0.0001;
+    let origin = [node.p(0), node.p(1), node.p(2)];
+    let direction = [f(0), f(1), f(2)];
+    let tmax = if rng.once_in(2) { f32::INFINITY } else { beside(rng, 0.0001) };
+    let within = origin.iter().chain(&direction).all(|&x| in_bounds(x));
+    within.then(|| Ray::new(Vec3A::from(origin), Vec3A::from(direction), beside(rng, 0.0001), tmax))
+}
+
+/// A ray about the box of a slot in use, at times with its reach just where it meets a plane of the box. But for tmin it is
+/// accepted.
 fn ray_about(rng: &mut Rng, d: &Bytes) -> Ray {
     let node = nodes_of(d)[0];
     let used: Vec<usize> = (0..8).filter(|&slot| !node.is_child_empty(slot)).collect();
+    let slot = if used.is_empty() { 0 } else { rng.pick(&used) };
+    if rng.once_in(6) && let Some(r) = short_ray(rng, d, slot) {
+        return r;
+    }
     loop {
-        let b = node.child_aabb(if used.is_empty() { 0 } else { rng.pick(&used) });
+        let b = node.child_aabb(slot);
         let mut r = ray(rng, &b);
         let planes = (rng.pick(&[b.min, b.max]) - r.origin) * r.inv_direction;
         let at = rng.pick(&[planes.x, planes.y, planes.z]);
         if at > 0.0 && rng.once_in(4) {
             r.tmax = f32::from_bits(at.to_bits() + rng.below(3) as u32 - 1);
         }
-        if accepted_ray(&r) {
-            return r;
+        if !accepted_ray(&r) {
+            continue;
         }
+        let tmin = if rng.once_in(3) { near_end(rng, d, slot, &r) } else { r.tmin };
+        return Ray { tmin, ..r };
     }
 }
 

@@ -73,17 +73,25 @@ pub fn odd_walker(rng: &mut Rng, r: &Ray, m: usize, n: usize) -> Held {
     h
 }
 
-/// Walkers that are forged on a record of m nodes, by each thing on the list.
-pub fn forged(rng: &mut Rng, r: &Ray, m: usize) -> Vec<Held> {
-    let fresh = Held::fresh(r);
+/// Walkers whose ray fails 9, but for which inverse and octant are its direction's.
+fn refused_rays(rng: &mut Rng, r: &Ray) -> Vec<Held> {
     let mut all = vec![];
-    // a ray that fails 9 but for which inverse and octant are its direction's
     while all.len() < 8 {
         let bad = odd_ray(rng, r);
         if !accepted_ray(&bad) {
             all.push(Held::fresh(&bad));
         }
     }
+    for (tmin, tmax) in [(f32::NAN, r.tmax), (f32::NAN, f32::INFINITY), (r.tmin, f32::NAN), (f32::NAN, f32::NAN)] {
+        all.push(Held::fresh(&Ray { tmin, tmax, ..*r }));
+    }
+    all
+}
+
+/// Walkers that are forged on a record of m nodes, by each thing on the list.
+pub fn forged(rng: &mut Rng, r: &Ray, m: usize) -> Vec<Held> {
+    let fresh = Held::fresh(r);
+    let mut all = refused_rays(rng, r);
     for axis in 0..3 {
         let turned = |x: f32, k: usize| match k {
             0 => -x,

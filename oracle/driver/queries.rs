@@ -3,11 +3,13 @@
 use crate::checks::damage;
 use crate::conversions::some_tree;
 use crate::convert::{Converted, convert};
-use crate::generate::{any_box, corner, ray};
+use crate::generate::{any_box, beside, corner, ray};
+use crate::record::node;
 use crate::rng::Rng;
-use crate::scene::{Asked, Scene};
+use crate::scene::{Asked, Scene, through_t};
 use crate::store::*;
 use crate::tree::{Tree, aabb_words, is_leaf, sample_tree, target};
+use crate::walker::slot_span;
 use glam::vec3a;
 use obvhs::aabb::Aabb;
 use obvhs::ray::Ray;
@@ -33,6 +35,24 @@ pub fn target_box(rng: &mut Rng, t: &Tree) -> Aabb {
     t.aabb(if rng.once_in(4) { rng.below(t.count()) } else { rng.pick(&leaves) })
 }
 
+/// An accepted ray that mostly has to do with a tree, at times with tmin where it comes to a slot's box of the record or leaves it.
+pub fn aimed(rng: &mut Rng, t: &Tree, record: &[u8]) -> Ray {
+    let about = target_box(rng, t);
+    let r = ray(rng, &about);
+    if !rng.once_in(4) {
+        return r;
+    }
+    let slots = (0..8 * (record.len() / 80)).map(|k| (node(record, k / 8), k % 8)).filter(|(d, slot)| d.meta(*slot) != 0);
+    let spans = slots.map(|(d, slot)| slot_span(&r, &d, slot));
+    let met: Vec<(f32, f32)> = spans.filter(|(near, far)| near <= far && *far > 0.0).collect();
+    if met.is_empty() {
+        return r;
+    }
+    let (near, far) = rng.pick(&met);
+    let at = rng.pick(&[near, far, far]);
+    Ray { tmin: beside(rng, at), ..r }
+}
+
 /// The converted record of a tree with panes.
 pub fn scene(rng: &mut Rng, t: &Tree, c: &Converted) -> Scene {
     Scene { record: c.record.clone(), list: c.list.clone(), panes: panes(rng, t) }
@@ -50,9 +70,10 @@ pub fn queried_tree(rng: &mut Rng, k: usize) -> Option<(Tree, Converted)> {
 
 /// A ray that is refused 9, or one that only looks like it.
 pub fn odd_ray(rng: &mut Rng, r: &Ray) -> Ray {
-    match rng.below(3) {
+    match rng.below(4) {
         0 => Ray::new(vec3a(corner(rng), corner(rng), corner(rng)), r.direction, r.tmin, r.tmax),
         1 => Ray::new(r.origin, vec3a(corner(rng), corner(rng), corner(rng)), r.tmin, r.tmax),
+        2 => Ray { tmin: f32::NAN, ..*r },
         _ => Ray { tmax: f32::NAN, ..*r },
     }
 }
@@ -74,8 +95,7 @@ fn accepted(rng: &mut Rng, t: &Tree, c: &Converted, rays: usize) -> Vec<u32> {
     let n = s.list.len();
     let mut all = vec![];
     for _ in 0..rays {
-        let about = target_box(rng, t);
-        let ray = ray(rng, &about);
+        let ray = aimed(rng, t, &s.record);
         let needed = s.agreed(&ray).any.found.len();
         all.push(Asked { ray, n, room: room(rng, n, needed) });
     }
@@ -106,8 +126,7 @@ fn refused(rng: &mut Rng, t: &Tree, c: &Converted, rays: usize) -> Vec<u32> {
     }
     let mut all = vec![];
     for _ in 0..rays {
-        let about = target_box(rng, t);
-        let mut r = ray(rng, &about);
+        let mut r = aimed(rng, t, &c.record);
         if kind == 5 || rng.once_in(6) {
             r = odd_ray(rng, &r);
         }
@@ -119,6 +138,39 @@ fn refused(rng: &mut Rng, t: &Tree, c: &Converted, rays: usize) -> Vec<u32> {
     s.case(&all)
 }
 
+/// T's rays with tmin at, and beside, each distance at which they come to a box or leave it, and 0.0001.
+fn near_limits() -> Vec<u32> {
+    let s = Scene::sample();
+    let mut all = vec![];
+    for (x, places) in [(-1.0, [1.0, 2.0, 3.0, 4.0]), (0.5, [-0.5, 0.5, 1.5, 2.5]), (-0.00005, [0.00005, 0.0001, 2.00005, 0.0])] {
+        let beside = places.iter().flat_map(|t: &f32| [t.next_down(), *t, t.next_up()]);
+        for tmin in beside.chain([1.5, 3.5, 4.5, -1.0, -0.0, f32::INFINITY, f32::NEG_INFINITY]) {
+            let ray = through_t(x, tmin);
+            all.push(Asked { ray, n: 2, room: s.agreed(&ray).any.found.len() });
+        }
+    }
+    s.case(&all)
+}
+
+/// T with a pane that is met and refused, by its index word or its box; its distance is at tmin, beside it, or further below.
+fn hidden_and_refused() -> Vec<Vec<u32>> {
+    let mut cases = vec![];
+    for (pane, at, leaves) in [(0, 1.0f32, 2.0f32), (1, 3.0, 4.0)] {
+        let (mut past, mut flawed) = (Scene::sample(), Scene::sample());
+        past.list[pane] = 2;
+        flawed.panes[6 * pane + 4] = 0x7fc0_0000;
+        for (s, number) in [(past, 10), (flawed, 6)] {
+            let tmins = [at.next_down(), at, at.next_up(), at + 0.5, leaves];
+            let asked = tmins.map(|tmin| Asked { ray: through_t(-1.0, tmin), n: 2, room: 2 });
+            // position 1 comes first, and where it blocks the ray miss looks no further
+            let miss = |q: &Asked| pane == 0 || s.by_rules(q).miss.refusal == number;
+            asked.iter().for_each(|q| assert!(s.by_rules(q).closest.refusal == number && miss(q)));
+            cases.push(s.case(&asked));
+        }
+    }
+    cases
+}
+
 pub fn groups(seed: u64) -> Vec<Group> {
     let mut rng = Rng::new(seed);
     let rng = &mut rng;
@@ -128,6 +180,8 @@ pub fn groups(seed: u64) -> Vec<Group> {
         good.add(accepted(rng, &t, &c, 20));
         bad.add(refused(rng, &t, &c, 20));
     }
+    good.add(near_limits());
+    hidden_and_refused().into_iter().for_each(|case| bad.add(case));
     for k in 0..200 {
         let Some((t, c)) = queried_tree(rng, k) else { continue };
         if k % 2 == 0 {

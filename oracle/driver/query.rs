@@ -1,4 +1,4 @@
-//! The published traversals, with node tests counted and zero distances given as +0.
+//! The published traversals, with node tests counted, zero distances given as +0, and distances below tmin hidden.
 use crate::tree::{aabb, unsigned_zero};
 use crate::walk::Answer;
 use crate::walker::{Group, Held, Step};
@@ -31,8 +31,13 @@ pub fn panes_of(words: &[u32]) -> Vec<Aabb> {
     words.chunks(6).map(aabb).collect()
 }
 
+/// A distance as it is, or +infinity where it is below tmin.
+fn hidden(ray: &Ray, distance: f32) -> f32 {
+    if distance < ray.tmin { f32::INFINITY } else { distance }
+}
+
 fn distance(bvh: &CwBvh, panes: &[Aabb], ray: &Ray, id: usize) -> f32 {
-    unsigned_zero(panes[bvh.primitive_indices[id] as usize].intersect_ray(ray))
+    hidden(ray, unsigned_zero(panes[bvh.primitive_indices[id] as usize].intersect_ray(ray)))
 }
 
 pub fn closest(bvh: &CwBvh, panes: &[Aabb], ray: Ray) -> Answer {
@@ -79,24 +84,26 @@ fn traversal(bvh: &CwBvh, from: &Held) -> RayTraversal {
     state
 }
 
-/// The tests and reports of the dynamic traversal in their order, the k-th report answered with the k-th told distance.
-pub fn steps(bvh: &CwBvh, from: &Held, told: &[f32]) -> Vec<Step> {
+/// The tests and reports of the dynamic traversal in their order, the k-th report answered with the k-th told distance; and the
+/// bits of tmax at its end.
+pub fn steps(bvh: &CwBvh, from: &Held, told: &[f32]) -> (Vec<Step>, u32) {
     let mut out: Vec<Step> = vec![];
-    let (_, all) = counted(|| {
+    let (reach, all) = counted(|| {
         let mut hit = RayHit::none();
         let mut state = traversal(bvh, from);
         let (mut seen, mut reports) = (0, 0);
-        let mut report = |_: &Ray, id: usize| {
+        let mut report = |r: &Ray, id: usize| {
             out.extend((seen..tests()).map(|_| Step::Tested));
             seen = tests();
             out.push(Step::Reported(id as u32));
             reports += 1;
-            told[(reports - 1) % told.len()]
+            hidden(r, told[(reports - 1) % told.len()])
         };
         while bvh.ray_traverse_dynamic(&mut state, &mut hit, &mut report) {}
+        state.ray.tmax.to_bits()
     });
     let seen = out.iter().filter(|s| **s == Step::Tested).count() as u32;
     out.extend((seen..all).map(|_| Step::Tested));
     out.push(Step::Done);
-    out
+    (out, reach)
 }

@@ -98,6 +98,11 @@ impl Run<'_> {
         s
     }
 
+    /// The walker's tmin.
+    pub fn tmin(&self) -> f32 {
+        self.walker.ray.tmin
+    }
+
     pub fn tell(&mut self, distance: f32) {
         self.walker.tell(distance);
         self.calls.extend([TELL, word(distance)]);

@@ -1,10 +1,14 @@
 //! The samples that the Rust can say something of, and the record line of T.
 use crate::accept::{Room, accepted_box, conversion_refusal};
-use crate::convert::{bvh_of, convert};
+use crate::calls::agreed_steps;
+use crate::convert::{Converted, bvh_of, convert};
 use crate::generate::{Boxes, chain};
 use crate::query;
+use crate::scene::{Asked, Scene, through_t};
 use crate::show::{input_of, shown, showrecord};
 use crate::tree::{BOUND, Tree, leaf, sample_tree};
+use crate::walk;
+use crate::walker::Held;
 use glam::{Vec3A, vec3a};
 use obvhs::aabb::Aabb;
 use obvhs::ray::Ray;
@@ -31,13 +35,45 @@ impl Tally {
     }
 }
 
+/// What T answers to the ray from x with this tmin, by the published code and by the rules, each by one test: any-hit's list, and
+/// the closest hit, without which miss has missed.
+fn answers(x: f32, tmin: f32, listed: &[u32], hit: Option<(u32, f32)>) -> bool {
+    let (s, ray) = (Scene::sample(), through_t(x, tmin));
+    let a = s.published(&ray);
+    let found = hit.map_or(vec![], |(p, t)| vec![p, t.to_bits()]);
+    let tests = [a.any.tests, a.closest.tests, a.miss.tests];
+    let same = a == s.by_rules(&Asked { ray, n: 2, room: 2 });
+    same && tests == [1; 3] && a.any.found == listed && a.closest.found == found && a.miss.found == [hit.is_none() as u32]
+}
+
+/// Where tmax comes to on T with this tmin, by the published code and by the rules, if its two positions are told these.
+fn reach(tmin: f32, told: [f32; 2]) -> f32 {
+    let (s, from) = (Scene::sample(), Held::fresh(&through_t(-1.0, tmin)));
+    agreed_steps(&s.record, 2, &from, &told);
+    f32::from_bits(walk::steps(&s.record, 2, &from, &told).1)
+}
+
+/// The near limit by tmin.
+fn near_limits(all: &mut Tally) {
+    all.holds("tmin 1.5: any-hit 1 and 0, closest 1 at 3.0", answers(-1.0, 1.5, &[1, 0], Some((1, 3.0))));
+    all.holds("tmin 2: any-hit 1 and 0, closest 1 at 3.0", answers(-1.0, 2.0, &[1, 0], Some((1, 3.0))));
+    all.holds("tmin 2.5: any-hit 1 alone, closest 1 at 3.0", answers(-1.0, 2.5, &[1], Some((1, 3.0))));
+    all.holds("tmin 3: any-hit 1 alone, closest 1 at 3.0", answers(-1.0, 3.0, &[1], Some((1, 3.0))));
+    all.holds("tmin 3.5: any-hit 1, no hit, missed", answers(-1.0, 3.5, &[1], None));
+    all.holds("tmin 4.5 and +inf: nothing", answers(-1.0, 4.5, &[], None) && answers(-1.0, f32::INFINITY, &[], None));
+    all.holds("from inside A, tmin 0: 1 at 1.5", answers(0.5, 0.0, &[1, 0], Some((1, 1.5))));
+    all.holds("from inside A, tmin -1: 0 at -0.5", answers(0.5, -1.0, &[1, 0], Some((0, -0.5))));
+    all.holds("from 0.00005 before A, tmin 0: 0 at 0.00005", answers(-0.00005, 0.0, &[1, 0], Some((0, 0.00005))));
+    let nan = Asked { ray: through_t(-1.0, f32::NAN), n: 2, room: 2 };
+    all.holds("tmin NaN: refused 9 (by the rules)", Scene::sample().by_rules(&nan).numbers() == [9; 3]);
+    let told = [[1.0, 1.0], [3.0, 1.0], [3.0, 2.0]].map(|told| reach(2.0, told));
+    all.holds("tmin 2: told 1 does nothing, told 3 then 2 lowers to 3, then to 2", told == [f32::INFINITY, 3.0, 2.0]);
+}
+
 const T_LINES: &str = "0 0000000000000000000000007978780001000000000000002021000000000000008000000000000040c00000000000000000000000000000808000000000000000000000000000008080000000000000\nindices 0 1\n";
 
-pub fn run() -> bool {
-    let mut all = Tally { failed: 0 };
-    let t = sample_tree();
-    let c = convert(&t, 3, false);
-    print!("{}", shown(&c));
+/// What conversion writes for T, and e bytes.
+fn conversions(all: &mut Tally, t: &Tree, c: &Converted) {
     all.holds("S1 the e bytes of T are 121, 120, 120", c.record[12..15] == [121, 120, 120]);
     all.holds("S2 extent 255 and the next: 127, 128", (exponent(255.0), exponent(next_up(255.0))) == (127, 128));
     all.holds(
@@ -45,12 +81,20 @@ pub fn run() -> bool {
         (exponent(261120.0), exponent(next_up(261120.0))) == (137, 138),
     );
     all.holds("S4 extent 0: 53", exponent(0.0) == 53);
-    let o = convert(&t, 3, true);
+    let o = convert(t, 3, true);
     let metas: Vec<usize> = (0..8).filter(|&s| o.record[24 + s] != 0).collect();
     all.holds(
         "S5 with ordering A takes slot 0 and B takes slot 4",
         metas == [0, 4] && o.list == [0, 1] && (o.record[32], o.record[40]) == (0, 0x40) && (o.record[36], o.record[44]) == (0x80, 0xc0),
     );
+}
+
+pub fn run() -> bool {
+    let mut all = Tally { failed: 0 };
+    let t = sample_tree();
+    let c = convert(&t, 3, false);
+    print!("{}", shown(&c));
+    conversions(&mut all, &t, &c);
     let bvh = bvh_of(&c.record, &c.list);
     let panes: Vec<Aabb> = vec![t.aabb(1), t.aabb(2)];
     let ray = |y: f32| Ray::new(vec3a(-1.0, 0.5, 0.5), vec3a(1.0, y, 0.0), 0.0, f32::INFINITY);
@@ -78,5 +122,6 @@ pub fn run() -> bool {
         deepest(33) == [31; 4] && deepest(34) == [32; 4],
     );
     all.holds("S12 T's record line", shown(&c) == T_LINES && showrecord(&input_of(&t, 3, 0)) == T_LINES);
+    near_limits(&mut all);
     all.failed == 0
 }

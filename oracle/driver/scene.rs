@@ -1,9 +1,11 @@
 //! What a query is asked of: a record, the index words of its positions, and panes; and how a query stands in a file.
-use crate::convert::bvh_of;
+use crate::convert::{bvh_of, convert};
 use crate::leaves::word;
 use crate::query;
 use crate::store::words_of;
+use crate::tree::{aabb_words, sample_tree};
 use crate::walk::{self, Answer};
+use glam::vec3a;
 use obvhs::ray::Ray;
 
 #[derive(Clone, Default)]
@@ -48,6 +50,12 @@ fn answer_words(a: &Answer) -> Vec<u32> {
     w
 }
 
+/// A ray along x through the middle of T's boxes, from this x on and with this tmin: from -1 on it comes to them at 1 and 3, and
+/// leaves them at 2 and 4.
+pub fn through_t(x: f32, tmin: f32) -> Ray {
+    Ray::new(vec3a(x, 0.5, 0.5), vec3a(1.0, 0.0, 0.0), tmin, f32::INFINITY)
+}
+
 /// A ray's eight floats.
 pub fn ray_words(r: &Ray) -> Vec<u32> {
     let f = [r.origin.x, r.origin.y, r.origin.z, r.direction.x, r.direction.y, r.direction.z, r.tmin, r.tmax];
@@ -55,6 +63,13 @@ pub fn ray_words(r: &Ray) -> Vec<u32> {
 }
 
 impl Scene {
+    /// T's record with the boxes of its two leaves as panes.
+    pub fn sample() -> Scene {
+        let t = sample_tree();
+        let c = convert(&t, 3, false);
+        Scene { record: c.record, list: c.list, panes: [1, 2].iter().flat_map(|&v| aabb_words(&t.aabb(v))).collect() }
+    }
+
     /// The answers by the rules.
     pub fn by_rules(&self, q: &Asked) -> Answers {
         Answers {

@@ -2,7 +2,7 @@
 //! but a pane's entry distance.
 use crate::accept::{MOST_LEAVES, MOST_NODES, accepted_box, accepted_ray};
 use crate::tree::{aabb, unsigned_zero};
-use crate::walker::{Held, Step, Walker};
+use crate::walker::{Held, Step, Walker, counts};
 use obvhs::ray::Ray;
 
 /// Causes 1, 2 and 9 of a query, or 0; `panes` counts words.
@@ -63,7 +63,7 @@ fn distance(panes: &[u32], list: &[u32], p: u32, ray: &Ray) -> Result<f32, u32> 
     Ok(unsigned_zero(b.intersect_ray(ray)))
 }
 
-/// Closest, or with `first` miss: stop at the first distance below tmax.
+/// Closest, or with `first` miss: stop at the first distance that counts. A pane is tested whole before its distance is looked at.
 pub fn nearest(record: &[u8], list: &[u32], panes: &[u32], ray: &Ray, first: bool) -> Answer {
     match query_refusal(record, list.len(), panes.len(), ray) {
         0 => {}
@@ -76,7 +76,7 @@ pub fn nearest(record: &[u8], list: &[u32], panes: &[u32], ray: &Ray, first: boo
             Step::Tested => {}
             Step::Reported(p) => match distance(panes, list, p, ray) {
                 Err(number) => return refused(number),
-                Ok(d) if d < w.ray.tmax => {
+                Ok(d) if counts(&w.ray, d) => {
                     hit = vec![p, d.to_bits()];
                     if first {
                         break;
@@ -93,8 +93,8 @@ pub fn nearest(record: &[u8], list: &[u32], panes: &[u32], ray: &Ray, first: boo
     Answer { refusal: 0, tests: w.tests, found }
 }
 
-/// The steps from a walker, the k-th report told the k-th distance, to the first done or refusal.
-pub fn steps(record: &[u8], n: usize, from: &Held, told: &[f32]) -> Vec<Step> {
+/// The steps from a walker, the k-th report told the k-th distance, to the first done or refusal; and the bits of tmax then.
+pub fn steps(record: &[u8], n: usize, from: &Held, told: &[f32]) -> (Vec<Step>, u32) {
     let mut w = Walker::of(from);
     let mut out = vec![];
     let mut reports = 0;
@@ -107,7 +107,7 @@ pub fn steps(record: &[u8], n: usize, from: &Held, told: &[f32]) -> Vec<Step> {
                 w.tell(told[reports % told.len()]);
                 reports += 1;
             }
-            Step::Done | Step::Refused(_) => return out,
+            Step::Done | Step::Refused(_) => return (out, w.ray.tmax.to_bits()),
         }
     }
 }

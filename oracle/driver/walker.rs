@@ -1,7 +1,7 @@
 //! A walker and its steps by their rules, with the refusals that the Rust has not, for any walker that a caller can make up.
 //! No code is shared with the published traversals.
 use crate::accept::{MOST_LEAVES, MOST_NODES, accepted_ray};
-use crate::record::{node, rule};
+use crate::record::{Node, node, rule};
 use obvhs::ray::Ray;
 
 /// The most groups that wait.
@@ -62,6 +62,32 @@ pub fn octant(r: &Ray) -> u32 {
     7 - (0..3).map(|a| if d[a] < 0.0 { 4 >> a } else { 0 }).sum::<u32>()
 }
 
+/// Whether a distance counts for a ray: it is not below tmin, and below tmax. NaN never is.
+pub fn counts(r: &Ray, distance: f32) -> bool {
+    !(distance < r.tmin) && distance < r.tmax
+}
+
+/// The larger of tmin and 0.0001, which a NaN tmin leaves.
+fn near_limit(r: &Ray) -> f32 {
+    if r.tmin > 0.0001 { r.tmin } else { 0.0001 }
+}
+
+/// Where a ray comes to a slot's box, and where it leaves it.
+pub fn slot_span(r: &Ray, n: &Node, slot: usize) -> (f32, f32) {
+    let (origin, direction) = ([r.origin.x, r.origin.y, r.origin.z], [r.direction.x, r.direction.y, r.direction.z]);
+    let (mut near, mut far) = (f32::NEG_INFINITY, f32::INFINITY);
+    for a in 0..3 {
+        let inverse = safe_inverse(direction[a]);
+        let negative = direction[a] < 0.0;
+        let scale = f32::from_bits((n.e(a) as u32) << 23) * inverse;
+        let start = (n.p(a) - origin[a]) * inverse;
+        let at = |greatest| n.end(slot, a, greatest) as f32 * scale + start;
+        near = near.max(at(negative));
+        far = far.min(at(!negative));
+    }
+    (near, far)
+}
+
 impl Held {
     /// A walker just begun: the first node is in hand.
     pub fn fresh(r: &Ray) -> Held {
@@ -119,9 +145,9 @@ impl Walker {
         self.waiting.len() as u32 + self.claimed
     }
 
-    /// Telling refuses nothing; a distance below tmax lowers it, NaN does nothing.
+    /// Telling refuses nothing; a distance that counts lowers tmax to it.
     pub fn tell(&mut self, distance: f32) {
-        if distance < self.ray.tmax {
+        if counts(&self.ray, distance) {
             self.ray.tmax = distance;
         }
     }
@@ -136,21 +162,8 @@ impl Walker {
 
     /// Whether the ray passes a slot's box.
     fn passes(&self, record: &[u8], i: usize, slot: usize) -> bool {
-        let n = node(record, i);
-        let (o, d) = (self.ray.origin, self.ray.direction);
-        let (origin, direction) = ([o.x, o.y, o.z], [d.x, d.y, d.z]);
-        let mut near = 0.0001f32;
-        let mut far = self.ray.tmax;
-        for a in 0..3 {
-            let inverse = safe_inverse(direction[a]);
-            let negative = direction[a] < 0.0;
-            let scale = f32::from_bits((n.e(a) as u32) << 23) * inverse;
-            let start = (n.p(a) - origin[a]) * inverse;
-            let at = |greatest| n.end(slot, a, greatest) as f32 * scale + start;
-            near = near.max(at(negative));
-            far = far.min(at(!negative));
-        }
-        near <= far
+        let (near, far) = slot_span(&self.ray, &node(record, i), slot);
+        near.max(near_limit(&self.ray)) <= far.min(self.ray.tmax)
     }
 
     /// The positions and children of a node that the ray passes, in order.

@@ -62,9 +62,8 @@ use checks::damage;
 use conversions::some_tree;
 use convert::{Converted, convert};
 use funnelcress::{ObvhsNode, Pane, Record, Refusal, State, TreeError, Verdict, Walker as Walk};
-use generate::ray;
 use obvhs::ray::Ray;
-use queries::{odd_ray, scene, target_box};
+use queries::{aimed, odd_ray, scene};
 use record::check;
 use rng::Rng;
 use scene::{Answers, Asked, Scene};
@@ -191,12 +190,13 @@ fn same_verdict(record: &[u8], n: usize) {
 /// A walker with one thing forged.
 fn forged(rng: &mut Rng, r: &Ray, m: usize) -> Held {
     let mut h = Held::fresh(r);
-    match rng.below(6) {
+    match rng.below(7) {
         0 => h.octant = (h.octant + 1 + rng.below(7) as u32) % 8,
         1 => h.ray.inv_direction.y = rng.between(-9.0, 9.0),
         2 => h.depth = 33 + rng.below(9) as u32,
         3 => h.tests = m as u32 + 1 + rng.below(9) as u32,
         4 => h.ray.tmax = f32::NAN,
+        5 => h.ray.tmin = f32::NAN,
         _ => h.current.bits = rng.bits(),
     }
     h
@@ -204,8 +204,8 @@ fn forged(rng: &mut Rng, r: &Ray, m: usize) -> Held {
 
 /// One ray over a converted record, over a damaged one, and with a forged walker.
 fn one_ray(rng: &mut Rng, t: &Tree, s: &Scene, hurt: &Scene, n: usize, counts: &mut Counts) {
-    let about = target_box(rng, t);
-    let (r, told) = (ray(rng, &about), told(rng));
+    let r = aimed(rng, t, &s.record);
+    let told = told(rng, &r);
     assert!(asked(s, &r) == s.agreed(&r));
     let held = Held::fresh(&r);
     let sound = Record::from_parts(s.record.clone(), s.list.clone());
@@ -219,7 +219,7 @@ fn one_ray(rng: &mut Rng, t: &Tree, s: &Scene, hurt: &Scene, n: usize, counts: &
     assert!(asked(hurt, &odd) == by_rules);
     let hurt_record = Record::from_parts(hurt.record.clone(), hurt.list.clone());
     let h = forged(rng, &r, hurt.record.len() / 80);
-    assert_eq!(steps(Walk::resume(&hurt_record, state(&h)), &told), walk::steps(&hurt.record, hurt.list.len(), &h, &told));
+    assert_eq!(steps(Walk::resume(&hurt_record, state(&h)), &told), walk::steps(&hurt.record, hurt.list.len(), &h, &told).0);
     counts.rays += 1;
 }
 
