@@ -1,4 +1,3 @@
-use native.Mathlib.Omega.{arith}
 use Rattle.bvh2_check.proofs.Tests.{inside-children, inside-position, inside-malformed}
 use borrow.Author.Needs.{needs}
 use Rattle.bvh2_check.proofs.link_inside.Statement.{statement}

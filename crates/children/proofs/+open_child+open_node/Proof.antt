@@ -110,7 +110,9 @@ open-child-mul-children : (t : ℕ) → open-child-lts.Need-mul-children (child-
 open-child-mul-children t c = let h = slot-left (kept t c .pre .1 .1) (c .before .kind .ensures) (c .if1 .taken) in omega arith
 
 open-child-slice-write-children : (t : ℕ) → open-child-lts.Need-slice-write-children (child-given t) (open-child-at t) open-child.Post
-open-child-slice-write-children t c = let h = slot-left (kept t c .pre .1 .1) (c .before .kind .ensures) (c .if1 .taken) in omega (arith, kept t c .pre .1 .0)
+open-child-slice-write-children t c =
+    let p = kept t c .pre .1 in
+    let h = slot-left (p .1) (c .before .kind .ensures) (c .if1 .taken) in omega (arith, p .0)
 
 open-child-add-result : (t : ℕ) → open-child-lts.Need-add-result (child-given t) (open-child-at t) open-child.Post
 open-child-add-result t c = let h = slot-left (kept t c .pre .1 .1) (c .before .kind .ensures) (c .if1 .taken) in omega arith
@@ -119,7 +121,9 @@ open-child-same-length : (t : ℕ) → open-child-lts.Need-same-length (child-gi
 open-child-same-length t c = simp length-set
 
 open-child-returns : (t : ℕ) → open-child-lts.Need-returns (child-given t) (open-child-at t) open-child.Post
-open-child-returns t c = let s = kept t c in λ limit h. stay (s .pre .1 .1) (s .args .children .now) (s .pre .1 .0) (c .before .kind .ensures) (c .if1 .taken) limit h
+open-child-returns t c =
+    let s = kept t c in
+    λ limit h. stay (s .pre .1 .1) (s .args .children .now) (s .pre .1 .0) (c .before .kind .ensures) (c .if1 .taken) limit h
 
 open-child-open-node-requires : (t : ℕ) → open-child-lts.Need-open-node-requires (child-given t) (open-child-at t) open-child.Post
 open-child-open-node-requires t c κs = let s = opened t (c .before) in
