@@ -1,5 +1,5 @@
 -- One step of the marking walk, as the code takes it: what it reads, and what it returns and leaves in each case.
-use mathlib.Core.Path.{_≡_, refl, sym}
+use mathlib.Core.Path.{_≡_, refl, sym, _∙_}
 use mathlib.Core.Bool.{Bool, true, false}
 use mathlib.Core.List.{List}
 use Prim.Native.Nat.{ℕ, zero, suc, _+_, _-_, _/_, _%_, _<_}
@@ -22,10 +22,10 @@ pub record Leaf (ws : List ℕ) (n v d p : ℕ) : Type 0 where
   pub tree : treeAt ws d v ≡ leaf v (boxAt ws v) p
   pub ends : isPosition p (linkAt ws v) ≡ true
 
-pub at-leaf : {ws : List ℕ} {n marks v : ℕ} (d w : ℕ) → MarkReady ws n marks v → w ≡ wordAt ws v 6 → (w / 0x4000_0000 ≡ 0 → ⊥)
-    → Leaf ws n v d (w % 0x4000_0000)
+pub at-leaf : {ws : List ℕ} {n marks v kind p : ℕ} (d w : ℕ) → MarkReady ws n marks v → w ≡ wordAt ws v 6 → kind ≡ w / 0x4000_0000
+    → (kind ≡ 0 → ⊥) → p ≡ w % 0x4000_0000 → Leaf ws n v d p
 unfolding LinkInside
-at-leaf {ws} {n} {marks} {v} d w r e h = pick (ℕ-discrete (w / 0x4000_0000) 1)
+at-leaf {ws} {n} {marks} {v} d w r e q h s = rw s (pick (ℕ-discrete (w / 0x4000_0000) 1))
   where
     inside : LinkInside n (linkAt ws v)
     inside = r .inside v (r .node)
@@ -36,7 +36,7 @@ at-leaf {ws} {n} {marks} {v} d w r e h = pick (ℕ-discrete (w / 0x4000_0000) 1)
         let i : LinkInside n (position (w % 0x4000_0000)) = rw l at inside in
         record { held = i; tree = tree-leaf ws d v (w % 0x4000_0000) l; ends = tells-true (position-tells (w % 0x4000_0000) (linkAt ws v)) l }
     pick (no k) =
-        let l : linkAt ws v ≡ malformed = rw (← e) (word-malformed w h k) in
+        let l : linkAt ws v ≡ malformed = rw (← e) (word-malformed w (λ z. h (q ∙ z)) k) in
         let i : LinkInside n malformed = rw l at inside in
         absurd i
 
@@ -45,9 +45,9 @@ pub record Cut (ws : List ℕ) (v d : ℕ) : Type 0 where
   pub tree : treeAt ws d v ≡ leaf v (boxAt ws v) 0
   pub goes-on : isPosition 0 (linkAt ws v) ≡ false
 
-pub at-cut : (ws : List ℕ) (v d w : ℕ) → w ≡ wordAt ws v 6 → w / 0x4000_0000 ≡ 0 → d ≡ 0 → Cut ws v d
-at-cut ws v d w e h z =
-    let l : linkAt ws v ≡ children (w % 0x4000_0000) = rw (← e) (word-children w h) in
+pub at-cut : {kind : ℕ} (ws : List ℕ) (v d w : ℕ) → w ≡ wordAt ws v 6 → kind ≡ w / 0x4000_0000 → kind ≡ 0 → d ≡ 0 → Cut ws v d
+at-cut ws v d w e q h z =
+    let l : linkAt ws v ≡ children (w % 0x4000_0000) = rw (← e) (word-children w (sym q ∙ h)) in
     record { tree = rw z (tree-cut ws v (w % 0x4000_0000) l); goes-on = tells-false (position-tells 0 (linkAt ws v)) (λ e. children-position l e) }
 
 -- an inner node
@@ -56,17 +56,17 @@ pub record Fork (ws : List ℕ) (n marks v d f : ℕ) : Type 0 where
   pub right : MarkReady ws n marks (f + 1)
   pub tree : treeAt ws d v ≡ inner v (boxAt ws v) (treeAt ws (d - 1) f) (treeAt ws (d - 1) (f + 1))
 
-pub at-fork : {ws : List ℕ} {n marks v : ℕ} (d w : ℕ) → MarkReady ws n marks v → w ≡ wordAt ws v 6 → w / 0x4000_0000 ≡ 0 → (d ≡ 0 → ⊥)
-    → Fork ws n marks v d (w % 0x4000_0000)
+pub at-fork : {ws : List ℕ} {n marks v kind f : ℕ} (d w : ℕ) → MarkReady ws n marks v → w ≡ wordAt ws v 6 → kind ≡ w / 0x4000_0000 → kind ≡ 0
+    → (d ≡ 0 → ⊥) → f ≡ w % 0x4000_0000 → Fork ws n marks v d f
 unfolding LinkInside
-at-fork {ws} {n} {marks} {v} d w r e h z =
-    let l : linkAt ws v ≡ children (w % 0x4000_0000) = rw (← e) (word-children w h) in
+at-fork {ws} {n} {marks} {v} d w r e q h z s =
+    let l : linkAt ws v ≡ children (w % 0x4000_0000) = rw (← e) (word-children w (sym q ∙ h)) in
     let i : LinkInside n (children (w % 0x4000_0000)) = rw l at (r .inside v (r .node)) in
-    record {
+    rw s (record {
       left = record { sized = r .sized; inside = r .inside; room = r .room; node = omega arith };
       right = record { sized = r .sized; inside = r .inside; room = r .room; node = i };
       tree = tree-down ws d v (w % 0x4000_0000) l (omega arith);
-    }
+    })
 
 -- a mark
 mark-go : (o : List ℕ) (i : ℕ) → getD o i 0 ≡ 0 → mark o i ≡ go (set o i 1)

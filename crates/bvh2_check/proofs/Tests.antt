@@ -32,17 +32,18 @@ sizes-0 words n h k =
     sym (passed-none (sizeConditions words n) (tells-true (eqb-tells words (treeNodes n * 7)) h, (tells-true (leb-tells n 65536) k, tt)))
 
 -- a link by its kind
-pub inside-children : (n w : ℕ) → w / 0x4000_0000 ≡ 0 → ltb (w % 0x4000_0000 + 1) (2 * n - 1) ≡ isInside n (linkOf w)
+pub inside-children : {kind low : ℕ} (n w : ℕ) → kind ≡ w / 0x4000_0000 → low ≡ w % 0x4000_0000 → kind ≡ 0 → ltb (low + 1) (2 * n - 1)
+    ≡ isInside n (linkOf w)
 unfolding isInside
-inside-children n w e = rw (word-children w e)
+inside-children n w q r e = rw (r, word-children w (sym q ∙ e))
 
-pub inside-position : (n w : ℕ) → w / 0x4000_0000 ≡ 1 → ltb (w % 0x4000_0000) n ≡ isInside n (linkOf w)
+pub inside-position : {kind low : ℕ} (n w : ℕ) → kind ≡ w / 0x4000_0000 → low ≡ w % 0x4000_0000 → kind ≡ 1 → ltb low n ≡ isInside n (linkOf w)
 unfolding isInside
-inside-position n w e = rw (word-position w e)
+inside-position n w q r e = rw (r, word-position w (sym q ∙ e))
 
-pub inside-malformed : (n w : ℕ) → (w / 0x4000_0000 ≡ 0 → ⊥) → (w / 0x4000_0000 ≡ 1 → ⊥) → false ≡ isInside n (linkOf w)
+pub inside-malformed : {kind : ℕ} (n w : ℕ) → kind ≡ w / 0x4000_0000 → (kind ≡ 0 → ⊥) → (kind ≡ 1 → ⊥) → false ≡ isInside n (linkOf w)
 unfolding isInside
-inside-malformed n w a b = rw (word-malformed w a b)
+inside-malformed n w q a b = rw (word-malformed w (λ z. a (q ∙ z)) (λ z. b (q ∙ z)))
 
 -- a test by `!` of what a call returned
 pub was-false : (x y : Bool) → x ≡ y → not x ≡ true → y ≡ false

@@ -38,11 +38,12 @@ fn link_inside(link: u32, n: usize) -> bool
     requires { ⌜ (0 < n) × (n ≤ 65536) ⌝ }
     ensures { λ r. ⌜ r ≡ isInside n (linkOf link) ⌝ }
 {
-    let low = (link % words::KIND) as usize;
-    if link / words::KIND == 0 {
+    let kind = words::kind(link);
+    let low = words::below_kind(link) as usize;
+    if kind == 0 {
         return low + 1 < 2 * n - 1;
     }
-    if link / words::KIND == 1 {
+    if kind == 1 {
         return low < n;
     }
     false
@@ -91,8 +92,8 @@ fn visit(words: &[u32], marks: &mut [u32], n: usize, node: usize, depth: u32) ->
     }
     marks[node] = 1;
     let link = bvh2::link_word(words, node);
-    if link / words::KIND != 0 {
-        let place = 2 * n - 1 + (link % words::KIND) as usize;
+    if words::kind(link) != 0 {
+        let place = 2 * n - 1 + words::below_kind(link) as usize;
         if marks[place] != 0 {
             return false;
         }
@@ -102,7 +103,7 @@ fn visit(words: &[u32], marks: &mut [u32], n: usize, node: usize, depth: u32) ->
     if depth == 0 {
         return false;
     }
-    let first = (link % words::KIND) as usize;
+    let first = words::below_kind(link) as usize;
     if visit(words, marks, n, first, depth - 1) {
         visit(words, marks, n, first + 1, depth - 1)
     } else {

@@ -78,19 +78,20 @@ stays : {ws ds : List ℕ} {e v : ℕ} → Tabled ws ds e v → (limit : ℕ) �
 stays {ws} {e = e} {v = v} h limit k i u z =
     alone (table limit (treeAt ws e v) i .kind) (treeAt ws e v) (gather limit (treeAt ws e v) i) (λ y. z (says h limit k i u .kind ∙ y))
 
-pub slot-left : {ws ds : List ℕ} {e v i count : ℕ} → Opens ws ds e v i count → (getD ds (v * 7 + i) 0 / 0x4000_0000 ≡ 2 → ⊥) → count < 8
-slot-left {i = i} o z =
+pub slot-left : {ws ds : List ℕ} {e v i count kind : ℕ} → Opens ws ds e v i count → kind ≡ getD ds (v * 7 + i) 0 / 0x4000_0000 → (kind ≡ 2 → ⊥)
+    → count < 8
+slot-left {i = i} o q z =
     let h = o .tabled in
-    omega (arith, o .slots, ap length (stays h (h .limit) (h .holds) i (o .entry) z))
+    omega (arith, o .slots, ap length (stays h (h .limit) (h .holds) i (o .entry) (λ y. z (q ∙ y))))
 
-pub stay : {ws ds : List ℕ} {e v i count : ℕ} → Opens ws ds e v i count → (before : List ℕ) → 8 ≤ length before
-    → (getD ds (v * 7 + i) 0 / 0x4000_0000 ≡ 2 → ⊥)
+pub stay : {ws ds : List ℕ} {e v i count kind : ℕ} → Opens ws ds e v i count → (before : List ℕ) → 8 ≤ length before
+    → kind ≡ getD ds (v * 7 + i) 0 / 0x4000_0000 → (kind ≡ 2 → ⊥)
     → (limit : ℕ) → RowsHold (wordOf limit) 0 ds (treeAt ws e v)
     → Gathered (part limit (treeAt ws e v) i) count before (set before count v) (count + 1)
-stay {ws} {e = e} {v = v} {i = i} {count = count} o before l z limit k =
-    let u = slot-left o z in
-    one-written (treeAt ws e v) v count before (part limit (treeAt ws e v) i) (label-is ws e v) (stays (o .tabled) limit k i (o .entry) z)
-    (omega arith)
+stay {ws} {e = e} {v = v} {i = i} {count = count} o before l q z limit k =
+    let u = slot-left o q z in
+    one-written (treeAt ws e v) v count before (part limit (treeAt ws e v) i) (label-is ws e v)
+    (stays (o .tabled) limit k i (o .entry) (λ y. z (q ∙ y))) (omega arith)
 
 -- ---- a node that is opened: what each call asks, and what they make together
 pub record Down (ws ds : List ℕ) (e v f l r count : ℕ) (g : ℕ → List (Tree ℕ)) : Type 0 where
@@ -193,43 +194,47 @@ distributed INTERNAL t g h = absurd (omega arith)
 distributed DISTRIBUTE t g h = refl
 
 -- a node that distributes is opened, and contributes what it opens into
-pub divides : {ws ds : List ℕ} {e v i count : ℕ} → Opens ws ds e v i count → getD ds (v * 7 + i) 0 / 0x4000_0000 ≡ 2 → Divides ws ds e v i count
-divides {ws} {ds} {e} {v} {i} {count} o z =
+pub divides : {ws ds : List ℕ} {e v i count kind : ℕ} → Opens ws ds e v i count → kind ≡ getD ds (v * 7 + i) 0 / 0x4000_0000 → kind ≡ 2
+    → Divides ws ds e v i count
+divides {ws} {ds} {e} {v} {i} {count} o q y =
     let h = o .tabled in
+    let z = sym q ∙ y in
     let g = distributed (table (h .limit) (treeAt ws e v) i .kind) (treeAt ws e v) (gather (h .limit) (treeAt ws e v) i)
     (sym (says h (h .limit) (h .holds) i (o .entry) .kind) ∙ z) in
     record { tabled = h; entry = o .entry; inner = kind-inner h i (o .entry) z; slots = omega (arith, o .slots, ap length g) }
 
-pub contributes : {ws ds : List ℕ} {e v i count : ℕ} → Opens ws ds e v i count → getD ds (v * 7 + i) 0 / 0x4000_0000 ≡ 2
+pub contributes : {ws ds : List ℕ} {e v i count kind : ℕ} → Opens ws ds e v i count → kind ≡ getD ds (v * 7 + i) 0 / 0x4000_0000 → kind ≡ 2
     → (before after : List ℕ) (r : ℕ)
     → ((limit : ℕ) → RowsHold (wordOf limit) 0 ds (treeAt ws e v) → Gathered (gather limit (treeAt ws e v) i) count before after r)
     → (limit : ℕ) → RowsHold (wordOf limit) 0 ds (treeAt ws e v) → Gathered (part limit (treeAt ws e v) i) count before after r
-contributes {ws} {e = e} {v = v} {i = i} o z before after r G limit k =
+contributes {ws} {e = e} {v = v} {i = i} o q z before after r G limit k =
     rw (distributed (table limit (treeAt ws e v) i .kind) (treeAt ws e v) (gather limit (treeAt ws e v) i)
-    (sym (says (o .tabled) limit k i (o .entry) .kind) ∙ z)) (G limit k)
+    (sym (says (o .tabled) limit k i (o .entry) .kind) ∙ sym q ∙ z)) (G limit k)
 
-pub down : {ws ds : List ℕ} {e v i count w : ℕ} → Divides ws ds e v i count → w ≡ wordAt ws v 6
-    → Down ws ds e v (w % 0x4000_0000) (getD ds (v * 7 + i) 0 / 256 % 256) (getD ds (v * 7 + i) 0 % 256) count
-    (λ limit. gather limit (treeAt ws e v) i)
-down {ws} {ds} {e} {v} {i} {count} o q =
+pub down : {ws ds : List ℕ} {e v i count w f l r : ℕ} → Divides ws ds e v i count → w ≡ wordAt ws v 6 → f ≡ w % 0x4000_0000
+    → l ≡ getD ds (v * 7 + i) 0 / 256 % 256 → r ≡ getD ds (v * 7 + i) 0 % 256
+    → Down ws ds e v f l r count (λ limit. gather limit (treeAt ws e v) i)
+down {ws} {ds} {e} {v} {i} {count} o q x y z =
     let h = o .tabled in
     let p = at-inner (h .tree) (o .inner) in
-    rw q (halves h (wordAt ws v 6 % 0x4000_0000) p i count (o .entry) (λ limit. gather limit (treeAt ws e v) i)
+    rw (x, q, y, z) (halves h (wordAt ws v 6 % 0x4000_0000) p i count (o .entry) (λ limit. gather limit (treeAt ws e v) i)
     (λ limit k. gather-inner limit (treeAt ws e v) v (boxAt ws v) _ _ i (p .tree)) (o .slots))
 
 -- the node whose children are gathered
-pub root-divides : {ws ds : List ℕ} {e v w : ℕ} → Tabled ws ds e v → w ≡ wordAt ws v 6 → w / 0x4000_0000 ≡ 0 → Divides ws ds e v 0 0
-root-divides {ws} {ds} {e} {v} h q z =
+pub root-divides : {ws ds : List ℕ} {e v w kind : ℕ} → Tabled ws ds e v → w ≡ wordAt ws v 6 → kind ≡ w / 0x4000_0000 → kind ≡ 0
+    → Divides ws ds e v 0 0
+root-divides {ws} {ds} {e} {v} h q r z =
     let s : length (gather (h .limit) (treeAt ws e v) 0) ≤ 8 = gather-width (h .limit) (treeAt ws e v) (h .tree .boxes)
     (omega (arith, subtree-leaves (h .tree), h .tree .few)) in
-    record { tabled = h; entry = omega arith; inner = rw q at z; slots = omega arith }
+    record { tabled = h; entry = omega arith; inner = rw (r, q) at z; slots = omega arith }
 
-pub root-leaf : {ws ds : List ℕ} {e v w : ℕ} → Tabled ws ds e v → w ≡ wordAt ws v 6 → (w / 0x4000_0000 ≡ 0 → ⊥) → (before : List ℕ)
+pub root-leaf : {ws ds : List ℕ} {e v w kind : ℕ} → Tabled ws ds e v → w ≡ wordAt ws v 6 → kind ≡ w / 0x4000_0000 → (kind ≡ 0 → ⊥)
+    → (before : List ℕ)
     → 8 ≤ length before
     → (limit : ℕ) → Gathered (gather limit (treeAt ws e v) 0) 0 before (set before 0 v) 1
-root-leaf {ws} {e = e} {v = v} h q z before u limit =
+root-leaf {ws} {e = e} {v = v} h q r z before u limit =
     one-written (treeAt ws e v) v 0 before (gather limit (treeAt ws e v) 0) (label-is ws e v)
-    (itself limit (treeAt ws e v) (at-leaf (h .tree) (λ y. z (ap (λ (x : ℕ). x / 0x4000_0000) q ∙ y)) .tree)) (omega arith)
+    (itself limit (treeAt ws e v) (at-leaf (h .tree) (λ y. z (r ∙ ap (λ (x : ℕ). x / 0x4000_0000) q ∙ y)) .tree)) (omega arith)
   where
     itself : (limit : ℕ) (t : Tree ℕ) {box : _} {p : ℕ} → t ≡ leaf v box p → gather limit t 0 ≡ t ∷ []
     itself limit t {box} {p} k = rw k (one-child limit v box p 0)

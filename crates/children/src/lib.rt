@@ -24,7 +24,7 @@ fn open_child(
         → Gathered (part limit (treeAt (now (words .entry)) depth v) entry) count (now (children .entry)) (now (children .exit)) r) ⌝ }
 {
     let word = decisions[v * 7 + entry];
-    if word / words::KIND != 2 {
+    if words::kind(word) != 2 {
         children[count] = v as u32;
         return count + 1;
     }
@@ -48,9 +48,9 @@ fn open_node(
         → Gathered (gather limit (treeAt (now (words .entry)) depth v) entry) count (now (children .entry)) (now (children .exit)) r) ⌝ }
 {
     let word = decisions[v * 7 + entry];
-    let left = (word / 256 % 256) as usize;
-    let right = (word % 256) as usize;
-    let first = (bvh2::link_word(words, v) % words::KIND) as usize;
+    let left = cost::left_split(word);
+    let right = cost::right_split(word);
+    let first = words::below_kind(bvh2::link_word(words, v)) as usize;
     let half = open_child(words, decisions, first, left, depth - 1, children, count);
     open_child(
         words,
@@ -78,7 +78,7 @@ pub fn get_children(
         → Gathered (gather limit (treeAt (now (words .entry)) depth v) 0) 0 (now (children .entry)) (now (children .exit)) r) ⌝ }
 {
     let link = bvh2::link_word(words, v);
-    if link / words::KIND != 0 {
+    if words::kind(link) != 0 {
         children[0] = v as u32;
         return 1;
     }

@@ -46,12 +46,12 @@ leaf-fills : (limit v : ℕ) (t : Tree ℕ) (box : _) (p : ℕ) {area : Float} {
 unfolding leaves fill table
 leaf-fills limit v t box p e q x y = rw e (record { counted = refl; decided = x; priced = rw q at y })
 
-pub leaf-done : {ws : List ℕ} {d c e v w : ℕ} → RowsReady ws d c e v → w ≡ wordAt ws v 6 → (w / 0x4000_0000 ≡ 0 → ⊥)
+pub leaf-done : {ws : List ℕ} {d c e v w kind : ℕ} → RowsReady ws d c e v → w ≡ wordAt ws v 6 → kind ≡ w / 0x4000_0000 → (kind ≡ 0 → ⊥)
     → (limit : ℕ) {area : Float} {ds ds' : List ℕ} {cs cs' : List Float}
     → area ≡ halfArea (boxAt ws v) → ds' ≡ row (λ i. word (leafDecision area)) (v * 7) 7 ds → cs' ≡ row (λ i. leafDecision area .cost) (v * 7) 7 cs
     → Done limit (treeAt ws e v) 1 ds cs ds' cs'
-leaf-done {ws} {e = e} {v = v} h q k limit a x y =
-    let l = at-leaf (h .tree) (λ z. k (ap (λ (u : ℕ). u / 0x4000_0000) q ∙ z)) in
+leaf-done {ws} {e = e} {v = v} h q r k limit a x y =
+    let l = at-leaf (h .tree) (λ z. k (r ∙ ap (λ (u : ℕ). u / 0x4000_0000) q ∙ z)) in
     leaf-fills limit v (treeAt ws e v) (boxAt ws v) _ (l .tree) a x y
 
 -- ---- an inner node
@@ -112,8 +112,9 @@ from-inner {ws} {d} {c} {e} {v} {f} h i =
     differ : (x : ℕ) (l : List ℕ) → v ≡ x → 1 ≤ count x l → count v l ≡ 0 → ⊥
     differ x l z p q = let y : count v l ≡ count x l = ap (λ (u : ℕ). count u l) z in omega arith
 
-pub down : {ws : List ℕ} {d c e v w : ℕ} → RowsReady ws d c e v → w ≡ wordAt ws v 6 → w / 0x4000_0000 ≡ 0 → Down ws d c e v (w % 0x4000_0000)
-down {ws} {e = e} {v = v} h q k = rw q (from-inner h (at-inner (h .tree) (rw q at k)))
+pub down : {ws : List ℕ} {d c e v w kind f : ℕ} → RowsReady ws d c e v → w ≡ wordAt ws v 6 → kind ≡ w / 0x4000_0000 → kind ≡ 0
+    → f ≡ w % 0x4000_0000 → Down ws d c e v f
+down {ws} {e = e} {v = v} h q r k s = rw (s, q) (from-inner h (at-inner (h .tree) (rw (r, q) at k)))
 
 -- after both calls the tables have the length that they had, and the children's costs stand in their rows
 pub record Both (limit f : ℕ) (l r : Tree ℕ) (d c a b : ℕ) (ds : List ℕ) (cs : List Float) : Type 0 where

@@ -1,6 +1,6 @@
 // Internal: the cost tables of a binary tree (bvh2_to_cwbvh.rs, calculate_cost).
 ghost use mathlib.Core.Path.{_≡_};
-ghost use Prim.Native.Nat.{_+_, _*_, _^_, _≤_, _<_};
+ghost use Prim.Native.Nat.{_+_, _*_, _/_, _%_, _^_, _≤_, _<_};
 ghost use lib.ListN.{length};
 ghost use Rattle.aabb.specs.Aabb.{halfArea};
 ghost use Rattle.bvh2.specs.Tree.{leaves};
@@ -12,6 +12,20 @@ ghost use Rattle.cost.specs.Rows.{row, fill, costsAt, entryFrom, stored,
 const INTERNAL: u32 = words::KIND;
 
 const DISTRIBUTE: u32 = 2 * words::KIND;
+
+// The left split of a decision word.
+pub fn left_split(word: u32) -> usize
+    ensures { λ r. ⌜ r ≡ word / 256 % 256 ⌝ }
+{
+    (word / 256 % 256) as usize
+}
+
+// The right split.
+pub fn right_split(word: u32) -> usize
+    ensures { λ r. ⌜ r ≡ word % 256 ⌝ }
+{
+    (word % 256) as usize
+}
 
 // The cheapest split found so far. `left` is 255 while there is none.
 pub struct Split {
@@ -172,8 +186,8 @@ pub fn calculate_cost(
 {
     let area = node_area(words, v);
     let link = bvh2::link_word(words, v);
-    if link / words::KIND == 0 {
-        let first = (link % words::KIND) as usize;
+    if words::kind(link) == 0 {
+        let first = words::below_kind(link) as usize;
         let a = calculate_cost(words, first, depth - 1, limit, decisions, costs);
         let b = calculate_cost(words, first + 1, depth - 1, limit, decisions, costs);
         let count = a + b;

@@ -48,10 +48,9 @@ down-word {ws} {n} {m} {at} {depth} {v} h e =
       both = room;
     }
 
-pub down : {ws : List ℕ} {n m at depth v w : ℕ} → LeavesReady ws n m at depth v → w ≡ wordAt ws v 6 → w / 0x4000_0000 ≡ 0
-    → Down ws n m at depth v (w % 0x4000_0000)
-down {ws} {n} {m} {at} {depth} {v} h l e =
-    rw l (down-word h (rw l at e))
+pub down : {ws : List ℕ} {n m at depth v w kind f : ℕ} → LeavesReady ws n m at depth v → w ≡ wordAt ws v 6 → f ≡ w % 0x4000_0000
+    → kind ≡ w / 0x4000_0000 → kind ≡ 0 → Down ws n m at depth v f
+down h l i k e = rw (i, l) (down-word h (rw (k, l) at e))
 
 pub up : {indices : List ℕ} {ws : List ℕ} {n m at depth v f : ℕ} → Down ws n m at depth v f → {a b : ℕ} {o o₁ o₂ : List ℕ} → length o ≡ m
     → LeavesWritten indices (treeAt ws (depth - 1) f) at a o o₁ → LeavesWritten indices (treeAt ws (depth - 1) (f + 1)) a b o₁ o₂
@@ -91,6 +90,6 @@ last-word {ws} {indices} {at} {depth} {v} {o} h e =
       written = rw (i .tree) (record { next = refl; list = set-splice o at (getD indices (wordAt ws v 6 % 0x4000_0000) 0) r });
     }
 
-pub last : {ws indices : List ℕ} {at depth v w : ℕ} {o : List ℕ} → LeavesReady ws (length indices) (length o) at depth v → w ≡ wordAt ws v 6
-    → (w / 0x4000_0000 ≡ 0 → ⊥) → Last ws indices at depth v (w % 0x4000_0000) o
-last h l e = rw l (last-word h (rw l at e))
+pub last : {ws indices : List ℕ} {at depth v w kind p : ℕ} {o : List ℕ} → LeavesReady ws (length indices) (length o) at depth v
+    → w ≡ wordAt ws v 6 → p ≡ w % 0x4000_0000 → kind ≡ w / 0x4000_0000 → (kind ≡ 0 → ⊥) → Last ws indices at depth v p o
+last h l i k e = rw (i, l) (last-word h (rw (k, l) at e))

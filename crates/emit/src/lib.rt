@@ -27,8 +27,8 @@ pub fn write_leaves(
     ensures { λ r. ⌜ LeavesWritten (now (indices .entry)) (treeAt (now (words .entry)) depth v) at r (now (out .entry)) (now (out .exit)) ⌝ }
 {
     let link = bvh2::link_word(words, v);
-    let index = (link % words::KIND) as usize;
-    if link / words::KIND == 0 {
+    let index = words::below_kind(link) as usize;
+    if words::kind(link) == 0 {
         let next = write_leaves(words, indices, out, index, at, depth - 1);
         return write_leaves(words, indices, out, index + 1, next, depth - 1);
     }
@@ -146,7 +146,7 @@ fn own_slot(
     let child = v as usize;
     let b = bvh2::node_box(words, child);
     let corners = grid_box(grid, b);
-    if decisions[child * 7] / words::KIND == 0 {
+    if words::kind(decisions[child * 7]) == 0 {
         let next = write_leaves(words, indices, out, child, at, depth);
         return Held {
             meta: leaf_meta(next - at, at - start),

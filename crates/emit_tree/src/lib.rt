@@ -27,7 +27,7 @@ fn is_inner(decisions: &[u32], v: u32) -> bool
     if v == 0xffff_ffff {
         return false;
     }
-    decisions[v as usize * 7] / words::KIND != 0
+    words::kind(decisions[v as usize * 7]) != 0
 }
 
 // The boxes of the first `count` of the nodes found, and behind them the box of their parent.

@@ -33,8 +33,9 @@ pub record Below (ws ds : List ℕ) (e f : ℕ) : Type 0 where
   pub left : Tabled ws ds (e - 1) f
   pub right : Tabled ws ds (e - 1) (f + 1)
 
-pub below : {ws ds : List ℕ} {e v w : ℕ} → Tabled ws ds e v → w ≡ wordAt ws v 6 → w / 0x4000_0000 ≡ 0 → Below ws ds e (w % 0x4000_0000)
-below {ws} {v = v} h q z =
+pub below : {ws ds : List ℕ} {e v w kind f : ℕ} → Tabled ws ds e v → w ≡ wordAt ws v 6 → kind ≡ w / 0x4000_0000 → kind ≡ 0
+    → f ≡ w % 0x4000_0000 → Below ws ds e f
+below {ws} {v = v} h q k z i =
     let f = wordAt ws v 6 % 0x4000_0000 in
-    let p = at-inner (h .tree) (rw q at z) in
-    rw q (record { deep = p .deep; left = left-tabled h f p; right = right-tabled h f p })
+    let p = at-inner (h .tree) (rw (k, q) at z) in
+    rw (i, q) (record { deep = p .deep; left = left-tabled h f p; right = right-tabled h f p })

@@ -115,10 +115,10 @@ fn same_below(
         return false;
     }
     let link = bvh2::link_word(words, v);
-    if link / words::KIND != 0 {
+    if words::kind(link) != 0 {
         return true;
     }
-    let first = (link % words::KIND) as usize;
+    let first = words::below_kind(link) as usize;
     if same_below(case, from, words, decisions, first, depth - 1) {
         return same_below(case, from, words, decisions, first + 1, depth - 1);
     }

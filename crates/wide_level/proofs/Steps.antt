@@ -86,9 +86,10 @@ kind-inner {ws} {ds} {e} {v} h i u z = pick (ℕ-discrete (wordAt ws v 6 / 0x400
     pick (yes q) = q
     pick (no q) = absurd (z (says h (h .limit) (h .holds) i u .kind ∙ leaf-code (treeAt ws e v) (boxAt ws v) _ (at-leaf (h .tree) q .tree)))
 
-pub down : {ws ds : List ℕ} {e v i w : ℕ} → Tabled ws ds e v → i ≤ 6 → (getD ds (v * 7 + i) 0 / 0x4000_0000 ≡ 0 → ⊥) → w ≡ wordAt ws v 6
-    → Down ws ds e v i (w % 0x4000_0000) (getD ds (v * 7 + i) 0 / 256 % 256) (getD ds (v * 7 + i) 0 % 256)
-down {ws} {v = v} {i = i} h u z q = rw q (halves h (wordAt ws v 6 % 0x4000_0000) (at-inner (h .tree) (kind-inner h i u z)) i u)
+pub down : {ws ds : List ℕ} {e v i w kind f l r : ℕ} → Tabled ws ds e v → i ≤ 6 → kind ≡ getD ds (v * 7 + i) 0 / 0x4000_0000 → (kind ≡ 0 → ⊥)
+    → w ≡ wordAt ws v 6 → f ≡ w % 0x4000_0000 → l ≡ getD ds (v * 7 + i) 0 / 256 % 256 → r ≡ getD ds (v * 7 + i) 0 % 256 → Down ws ds e v i f l r
+down {ws} {v = v} {i = i} h u k z q a b c =
+    rw (a, q, b, c) (halves h (wordAt ws v 6 % 0x4000_0000) (at-inner (h .tree) (kind-inner h i u (λ y. z (k ∙ y)))) i u)
 
 -- ---- what a node adds by its kind
 leaf-adds : (k : Kind) (n : ℕ) → code k ≡ 0 → 0 ≡ addedAs k n
@@ -106,19 +107,22 @@ inner-adds LEAF n h z = absurd (h refl)
 inner-adds INTERNAL n h z = omega arith
 inner-adds DISTRIBUTE n h z = absurd (z refl)
 
-module _ {ws ds : List ℕ} {e v i : ℕ} (h : Tabled ws ds e v) (u : i ≤ 6) where
-  pub as-leaf : getD ds (v * 7 + i) 0 / 0x4000_0000 ≡ 0 → Adds ws ds e v i 0
-  as-leaf z limit k = leaf-adds (table limit (treeAt ws e v) i .kind) (levels limit (treeAt ws e v) i) (sym (says h limit k i u .kind) ∙ z)
+module _ {ws ds : List ℕ} {e v i kind : ℕ} (h : Tabled ws ds e v) (u : i ≤ 6) (read : kind ≡ getD ds (v * 7 + i) 0 / 0x4000_0000) where
+  said : (limit : ℕ) → RowsHold (wordOf limit) 0 ds (treeAt ws e v) → kind ≡ code (table limit (treeAt ws e v) i .kind)
+  said limit k = read ∙ says h limit k i u .kind
+
+  pub as-leaf : kind ≡ 0 → Adds ws ds e v i 0
+  as-leaf z limit k = leaf-adds (table limit (treeAt ws e v) i .kind) (levels limit (treeAt ws e v) i) (sym (said limit k) ∙ z)
 
   module _ {f l r x y : ℕ} (d : Down ws ds e v i f l r) (a : Adds ws ds (e - 1) f l x) (b : Adds ws ds (e - 1) (f + 1) r y) where
-    pub as-opened : getD ds (v * 7 + i) 0 / 0x4000_0000 ≡ 2 → Adds ws ds e v i (max x y)
+    pub as-opened : kind ≡ 2 → Adds ws ds e v i (max x y)
     as-opened z limit k =
         d .joined x y a b limit k ∙ opened-adds (table limit (treeAt ws e v) i .kind) (levels limit (treeAt ws e v) i)
-        (sym (says h limit k i u .kind) ∙ z)
+        (sym (said limit k) ∙ z)
 
-    pub as-inner : (getD ds (v * 7 + i) 0 / 0x4000_0000 ≡ 0 → ⊥) → (getD ds (v * 7 + i) 0 / 0x4000_0000 ≡ 2 → ⊥) → Adds ws ds e v i (max x y + 1)
+    pub as-inner : (kind ≡ 0 → ⊥) → (kind ≡ 2 → ⊥) → Adds ws ds e v i (max x y + 1)
     as-inner z z₂ limit k =
-        let s = says h limit k i u .kind in
+        let s = said limit k in
         ap (λ (m : ℕ). m + 1) (d .joined x y a b limit k)
         ∙ inner-adds (table limit (treeAt ws e v) i .kind) (levels limit (treeAt ws e v) i) (λ q. z (s ∙ q)) (λ q. z₂ (s ∙ q))
 
@@ -130,15 +134,16 @@ pub root-level : {ws ds : List ℕ} {e v : ℕ} → Tabled ws ds e v → (limit 
     ≡ levels limit (treeAt ws e v) 0
 root-level {ws} {e = e} {v = v} h limit ordered = wide-level (placing ordered) limit (places ordered) (treeAt ws e v) (root-fine h)
 
-pub root-leaf : {ws ds : List ℕ} {e v w : ℕ} → Tabled ws ds e v → w ≡ wordAt ws v 6 → (w / 0x4000_0000 ≡ 0 → ⊥) → (limit : ℕ) (ordered : Bool)
-    → 0 ≡ level (wideTree ordered limit (treeAt ws e v))
-root-leaf {ws} {e = e} {v = v} h q z limit ordered =
+pub root-leaf : {ws ds : List ℕ} {e v w kind : ℕ} → Tabled ws ds e v → w ≡ wordAt ws v 6 → kind ≡ w / 0x4000_0000 → (kind ≡ 0 → ⊥)
+    → (limit : ℕ) (ordered : Bool) → 0 ≡ level (wideTree ordered limit (treeAt ws e v))
+root-leaf {ws} {e = e} {v = v} h q k z limit ordered =
     sym (root-level h limit ordered
-    ∙ levels-leaf limit (treeAt ws e v) v (boxAt ws v) _ 0 (at-leaf (h .tree) (λ y. z (ap (λ (x : ℕ). x / 0x4000_0000) q ∙ y)) .tree))
+    ∙ levels-leaf limit (treeAt ws e v) v (boxAt ws v) _ 0 (at-leaf (h .tree) (λ y. z (k ∙ ap (λ (x : ℕ). x / 0x4000_0000) q ∙ y)) .tree))
 
-pub root-down : {ws ds : List ℕ} {e v w : ℕ} → Tabled ws ds e v → w ≡ wordAt ws v 6 → w / 0x4000_0000 ≡ 0
-    → Down ws ds e v 0 (w % 0x4000_0000) (getD ds (v * 7 + 0) 0 / 256 % 256) (getD ds (v * 7 + 0) 0 % 256)
-root-down {ws} {v = v} h q z = rw q (halves h (wordAt ws v 6 % 0x4000_0000) (at-inner (h .tree) (rw q at z)) 0 (omega arith))
+pub root-down : {ws ds : List ℕ} {e v w kind f l r : ℕ} → Tabled ws ds e v → w ≡ wordAt ws v 6 → kind ≡ w / 0x4000_0000 → kind ≡ 0
+    → f ≡ w % 0x4000_0000 → l ≡ getD ds (v * 7 + 0) 0 / 256 % 256 → r ≡ getD ds (v * 7 + 0) 0 % 256 → Down ws ds e v 0 f l r
+root-down {ws} {v = v} h q k z a b c =
+    rw (a, q, b, c) (halves h (wordAt ws v 6 % 0x4000_0000) (at-inner (h .tree) (rw (k, q) at z)) 0 (omega arith))
 
 pub root-joined : {ws ds : List ℕ} {e v f l r x y : ℕ} → Tabled ws ds e v → Down ws ds e v 0 f l r → Adds ws ds (e - 1) f l x
     → Adds ws ds (e - 1) (f + 1) r y

@@ -20,13 +20,13 @@ fn added_levels(words: &[u32], decisions: &[u32], v: usize, entry: usize, depth:
         ≡ added limit (treeAt (now (words .entry)) depth v) entry) ⌝ }
 {
     let word = decisions[v * 7 + entry];
-    let kind = word / words::KIND;
+    let kind = words::kind(word);
     if kind == 0 {
         return 0;
     }
-    let left = (word / 256 % 256) as usize;
-    let right = (word % 256) as usize;
-    let first = (bvh2::link_word(words, v) % words::KIND) as usize;
+    let left = cost::left_split(word);
+    let right = cost::right_split(word);
+    let first = words::below_kind(bvh2::link_word(words, v)) as usize;
     let below = words::greater(
         added_levels(words, decisions, first, left, depth - 1),
         added_levels(words, decisions, first + 1, right, depth - 1),
@@ -44,11 +44,11 @@ pub fn deepest_level(words: &[u32], decisions: &[u32]) -> u32
         ≡ level (wideTree ordered limit (treeOf (now (words .entry))))) ⌝ }
 {
     let link = bvh2::link_word(words, 0);
-    if link / words::KIND == 0 {
-        let first = (link % words::KIND) as usize;
+    if words::kind(link) == 0 {
+        let first = words::below_kind(link) as usize;
         let word = decisions[0];
-        let left = (word / 256 % 256) as usize;
-        let right = (word % 256) as usize;
+        let left = cost::left_split(word);
+        let right = cost::right_split(word);
         return words::greater(
             added_levels(words, decisions, first, left, 126),
             added_levels(words, decisions, first + 1, right, 126),

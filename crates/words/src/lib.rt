@@ -1,7 +1,7 @@
 // Internal: words as fields of bits, counts of ones, the highest bit, and numbers in a slice of bytes, the lowest byte first.
 // The laws that u32 and u64 share stand in proofs/, with the width as parameter.
 ghost use mathlib.Core.Path.{_≡_};
-ghost use Prim.Native.Nat.{_+_, _-_, _^_, _%_, _<_, _≤_, max};
+ghost use Prim.Native.Nat.{_+_, _-_, _/_, _^_, _%_, _<_, _≤_, max};
 ghost use lib.ListN.{length, replicate};
 ghost use Rattle.words.specs.Fields.{field};
 ghost use Rattle.words.specs.Le.{storeLe};
@@ -11,6 +11,20 @@ ghost use Rattle.words.specs.Top.{Top};
 
 // A word's kind stands in its bits 31 and 30: it is the quotient by this, and the rest is the remainder.
 pub const KIND: u32 = 0x4000_0000;
+
+// The kind of a word.
+pub fn kind(word: u32) -> u32
+    ensures { λ r. ⌜ r ≡ word / 0x4000_0000 ⌝ }
+{
+    word / KIND
+}
+
+// The rest of a word: its bits below the kind.
+pub fn below_kind(word: u32) -> u32
+    ensures { λ r. ⌜ r ≡ word % 0x4000_0000 ⌝ }
+{
+    word % KIND
+}
 
 // Of two words in one of 64 bits the upper is the quotient by this, and the lower the remainder.
 pub const UPPER: u64 = 0x1_0000_0000;

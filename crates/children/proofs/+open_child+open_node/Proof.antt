@@ -1,9 +1,9 @@
 -- A child that is opened falls from 2 · depth + 1 to 2 · depth, and each of its own children to the depth below. What the definitions say one step
 -- down is in proofs/Steps.
-use Prim.Native.Nat.{ℕ, _+_, _*_, _/_, _%_, _<_}
+use Prim.Native.Nat.{ℕ, _+_, _*_, _<_}
 use native.Mathlib.Omega.{arith}
 use mathlib.Core.Path.{_∙_}
-use lib.ListN.{length, getD, length-set}
+use lib.ListN.{length, length-set}
 use Rattle.bvh2.specs.Words.{treeAt}
 use Rattle.children.specs.Gather.{gather}
 use Rattle.children.proofs.Steps.{Here, here, slot-left, stay, divides, contributes, Down, down}
@@ -15,7 +15,11 @@ use Rattle.children.proofs.+open_child+open_node.Lts-open_child as open
 use Rattle.children.proofs.open_node.Reads as open-node
 use Rattle.children.proofs.open_node.Kinds as open-node-kinds
 use Rattle.children.proofs.+open_child+open_node.Lts-open_node as open-node-lts
+use Rattle.words.proofs.kind.Reads as kind-reads
+use Rattle.words.proofs.below_kind.Reads as below-kind-reads
 use Rattle.bvh2.proofs.link_word.Reads as link-word-reads
+use Rattle.cost.proofs.left_split.Reads as left-split-reads
+use Rattle.cost.proofs.right_split.Reads as right-split-reads
 use Rattle.children.proofs.+open_child+open_node.{statement}
 use Rattle.children.proofs.+open_child+open_node.Tie.{close}
 
@@ -39,10 +43,21 @@ open-node-below t = and 3 open-node-kinds.ps (falls 3 open-node-kinds.ps _<_ μ-
 
 -- what each callee asks and gives
 abbrev child-given : ℕ → open-child-lts.Claims
-child-given t = (open-node-below t, open-node.Post)
+child-given t = (kind-reads.Asked, kind-reads.Learnt, open-node-below t, open-node.Post)
 
 abbrev node-given : ℕ → open-node-lts.Claims
-node-given t = (link-word-reads.Asked, link-word-reads.Learnt, open-child-below t, open-child.Post)
+node-given t = (
+  left-split-reads.Asked,
+  left-split-reads.Learnt,
+  right-split-reads.Asked,
+  right-split-reads.Learnt,
+  link-word-reads.Asked,
+  link-word-reads.Learnt,
+  below-kind-reads.Asked,
+  below-kind-reads.Learnt,
+  open-child-below t,
+  open-child.Post,
+)
 
 -- ---- a child: the entry, the branch of one that stays, the branch of one that is opened
 abbrev S : ℕ → Type 0
@@ -57,14 +72,14 @@ O t = open-child-lts.Else1 (child-given t) (open-child-at t) open-child.Post
 abbrev kept : (t : ℕ) → K t → S t
 kept t k =
     let k-back3 = k .before .before .before in
-    let k-back5 = k-back3 .before .before in
-    k-back5
+    let k-back6 = k-back3 .before .before .before in
+    k-back6
 
 abbrev opened : (t : ℕ) → O t → S t
 opened t o =
     let o-back3 = o .before .before .before in
-    let o-back5 = o-back3 .before .before in
-    o-back5
+    let o-back6 = o-back3 .before .before .before in
+    o-back6
 
 child-known : (t : ℕ) (s : S t) → Here (length (s .args .words .now)) (length (s .args .decisions .now)) (s .args .v)
 child-known t s = here (s .pre .1 .1 .tabled)
@@ -85,56 +100,66 @@ open-child-shared-slice-read-word t c =
     let h = child-known t (at-start) in let e =
     at-start .pre .1 .1 .entry in omega arith
 
+open-child-kind-requires : (t : ℕ) → open-child-lts.Need-kind-requires (child-given t) (open-child-at t) open-child.Post
+open-child-kind-requires t c κs = tt
+
 open-child-cast-children : (t : ℕ) → open-child-lts.Need-cast-children (child-given t) (open-child-at t) open-child.Post
 open-child-cast-children t c = let h = child-known t (kept t c) in omega arith
 
 open-child-mul-children : (t : ℕ) → open-child-lts.Need-mul-children (child-given t) (open-child-at t) open-child.Post
-open-child-mul-children t c = let h = slot-left (kept t c .pre .1 .1) (c .if1 .taken) in omega arith
+open-child-mul-children t c = let h = slot-left (kept t c .pre .1 .1) (c .before .kind .ensures) (c .if1 .taken) in omega arith
 
 open-child-slice-write-children : (t : ℕ) → open-child-lts.Need-slice-write-children (child-given t) (open-child-at t) open-child.Post
-open-child-slice-write-children t c = let h = slot-left (kept t c .pre .1 .1) (c .if1 .taken) in omega (arith, kept t c .pre .1 .0)
+open-child-slice-write-children t c =
+    let p = kept t c .pre .1 in
+    let h = slot-left (p .1) (c .before .kind .ensures) (c .if1 .taken) in omega (arith, p .0)
 
 open-child-add-result : (t : ℕ) → open-child-lts.Need-add-result (child-given t) (open-child-at t) open-child.Post
-open-child-add-result t c = let h = slot-left (kept t c .pre .1 .1) (c .if1 .taken) in omega arith
+open-child-add-result t c = let h = slot-left (kept t c .pre .1 .1) (c .before .kind .ensures) (c .if1 .taken) in omega arith
 
 open-child-same-length : (t : ℕ) → open-child-lts.Need-same-length (child-given t) (open-child-at t) open-child.Post
 open-child-same-length t c = simp length-set
 
 open-child-returns : (t : ℕ) → open-child-lts.Need-returns (child-given t) (open-child-at t) open-child.Post
-open-child-returns t c = let s = kept t c in λ limit h. stay (s .pre .1 .1) (s .args .children .now) (s .pre .1 .0) (c .if1 .taken) limit h
+open-child-returns t c =
+    let s = kept t c in
+    λ limit h. stay (s .pre .1 .1) (s .args .children .now) (s .pre .1 .0) (c .before .kind .ensures) (c .if1 .taken) limit h
 
 open-child-open-node-requires : (t : ℕ) → open-child-lts.Need-open-node-requires (child-given t) (open-child-at t) open-child.Post
 open-child-open-node-requires t c κs = let s = opened t (c .before) in
-    (omega (arith, s .pre .0), (s .pre .1 .0, divides (s .pre .1 .1) (c .before .if1 .left)))
+    (omega (arith, s .pre .0), (s .pre .1 .0, divides (s .pre .1 .1) (c .before .before .kind .ensures) (c .before .if1 .left)))
 
 open-child-same-length-2 : (t : ℕ) → open-child-lts.Need-same-length-2 (child-given t) (open-child-at t) open-child.Post
 open-child-same-length-2 t c = c .before .before .open-node .kept .1 .1 .1 .1 .1 .0
 
 open-child-returns-2 : (t : ℕ) → open-child-lts.Need-returns-2 (child-given t) (open-child-at t) open-child.Post
-open-child-returns-2 t c = let n = c .before .before in let e = n .before .before in let s = opened t e in contributes (s .pre .1 .1) (e .if1 .left)
-    (s .args .children .now) _ _ (n .open-node .ensures)
+open-child-returns-2 t c = let n = c .before .before in let e = n .before .before in let s = opened t e in contributes (s .pre .1 .1)
+    (e .before .kind .ensures) (e .if1 .left) (s .args .children .now) _ _ (n .open-node .ensures)
 
--- ---- an opened node: the entry, its link read
+-- ---- an opened node: the entry, its fields read
 abbrev N : ℕ → Type 0
 N t = open-node-lts.Start (node-given t) (open-node-at t) open-node.Post
 
 abbrev W : ℕ → Type 0
-W t = open-node-lts.After-link-word (node-given t) (open-node-at t) open-node.Post
+W t = open-node-lts.After-below-kind (node-given t) (open-node-at t) open-node.Post
 
 abbrev start : (t : ℕ) → W t → N t
 start t w =
     let w-back3 = w .before .before .before in
-    let w-back5 = w-back3 .before .before in
-    w-back5
+    let w-back6 = w-back3 .before .before .before in
+    w-back6 .before .before
 
 node-known : (t : ℕ) (s : N t) → Here (length (s .args .words .now)) (length (s .args .decisions .now)) (s .args .v)
 node-known t s = here (s .pre .1 .1 .tabled)
 
-below : (t : ℕ) (w : W t) → let s = start t w in let x = getD (s .args .decisions .now) (s .args .v * 7 + s .args .entry) 0 in
-    Down (s .args .words .now) (s .args .decisions .now) (s .args .depth) (s .args .v) (w .link-word .result % 0x4000_0000) (x / 256 % 256)
-    (x % 256) (s .args .count)
+below : (t : ℕ) (w : W t) → let s = start t w in let right = w .before .before in
+    Down (s .args .words .now) (s .args .decisions .now) (s .args .depth) (s .args .v) (w .below-kind .result) (right .before .left-split .result)
+    (right .right-split .result) (s .args .count)
     (λ limit. gather limit (treeAt (s .args .words .now) (s .args .depth) (s .args .v)) (s .args .entry))
-below t w = down (start t w .pre .1 .1) (w .link-word .ensures)
+below t w =
+    let right = w .before .before in
+    down (start t w .pre .1 .1) (w .before .link-word .ensures) (w .below-kind .ensures) (right .before .left-split .ensures)
+    (right .right-split .ensures)
 
 open-node-mul-word : (t : ℕ) → open-node-lts.Need-mul-word (node-given t) (open-node-at t) open-node.Post
 open-node-mul-word t c = let h = node-known t (c .before .before .before) in omega arith
@@ -152,17 +177,20 @@ open-node-shared-slice-read-word t c =
     let h = node-known t (at-start) in let e =
     at-start .pre .1 .1 .entry in omega arith
 
-open-node-cast-left : (t : ℕ) → open-node-lts.Need-cast-left (node-given t) (open-node-at t) open-node.Post
-open-node-cast-left t c = omega arith
+open-node-left-split-requires : (t : ℕ) → open-node-lts.Need-left-split-requires (node-given t) (open-node-at t) open-node.Post
+open-node-left-split-requires t c κs = tt
 
-open-node-cast-right : (t : ℕ) → open-node-lts.Need-cast-right (node-given t) (open-node-at t) open-node.Post
-open-node-cast-right t c = omega arith
+open-node-right-split-requires : (t : ℕ) → open-node-lts.Need-right-split-requires (node-given t) (open-node-at t) open-node.Post
+open-node-right-split-requires t c κs = tt
 
 open-node-link-word-requires : (t : ℕ) → open-node-lts.Need-link-word-requires (node-given t) (open-node-at t) open-node.Post
 open-node-link-word-requires t c κs =
     let back3 = c .before .before .before in
-    let back4 = back3 .before in
-    let h = node-known t (back4) in omega arith
+    let back6 = back3 .before .before .before in
+    let h = node-known t (back6) in omega arith
+
+open-node-below-kind-requires : (t : ℕ) → open-node-lts.Need-below-kind-requires (node-given t) (open-node-at t) open-node.Post
+open-node-below-kind-requires t c κs = tt
 
 open-node-cast-first : (t : ℕ) → open-node-lts.Need-cast-first (node-given t) (open-node-at t) open-node.Post
 open-node-cast-first t c = omega arith
@@ -213,6 +241,7 @@ pub +open-child+open-node-spec : {M : Type 1} → statement M
     (open-child-add-word t)
     (open-child-mul-word-2 t)
     (open-child-shared-slice-read-word t)
+    (open-child-kind-requires t)
     (open-child-cast-children t)
     (open-child-mul-children t)
     (open-child-slice-write-children t)
@@ -230,9 +259,10 @@ pub +open-child+open-node-spec : {M : Type 1} → statement M
     (open-node-add-word t)
     (open-node-mul-word-2 t)
     (open-node-shared-slice-read-word t)
-    (open-node-cast-left t)
-    (open-node-cast-right t)
+    (open-node-left-split-requires t)
+    (open-node-right-split-requires t)
     (open-node-link-word-requires t)
+    (open-node-below-kind-requires t)
     (open-node-cast-first t)
     (open-node-sub-open-child t)
     (open-node-open-child-requires t)

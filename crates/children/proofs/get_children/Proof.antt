@@ -7,10 +7,13 @@ use Rattle.children.proofs.get_children.Tie as tie
 link-word-requires : tie.Need-link-word-requires
 link-word-requires c κs = let h = here (c .before .before .before .pre .1) in omega arith
 
+kind-requires : tie.Need-kind-requires
+kind-requires c κs = search needs
+
 cast-children : tie.Need-cast-children
 cast-children c =
     let back3 = c .before .before .before in
-    let at-start = back3 .before .before in
+    let at-start = back3 .before .before .before in
     let h = here (at-start .pre .1) in omega arith
 
 slice-write-children : tie.Need-slice-write-children
@@ -22,15 +25,16 @@ same-length c = search needs
 returns : tie.Need-returns
 returns c =
     let back3 = c .before .before .before in
-    let back5 = back3 .before .before in
-    let s = back5 in
-    λ limit k. root-leaf (s .pre .1) (c .before .link-word .ensures) (c .if1 .taken) (s .args .children .now) (s .pre .0) limit
+    let s = back3 .before .before .before in
+    let k = c .before in
+    λ limit h. root-leaf (s .pre .1) (k .before .link-word .ensures) (k .kind .ensures) (c .if1 .taken) (s .args .children .now) (s .pre .0) limit
 
 open-node-requires : tie.Need-open-node-requires
 open-node-requires c κs =
     let e = c .before in
-    let s = e .before .before .before .before .before in
-    (s .pre .0, root-divides (s .pre .1) (e .before .link-word .ensures) (e .if1 .left))
+    let k = e .before in
+    let s = k .before .before .before .before .before in
+    (s .pre .0, root-divides (s .pre .1) (k .before .link-word .ensures) (k .kind .ensures) (e .if1 .left))
 
 same-length-2 : tie.Need-same-length-2
 same-length-2 c = search needs
@@ -43,6 +47,7 @@ get-children-spec =
     tie.close
     (tie.spec
     link-word-requires
+    kind-requires
     cast-children
     slice-write-children
     same-length

@@ -1,6 +1,6 @@
 -- The measure is the depth. What the definitions say one step down, and back up, is in proofs/Steps.
 use mathlib.Core.Path.{refl, _∙_}
-use Prim.Native.Nat.{ℕ, _+_, _-_, _%_, _<_}
+use Prim.Native.Nat.{ℕ, _+_, _-_, _<_}
 use native.Mathlib.Omega.{arith}
 use lib.ListN.{length}
 use Rattle.bvh2.specs.Words.{treeAt}
@@ -11,6 +11,8 @@ use Rattle.cost.proofs.calculate_cost.Reads as calculate-cost
 use Rattle.cost.proofs.calculate_cost.Kinds as calculate-cost-kinds
 use Rattle.cost.proofs.+calculate_cost.Lts-calculate_cost as calculate-cost-lts
 use Rattle.bvh2.proofs.link_word.Reads as link-word-reads
+use Rattle.words.proofs.kind.Reads as kind-reads
+use Rattle.words.proofs.below_kind.Reads as below-kind-reads
 use Rattle.cost.proofs.node_area.Reads as node-area-reads
 use Rattle.cost.proofs.inner_entries.Reads as inner-entries-reads
 use Rattle.cost.proofs.leaf_entries.Reads as leaf-entries-reads
@@ -43,6 +45,10 @@ given t = (
   node-area-reads.Learnt,
   link-word-reads.Asked,
   link-word-reads.Learnt,
+  kind-reads.Asked,
+  kind-reads.Learnt,
+  below-kind-reads.Asked,
+  below-kind-reads.Learnt,
   calculate-cost-below t,
   calculate-cost.Post,
   inner-entries-reads.Asked,
@@ -51,12 +57,12 @@ given t = (
   leaf-entries-reads.Learnt,
 )
 
--- the places: the entry, the two branches, after the first call, after the second
+-- the places: the entry, the index of an inner node read, the branch of a leaf, after the first call, after the second
 abbrev S : ℕ → Type 0
 S t = calculate-cost-lts.Start (given t) (calculate-cost-at t) calculate-cost.Post
 
 abbrev I : ℕ → Type 0
-I t = calculate-cost-lts.Then1 (given t) (calculate-cost-at t) calculate-cost.Post
+I t = calculate-cost-lts.After-below-kind (given t) (calculate-cost-at t) calculate-cost.Post
 
 abbrev Z : ℕ → Type 0
 Z t = calculate-cost-lts.Else1 (given t) (calculate-cost-at t) calculate-cost.Post
@@ -68,10 +74,10 @@ abbrev D : ℕ → Type 0
 D t = calculate-cost-lts.After-calculate-cost2 (given t) (calculate-cost-at t) calculate-cost.Post
 
 abbrev start : (t : ℕ) → I t → S t
-start t i = i .before .before .before .before .before .before
+start t i = i .before .before .before .before .before .before .before .before
 
 abbrev start-leaf : (t : ℕ) → Z t → S t
-start-leaf t i = i .before .before .before .before .before .before
+start-leaf t i = i .before .before .before .before .before .before .before
 
 abbrev inner-of : (t : ℕ) → C t → I t
 inner-of t c = c .before .before .before
@@ -80,14 +86,16 @@ abbrev call-of : (t : ℕ) → D t → C t
 call-of t c = c .before .before .before .before .before .before .before
 
 abbrev first : (t : ℕ) → I t → ℕ
-first t i = i .before .link-word .result % 0x4000_0000
+first t i = i .below-kind .result
 
 known : (t : ℕ) (s : S t) → Here (length (s .args .words .now)) (length (s .args .decisions .now)) (length (s .args .costs .now)) (s .args .v)
 known t s = here (s .pre .1)
 
 below : (t : ℕ) (i : I t) → Down (start t i .args .words .now) (length (start t i .args .decisions .now)) (length (start t i .args .costs .now))
     (start t i .args .depth) (start t i .args .v) (first t i)
-below t i = down (start t i .pre .1) (i .before .link-word .ensures) (i .if1 .taken)
+below t i =
+    let k = i .before .before in
+    down (start t i .pre .1) (k .before .link-word .ensures) (k .kind .ensures) (i .before .if1 .taken) (i .below-kind .ensures)
 
 one : (t : ℕ) (c : C t) → let i = inner-of t c in
     Done (start t i .args .limit) (treeAt (start t i .args .words .now) (start t i .args .depth - 1) (first t i)) (c .calculate-cost .result)
@@ -116,6 +124,12 @@ calculate-cost-node-area-requires t c κs = let h = known t (c .before .before .
 
 calculate-cost-link-word-requires : (t : ℕ) → calculate-cost-lts.Need-link-word-requires (given t) (calculate-cost-at t) calculate-cost.Post
 calculate-cost-link-word-requires t c κs = let h = known t (c .before .before .before .before) in omega arith
+
+calculate-cost-kind-requires : (t : ℕ) → calculate-cost-lts.Need-kind-requires (given t) (calculate-cost-at t) calculate-cost.Post
+calculate-cost-kind-requires t c κs = tt
+
+calculate-cost-below-kind-requires : (t : ℕ) → calculate-cost-lts.Need-below-kind-requires (given t) (calculate-cost-at t) calculate-cost.Post
+calculate-cost-below-kind-requires t c κs = tt
 
 calculate-cost-cast-first : (t : ℕ) → calculate-cost-lts.Need-cast-first (given t) (calculate-cost-at t) calculate-cost.Post
 calculate-cost-cast-first t c = omega arith
@@ -163,7 +177,7 @@ calculate-cost-returns t c =
     let d = e .before .before .before .before .before .before .before in
     let a = call-of t d in
     let i = inner-of t a in
-    let h = up (below t i) (start t i .args .limit) (one t a) (two t d) (joint t d) (i .before .before .node-area .ensures)
+    let h = up (below t i) (start t i .args .limit) (one t a) (two t d) (joint t d) (i .before .before .before .before .node-area .ensures)
     (e .inner-entries .ensures .0) (e .inner-entries .ensures .1) in
     (h .counted, (h .decided, h .priced))
 
@@ -180,9 +194,10 @@ calculate-cost-returns-2 : (t : ℕ) → calculate-cost-lts.Need-returns-2 (give
 calculate-cost-returns-2 t c =
     let e = c .before .before .before .before in
     let z = e .before .before .before in
+    let k = z .before in
     let s = start-leaf t z in
-    let h = leaf-done (s .pre .1) (z .before .link-word .ensures) (z .if1 .left) (s .args .limit) (z .before .before .node-area .ensures)
-    (e .leaf-entries .ensures .0) (e .leaf-entries .ensures .1) in
+    let h = leaf-done (s .pre .1) (k .before .link-word .ensures) (k .kind .ensures) (z .if1 .left) (s .args .limit)
+    (k .before .before .node-area .ensures) (e .leaf-entries .ensures .0) (e .leaf-entries .ensures .1) in
     (h .counted, (h .decided, h .priced))
 
 pub +calculate-cost-spec : {M : Type 1} → statement M
@@ -192,6 +207,8 @@ pub +calculate-cost-spec : {M : Type 1} → statement M
     calculate-cost.Post
     (calculate-cost-node-area-requires t)
     (calculate-cost-link-word-requires t)
+    (calculate-cost-kind-requires t)
+    (calculate-cost-below-kind-requires t)
     (calculate-cost-cast-first t)
     (calculate-cost-sub-calculate-cost t)
     (calculate-cost-calculate-cost-requires t)

@@ -1,6 +1,6 @@
 -- The measure is the depth; the steps down and up are in proofs/LeafSteps.
 use mathlib.Core.Path.{refl, _∙_}
-use Prim.Native.Nat.{ℕ, _%_, _<_}
+use Prim.Native.Nat.{ℕ, _<_}
 use native.Mathlib.Omega.{arith}
 use lib.ListN.{length, length-set}
 use Rattle.bvh2.proofs.Subtree.{node}
@@ -11,6 +11,8 @@ use Rattle.emit.proofs.write_leaves.Reads as write-leaves
 use Rattle.emit.proofs.write_leaves.Kinds as write-leaves-kinds
 use Rattle.emit.proofs.+write_leaves.Lts-write_leaves as write-leaves-lts
 use Rattle.bvh2.proofs.link_word.Reads as link-word-reads
+use Rattle.words.proofs.below_kind.Reads as below-kind-reads
+use Rattle.words.proofs.kind.Reads as kind-reads
 use Rattle.emit.proofs.+write_leaves.{statement}
 use Rattle.emit.proofs.+write_leaves.Tie.{close}
 
@@ -30,11 +32,23 @@ write-leaves-below t =
     write-leaves.Pre
 
 abbrev given : ℕ → write-leaves-lts.Claims
-given t = (link-word-reads.Asked, link-word-reads.Learnt, write-leaves-below t, write-leaves.Post)
+given t = (
+  link-word-reads.Asked,
+  link-word-reads.Learnt,
+  below-kind-reads.Asked,
+  below-kind-reads.Learnt,
+  kind-reads.Asked,
+  kind-reads.Learnt,
+  write-leaves-below t,
+  write-leaves.Post,
+)
 
--- the places: the entry, the two branches
+-- the places: the entry, the link's fields read, the two branches
 abbrev S : ℕ → Type 0
 S t = write-leaves-lts.Start (given t) (write-leaves-at t) write-leaves.Post
+
+abbrev K : ℕ → Type 0
+K t = write-leaves-lts.After-kind (given t) (write-leaves-at t) write-leaves.Post
 
 abbrev I : ℕ → Type 0
 I t = write-leaves-lts.Then1 (given t) (write-leaves-at t) write-leaves.Post
@@ -42,31 +56,38 @@ I t = write-leaves-lts.Then1 (given t) (write-leaves-at t) write-leaves.Post
 abbrev Z : ℕ → Type 0
 Z t = write-leaves-lts.Else1 (given t) (write-leaves-at t) write-leaves.Post
 
-abbrev start : (t : ℕ) → I t → S t
-start t i =
-    let i-back3 = i .before .before .before in
-    let i-back5 = i-back3 .before .before in
-    i-back5
+abbrev entry : (t : ℕ) → K t → S t
+entry t k =
+    let k-back3 = k .before .before .before in
+    k-back3 .before .before .before
 
-abbrev start-leaf : (t : ℕ) → Z t → S t
-start-leaf t i =
-    let i-back3 = i .before .before .before in
-    let i-back5 = i-back3 .before .before in
-    i-back5
+below : (t : ℕ) (i : I t) → let s = entry t (i .before) in
+    Down (s .args .words .now) (length (s .args .indices .now)) (length (s .args .out .now)) (s .args .at) (s .args .depth) (s .args .v)
+    (i .before .before .below-kind .result)
+below t i =
+    let k = i .before in
+    let f = k .before in
+    down (entry t k .pre .1) (f .before .link-word .ensures) (f .below-kind .ensures) (k .kind .ensures) (i .if1 .taken)
 
-below : (t : ℕ) (i : I t) → Down (start t i .args .words .now) (length (start t i .args .indices .now)) (length (start t i .args .out .now))
-    (start t i .args .at) (start t i .args .depth) (start t i .args .v) (i .before .link-word .result % 0x4000_0000)
-below t i = down (start t i .pre .1) (i .before .link-word .ensures) (i .if1 .taken)
-
-ended : (t : ℕ) (i : Z t) → Last (start-leaf t i .args .words .now) (start-leaf t i .args .indices .now) (start-leaf t i .args .at)
-    (start-leaf t i .args .depth) (start-leaf t i .args .v) (i .before .link-word .result % 0x4000_0000) (start-leaf t i .args .out .now)
-ended t i = last (start-leaf t i .pre .1) (i .before .link-word .ensures) (i .if1 .left)
+ended : (t : ℕ) (i : Z t) → let s = entry t (i .before) in
+    Last (s .args .words .now) (s .args .indices .now) (s .args .at) (s .args .depth) (s .args .v) (i .before .before .below-kind .result)
+    (s .args .out .now)
+ended t i =
+    let k = i .before in
+    let f = k .before in
+    last (entry t k .pre .1) (f .before .link-word .ensures) (f .below-kind .ensures) (k .kind .ensures) (i .if1 .left)
 
 write-leaves-link-word-requires : (t : ℕ) → write-leaves-lts.Need-link-word-requires (given t) (write-leaves-at t) write-leaves.Post
 write-leaves-link-word-requires t c κs = let r = node (c .before .before .before .pre .1 .tree) .room in omega arith
 
+write-leaves-below-kind-requires : (t : ℕ) → write-leaves-lts.Need-below-kind-requires (given t) (write-leaves-at t) write-leaves.Post
+write-leaves-below-kind-requires t c κs = tt
+
 write-leaves-cast-index : (t : ℕ) → write-leaves-lts.Need-cast-index (given t) (write-leaves-at t) write-leaves.Post
 write-leaves-cast-index t c = omega arith
+
+write-leaves-kind-requires : (t : ℕ) → write-leaves-lts.Need-kind-requires (given t) (write-leaves-at t) write-leaves.Post
+write-leaves-kind-requires t c κs = tt
 
 write-leaves-sub-write-leaves : (t : ℕ) → write-leaves-lts.Need-sub-write-leaves (given t) (write-leaves-at t) write-leaves.Post
 write-leaves-sub-write-leaves t c = below t (c .before) .deep
@@ -132,7 +153,9 @@ pub +write-leaves-spec : {M : Type 1} → statement M
     (write-leaves-at t)
     write-leaves.Post
     (write-leaves-link-word-requires t)
+    (write-leaves-below-kind-requires t)
     (write-leaves-cast-index t)
+    (write-leaves-kind-requires t)
     (write-leaves-sub-write-leaves t)
     (write-leaves-write-leaves-requires t)
     (write-leaves-add-write-leaves t)

@@ -1,8 +1,8 @@
 -- The measure is the depth. What the definitions say one step down is in proofs/Steps.
 use mathlib.Core.Path.{ap, _∙_}
-use Prim.Native.Nat.{ℕ, _+_, _*_, _/_, _%_, _≤_, _<_}
+use Prim.Native.Nat.{ℕ, _+_, _≤_, _<_}
 use native.Mathlib.Omega.{arith}
-use lib.ListN.{length, getD}
+use lib.ListN.{length}
 use Rattle.children.proofs.Steps.{Here, here}
 use Rattle.wide_level.proofs.Steps.{Down, down, as-leaf, as-opened, as-inner}
 use borrow.Fn.Kinds.{In}
@@ -11,6 +11,10 @@ use Rattle.wide_level.proofs.added_levels.Reads as added-levels
 use Rattle.wide_level.proofs.added_levels.Kinds as added-levels-kinds
 use Rattle.wide_level.proofs.+added_levels.Lts-added_levels as added-levels-lts
 use Rattle.bvh2.proofs.link_word.Reads as link-word-reads
+use Rattle.words.proofs.kind.Reads as kind-reads
+use Rattle.words.proofs.below_kind.Reads as below-kind-reads
+use Rattle.cost.proofs.left_split.Reads as left-split-reads
+use Rattle.cost.proofs.right_split.Reads as right-split-reads
 use Rattle.words.proofs.greater.Reads as greater-reads
 use Rattle.wide_level.proofs.+added_levels.{statement}
 use Rattle.wide_level.proofs.+added_levels.Tie.{close}
@@ -26,31 +30,56 @@ added-levels-below t = and 2 added-levels-kinds.ps (falls 2 added-levels-kinds.p
 
 -- what each callee asks and gives
 abbrev given : ℕ → added-levels-lts.Claims
-given t = (link-word-reads.Asked, link-word-reads.Learnt, added-levels-below t, added-levels.Post, greater-reads.Asked, greater-reads.Learnt)
+given t = (
+  kind-reads.Asked,
+  kind-reads.Learnt,
+  left-split-reads.Asked,
+  left-split-reads.Learnt,
+  right-split-reads.Asked,
+  right-split-reads.Learnt,
+  link-word-reads.Asked,
+  link-word-reads.Learnt,
+  below-kind-reads.Asked,
+  below-kind-reads.Learnt,
+  added-levels-below t,
+  added-levels.Post,
+  greater-reads.Asked,
+  greater-reads.Learnt,
+)
 
--- the places: the entry, the link of a node that is opened read, both calls made
+-- the places: the entry, the decision's kind read, the fields of a node that is opened read, both calls made
 abbrev S : ℕ → Type 0
 S t = added-levels-lts.Start (given t) (added-levels-at t) added-levels.Post
 
+abbrev K : ℕ → Type 0
+K t = added-levels-lts.After-kind (given t) (added-levels-at t) added-levels.Post
+
 abbrev W : ℕ → Type 0
-W t = added-levels-lts.After-link-word (given t) (added-levels-at t) added-levels.Post
+W t = added-levels-lts.After-below-kind (given t) (added-levels-at t) added-levels.Post
 
 abbrev G : ℕ → Type 0
 G t = added-levels-lts.After-greater (given t) (added-levels-at t) added-levels.Post
 
+abbrev kind-of : (t : ℕ) → W t → K t
+kind-of t w = w .before .before .before .before .before
+
+abbrev entry : (t : ℕ) → K t → S t
+entry t k = k .before .before .before .before
+
 abbrev start : (t : ℕ) → W t → S t
-start t w =
-    let w-back3 = w .before .before .before in
-    let w-back5 = w-back3 .before .before in
-    w-back5
+start t w = entry t (kind-of t w)
 
 known : (t : ℕ) (s : S t) → Here (length (s .args .words .now)) (length (s .args .decisions .now)) (s .args .v)
 known t s = here (s .pre .1 .0)
 
-below : (t : ℕ) (w : W t) → let s = start t w in let x = getD (s .args .decisions .now) (s .args .v * 7 + s .args .entry) 0 in
-    Down (s .args .words .now) (s .args .decisions .now) (s .args .depth) (s .args .v) (s .args .entry) (w .link-word .result % 0x4000_0000)
-    (x / 256 % 256) (x % 256)
-below t w = down (start t w .pre .1 .0) (start t w .pre .1 .1) (w .before .if1 .left) (w .link-word .ensures)
+below : (t : ℕ) (w : W t) → let s = start t w in let right = w .before .before in
+    Down (s .args .words .now) (s .args .decisions .now) (s .args .depth) (s .args .v) (s .args .entry) (w .below-kind .result)
+    (right .before .left-split .result) (right .right-split .result)
+below t w =
+    let right = w .before .before in
+    let h = start t w .pre .1 in
+    down (h .0) (h .1) (kind-of t w .kind .ensures) (right .before .before .if1 .left) (w .before .link-word .ensures) (w .below-kind .ensures)
+    (right .before .left-split .ensures) (right .right-split .ensures)
 
 abbrev both : (t : ℕ) → G t → W t
 both t g = g .before .before .before
@@ -77,23 +106,27 @@ added-levels-mul-word-2 t c = let h = known t (c .before .before) in let e = c .
 added-levels-shared-slice-read-word : (t : ℕ) → added-levels-lts.Need-shared-slice-read-word (given t) (added-levels-at t) added-levels.Post
 added-levels-shared-slice-read-word t c = let h = known t (c .before .before .before) in let e = c .before .before .before .pre .1 .1 in omega arith
 
+added-levels-kind-requires : (t : ℕ) → added-levels-lts.Need-kind-requires (given t) (added-levels-at t) added-levels.Post
+added-levels-kind-requires t c κs = tt
+
 added-levels-returns : (t : ℕ) → added-levels-lts.Need-returns (given t) (added-levels-at t) added-levels.Post
 added-levels-returns t c =
-    let back3 = c .before .before .before in
-    let back4 = back3 .before in
-    let s = back4 in (omega arith, as-leaf (s .pre .1 .0) (s .pre .1 .1) (c .if1 .taken))
+    let k = c .before in
+    let s = entry t k in (omega arith, as-leaf (s .pre .1 .0) (s .pre .1 .1) (k .kind .ensures) (c .if1 .taken))
 
-added-levels-cast-left : (t : ℕ) → added-levels-lts.Need-cast-left (given t) (added-levels-at t) added-levels.Post
-added-levels-cast-left t c = omega arith
+added-levels-left-split-requires : (t : ℕ) → added-levels-lts.Need-left-split-requires (given t) (added-levels-at t) added-levels.Post
+added-levels-left-split-requires t c κs = tt
 
-added-levels-cast-right : (t : ℕ) → added-levels-lts.Need-cast-right (given t) (added-levels-at t) added-levels.Post
-added-levels-cast-right t c = omega arith
+added-levels-right-split-requires : (t : ℕ) → added-levels-lts.Need-right-split-requires (given t) (added-levels-at t) added-levels.Post
+added-levels-right-split-requires t c κs = tt
 
 added-levels-link-word-requires : (t : ℕ) → added-levels-lts.Need-link-word-requires (given t) (added-levels-at t) added-levels.Post
 added-levels-link-word-requires t c κs =
     let back3 = c .before .before .before in
-    let back4 = back3 .before in
-    let h = known t (back4) in omega arith
+    let h = known t (entry t back3) in omega arith
+
+added-levels-below-kind-requires : (t : ℕ) → added-levels-lts.Need-below-kind-requires (given t) (added-levels-at t) added-levels.Post
+added-levels-below-kind-requires t c κs = tt
 
 added-levels-cast-first : (t : ℕ) → added-levels-lts.Need-cast-first (given t) (added-levels-at t) added-levels.Post
 added-levels-cast-first t c = omega arith
@@ -123,8 +156,8 @@ added-levels-returns-2 t c =
     let h = start t w .pre .1 in (
       (let l = less t g in omega arith),
       λ limit k. g .greater .ensures
-          ∙ as-opened (h .0) (h .1) (below t w) (g .before .before .added-levels .ensures .1) (g .before .added-levels2 .ensures .1) (c .if2 .taken)
-          limit k,
+          ∙ as-opened (h .0) (h .1) (kind-of t w .kind .ensures) (below t w) (g .before .before .added-levels .ensures .1)
+          (g .before .added-levels2 .ensures .1) (c .if2 .taken) limit k,
     )
 
 added-levels-add-result : (t : ℕ) → added-levels-lts.Need-add-result (given t) (added-levels-at t) added-levels.Post
@@ -137,8 +170,8 @@ added-levels-returns-3 t c =
     let h = start t w .pre .1 in (
       less t g,
       λ limit k. ap (λ (m : ℕ). m + 1) (g .greater .ensures)
-          ∙ as-inner (h .0) (h .1) (below t w) (g .before .before .added-levels .ensures .1) (g .before .added-levels2 .ensures .1)
-          (w .before .if1 .left) (c .if2 .left) limit k,
+          ∙ as-inner (h .0) (h .1) (kind-of t w .kind .ensures) (below t w) (g .before .before .added-levels .ensures .1)
+          (g .before .added-levels2 .ensures .1) (w .before .before .before .before .if1 .left) (c .if2 .left) limit k,
     )
 
 pub +added-levels-spec : {M : Type 1} → statement M
@@ -150,10 +183,12 @@ pub +added-levels-spec : {M : Type 1} → statement M
     (added-levels-add-word t)
     (added-levels-mul-word-2 t)
     (added-levels-shared-slice-read-word t)
+    (added-levels-kind-requires t)
     (added-levels-returns t)
-    (added-levels-cast-left t)
-    (added-levels-cast-right t)
+    (added-levels-left-split-requires t)
+    (added-levels-right-split-requires t)
     (added-levels-link-word-requires t)
+    (added-levels-below-kind-requires t)
     (added-levels-cast-first t)
     (added-levels-sub-added-levels t)
     (added-levels-added-levels-requires t)

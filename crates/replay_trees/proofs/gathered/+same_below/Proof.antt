@@ -1,5 +1,5 @@
 -- `same_below`: the measure is the depth. What holds one step down is in proofs/Below.
-use Prim.Native.Nat.{ℕ, _%_, _<_}
+use Prim.Native.Nat.{ℕ, _<_}
 use native.Mathlib.Omega.{arith}
 use borrow.Author.Needs.{needs}
 use borrow.Fn.Kinds.{In}
@@ -9,6 +9,8 @@ use Rattle.replay_trees.proofs.gathered.same_below.Reads as same-below
 use Rattle.replay_trees.proofs.gathered.same_below.Kinds as same-below-kinds
 use Rattle.replay_trees.proofs.gathered.+same_below.Lts-same_below as same-below-lts
 use Rattle.bvh2.proofs.link_word.Reads as link-word-reads
+use Rattle.words.proofs.kind.Reads as kind-reads
+use Rattle.words.proofs.below_kind.Reads as below-kind-reads
 use Rattle.replay_trees.proofs.gathered.same_children.Reads as same-children-reads
 use Rattle.replay_trees.proofs.gathered.+same_below.{statement}
 use Rattle.replay_trees.proofs.gathered.+same_below.Tie.{close}
@@ -24,28 +26,40 @@ same-below-below t = and 3 same-below-kinds.ps (falls 3 same-below-kinds.ps _<_ 
 
 -- what each callee asks and gives
 abbrev given : ℕ → same-below-lts.Claims
-given t = (same-children-reads.Asked, same-children-reads.Learnt, link-word-reads.Asked, link-word-reads.Learnt, same-below-below t, same-below.Post)
+given t = (
+  same-children-reads.Asked,
+  same-children-reads.Learnt,
+  link-word-reads.Asked,
+  link-word-reads.Learnt,
+  kind-reads.Asked,
+  kind-reads.Learnt,
+  below-kind-reads.Asked,
+  below-kind-reads.Learnt,
+  same-below-below t,
+  same-below.Post,
+)
 
--- the places: the entry, an inner node with its link read, its first child compared
+-- the places: the entry, an inner node with its link's index read
 abbrev S : ℕ → Type 0
 S t = same-below-lts.Start (given t) (same-below-at t) same-below.Post
 
 abbrev I : ℕ → Type 0
-I t = same-below-lts.Else2 (given t) (same-below-at t) same-below.Post
+I t = same-below-lts.After-below-kind (given t) (same-below-at t) same-below.Post
 
 abbrev start : (t : ℕ) → I t → S t
 start t i =
     let i-back3 = i .before .before .before in
     let i-back6 = i-back3 .before .before .before in
-    let i-back7 = i-back6 .before in
-    i-back7
+    i-back6 .before .before .before
 
 known : (t : ℕ) (s : S t) → Number (s .args .words .now) (s .args .v)
 known t s = number (s .pre .1 .1)
 
-down : (t : ℕ) (i : I t) → let s = start t i in Below (s .args .words .now) (s .args .decisions .now) (s .args .depth)
-    (i .before .link-word .result % 0x4000_0000)
-down t i = below (start t i .pre .1 .1) (i .before .link-word .ensures) (i .if2 .left)
+down : (t : ℕ) (i : I t) → let s = start t i in Below (s .args .words .now) (s .args .decisions .now) (s .args .depth) (i .below-kind .result)
+down t i =
+    let e = i .before in
+    let k = e .before in
+    below (start t i .pre .1 .1) (k .before .link-word .ensures) (k .kind .ensures) (e .if2 .left) (i .below-kind .ensures)
 
 same-below-mul-same-children : (t : ℕ) → same-below-lts.Need-mul-same-children (given t) (same-below-at t) same-below.Post
 same-below-mul-same-children t c = let h = known t (c .before .before .before) in omega arith
@@ -68,8 +82,14 @@ same-below-link-word-requires t c κs =
     let back5 = back3 .before .before in
     known t (back5) .room
 
+same-below-kind-requires : (t : ℕ) → same-below-lts.Need-kind-requires (given t) (same-below-at t) same-below.Post
+same-below-kind-requires t c κs = tt
+
 same-below-returns-2 : (t : ℕ) → same-below-lts.Need-returns-2 (given t) (same-below-at t) same-below.Post
 same-below-returns-2 t c = search needs
+
+same-below-below-kind-requires : (t : ℕ) → same-below-lts.Need-below-kind-requires (given t) (same-below-at t) same-below.Post
+same-below-below-kind-requires t c κs = tt
 
 same-below-cast-first : (t : ℕ) → same-below-lts.Need-cast-first (given t) (same-below-at t) same-below.Post
 same-below-cast-first t c = let h = number (down t c .left) in omega arith
@@ -110,7 +130,9 @@ pub +same-below-spec : {M : Type 1} → statement M
     (same-below-same-children-requires t)
     (same-below-returns t)
     (same-below-link-word-requires t)
+    (same-below-kind-requires t)
     (same-below-returns-2 t)
+    (same-below-below-kind-requires t)
     (same-below-cast-first t)
     (same-below-sub-same-below t)
     (same-below-same-below-requires t)
