@@ -4,7 +4,8 @@ use mathlib.Core.List.{List, [], _∷_, _++_}
 use Prim.Native.Nat.{ℕ, zero, suc, _+_, _≤_, _<_}
 use native.Mathlib.Nat.{not-suc-le-zero, le-of-suc-le-suc}
 use native.Mathlib.Numerals.{add-one}
-use lib.ListN.{length, drop, set, replicate}
+use lib.ListN.{length, take, drop, set, replicate}
+use lib.Seq.{length-take-le}
 use Rattle.bvh2_tables.specs.Tables.{cleared}
 
 module _ {A : Type 0} (z : A) where
@@ -20,6 +21,10 @@ module _ {A : Type 0} (z : A) where
   cleared-length zero d h = refl
   cleared-length (suc k) [] h = absurd (not-suc-le-zero h)
   cleared-length (suc k) (x ∷ d) h = ap suc (cleared-length k d (le-of-suc-le-suc h))
+
+  -- a prefix that is cleared, before the rest
+  pub cleared-prefix : (k : ℕ) (d l : List A) → k ≤ length d → l ≡ replicate (length (take k d)) z → l ++ drop k d ≡ cleared z k d
+  cleared-prefix k d l h e = rw (e, length-take-le k d h)
 
   -- clearing fewer once more changes nothing
   pub cleared-again : (m k : ℕ) (d : List A) → m ≤ k → cleared z m (cleared z k d) ≡ cleared z k d

@@ -8,18 +8,6 @@ ghost use Rattle.bvh2.specs.FirstCause.{structureCause};
 ghost use Rattle.cost.specs.Table.{wordOf, costOf};
 ghost use Rattle.bvh2_tables.specs.Tables.{tableSize, recordSize, slicesFit, prepareCause, cleared, tabled, workAfter};
 
-// Zeroes the first k decision words.
-pub fn clear_words(s: &mut [u32], k: usize)
-    requires { ⌜ k ≤ length (now s) ⌝ }
-    ensures { λ _. ⌜ now (s .exit) ≡ cleared 0 k (now (s .entry)) ⌝ }
-{
-    let mut i = 0usize;
-    while i < k {
-        s[i] = 0;
-        i += 1;
-    }
-}
-
 // Zeroes the first k costs.
 pub fn clear_costs(s: &mut [f32], k: usize)
     requires { ⌜ k ≤ length (now s) ⌝ }
@@ -78,7 +66,7 @@ fn fill_tables(words: &[u32], n: usize, limit: u32, decisions: &mut [u32], costs
         (cleared plusZero (tableSize n) (now (costs .entry))) ⌝ }
 {
     let k = (2 * n - 1) * 7;
-    clear_words(decisions, k);
+    words::clear(&mut decisions[..k]);
     clear_costs(costs, k);
     let cause = bvh2_check::structure(words, n, decisions);
     if cause != 0 {

@@ -20,7 +20,7 @@ use Rattle.cost.specs.Table.{wordOf, costOf}
 use Rattle.cost.specs.Rows.{RowsHold}
 use Rattle.children.specs.Tabled.{Tabled}
 use Rattle.wide_layout.specs.Layout as W
-use Rattle.wide_tree.specs.Ordered.{wideTree}
+use Rattle.wide_tree.specs.Ordered.{wideTreeOf}
 use Rattle.record.specs.Record.{recordBytes}
 use Rattle.emit_tree.specs.declared.Next.{Next}
 use Rattle.emit_tree.specs.Emission.{EmitTree, Emitted}
@@ -29,7 +29,7 @@ use Rattle.bvh2_tables.specs.Tables.{tableSize, prepareConditions, cleared, wor
 use Rattle.bvh2_tables.proofs.Causes.{prepare-passed}
 use Rattle.bvh2_tables.proofs.Prepared.{prepared, work-length}
 use Rattle.bvh2_tables.proofs.Refilled.{work-refilled}
-use Rattle.bvh2_to_cwbvh.specs.Conversion.{wideAt, recordOf, nodesOf, levelOf, outputPositions, indexListOf, deepestLevel, Convertible}
+use Rattle.bvh2_to_cwbvh.specs.Conversion.{recordOf, nodesOf, levelOf, outputPositions, indexListOf, deepestLevel, Convertible}
 use Rattle.bvh2_to_cwbvh.specs.Conversion.{conversionConditions, conversionCause, ConversionAnswer, converted, refused, answerFor, outputAfter}
 use Rattle.bvh2_to_cwbvh.specs.Conversion.{Outcome, outcomeFor, conversionOf}
 use Rattle.bvh2_to_cwbvh.proofs.Ready.{holds, room, tabled, whole}
@@ -71,10 +71,10 @@ nothing ws zero limit ordered z = record { nodes = refl; level = refl; bytes = r
 nothing ws (suc n) limit ordered z = absurd (omega arith)
 
 record There (ws : List ℕ) (n limit : ℕ) (ordered : Bool) : Type 0 where
-  nodes : nodesOf ws n limit ordered ≡ W.nodes (wideAt ws limit ordered)
-  level : levelOf ws n limit ordered ≡ W.level (wideAt ws limit ordered)
-  bytes : recordOf ws n limit ordered ≡ recordBytes (wideAt ws limit ordered)
-  list : outputPositions ws n limit ordered ≡ W.indexList (wideAt ws limit ordered)
+  nodes : nodesOf ws n limit ordered ≡ W.nodes (wideTreeOf ws ordered limit)
+  level : levelOf ws n limit ordered ≡ W.level (wideTreeOf ws ordered limit)
+  bytes : recordOf ws n limit ordered ≡ recordBytes (wideTreeOf ws ordered limit)
+  list : outputPositions ws n limit ordered ≡ W.indexList (wideTreeOf ws ordered limit)
 
 there : (ws : List ℕ) (n limit : ℕ) (ordered : Bool) → 0 < n → There ws n limit ordered
 unfolding nodesOf levelOf recordOf outputPositions
@@ -157,7 +157,7 @@ module _ {c : Call} {k : ℕ} {ds₁ : List ℕ} {cs₁ : List Float} (p : Prepa
           omega (arith, work-length plusZero (costOf (c .limit)) (c .words) (leafCount c) (c .costs) cs₁ some tree costs r, r)
 
       module _ (deepest : ℕ) (finds : (limit : ℕ) (ordered : Bool) → RowsHold (wordOf limit) 0 ds₁ (treeOf (c .words))
-          → deepest ≡ W.level (wideTree ordered limit (treeOf (c .words)))) where
+          → deepest ≡ W.level (wideTreeOf (c .words) ordered limit)) where
         found : deepest ≡ deepestLevel c
         found =
             finds (c .limit) (c .ordered) (holds c ds₁ some parts words)
@@ -175,7 +175,7 @@ module _ {c : Call} {k : ℕ} {ds₁ : List ℕ} {cs₁ : List Float} (p : Prepa
         abbrev pub Emits : List ℕ → List ℕ → Next → Type 0
         Emits bytes₁ list₁ x =
             (h : EmitTree (c .words) ds₁ (leafCount c) (c .ordered) (length (c .bytes)) (length (c .list)))
-            → Emitted (c .indices) (wideTree (c .ordered) (h .at .limit) (treeOf (c .words))) (c .bytes) (c .list) bytes₁ list₁ x
+            → Emitted (c .indices) (wideTreeOf (c .words) (c .ordered) (h .at .limit)) (c .bytes) (c .list) bytes₁ list₁ x
 
         -- converted
         pub written-ends : deepest ≤ 31 → (bytes₁ list₁ : List ℕ) (x : Next) → Emits bytes₁ list₁ x

@@ -9,15 +9,16 @@ use Rattle.bvh2.specs.Causes.{Accepted}
 use Rattle.bvh2.proofs.Decoded.{accepted-decoded}
 use Rattle.wide_layout.proofs.Sizes.{index-length}
 use Rattle.wide_tree.proofs.Ordered.{index-count}
+use Rattle.wide_tree.specs.Ordered.{wideTreeOf}
 use Rattle.record.proofs.Length.{record-length}
-use Rattle.bvh2_to_cwbvh.specs.Conversion.{wideAt, recordOf, nodesOf, outputPositions, indexListOf}
+use Rattle.bvh2_to_cwbvh.specs.Conversion.{recordOf, nodesOf, outputPositions, indexListOf}
 
 module _ (ws : List ℕ) (limit : ℕ) (ordered : Bool) where
   -- 80 bytes to a node
   pub bytes-length : (n : ℕ) → length (recordOf ws n limit ordered) ≡ 80 * nodesOf ws n limit ordered
   unfolding recordOf nodesOf
   bytes-length zero = refl
-  bytes-length (suc n) = record-length (wideAt ws limit ordered)
+  bytes-length (suc n) = record-length (wideTreeOf ws ordered limit)
 
   -- a word for each leaf
   positions-length : (n : ℕ) → Accepted ws n → length (outputPositions ws n limit ordered) ≡ n
@@ -25,7 +26,7 @@ module _ (ws : List ℕ) (limit : ℕ) (ordered : Bool) where
   positions-length zero h = refl
   positions-length (suc n) h =
       let d = accepted-decoded ws (suc n) (omega arith) .0 h in
-      index-length (wideAt ws limit ordered) ∙ index-count ordered limit ws (suc n) d
+      index-length (wideTreeOf ws ordered limit) ∙ index-count ordered limit ws (suc n) d
 
   pub list-length : (indices : List ℕ) → Accepted ws (length indices) → length (indexListOf ws indices limit ordered) ≡ length indices
   unfolding indexListOf

@@ -9,40 +9,34 @@ use lib.Ieee.{Float}
 use Rattle.lists.specs.Splice.{splice}
 use Rattle.causes.specs.Causes.{Condition, _unless_, firstCause}
 use Rattle.float.specs.Compare.{plusZero}
-use Rattle.bvh2.specs.Words.{treeOf}
 use Rattle.cost.specs.Table.{wordOf, costOf}
-use Rattle.wide_layout.specs.Wide.{Wide}
 use Rattle.wide_layout.specs.Layout.{nodes, indexList, level, wordsAt}
-use Rattle.wide_tree.specs.Ordered.{wideTree}
+use Rattle.wide_tree.specs.Ordered.{wideTreeOf}
 use Rattle.record.specs.Record.{recordBytes}
 use Rattle.bvh2_tables.specs.Call.{Call, leafCount, Lengths, lengthsOf}
 use Rattle.bvh2_tables.specs.Tables.{prepareConditions, Prepared, workAfter}
 
 -- ---- what an accepted tree becomes
 
--- the wide tree of the words, for a leaf limit and with ordering on or off
-abbrev pub wideAt : List ℕ → ℕ → Bool → Wide
-wideAt ws limit ordered = wideTree ordered limit (treeOf ws)
-
 -- its record; without leaves there is none
 unfoldable pub recordOf : List ℕ → (n limit : ℕ) → Bool → List ℕ
 recordOf ws zero limit ordered = []
-recordOf ws (suc n) limit ordered = recordBytes (wideAt ws limit ordered)
+recordOf ws (suc n) limit ordered = recordBytes (wideTreeOf ws ordered limit)
 
 -- how many nodes the record has
 unfoldable pub nodesOf : List ℕ → (n limit : ℕ) → Bool → ℕ
 nodesOf ws zero limit ordered = 0
-nodesOf ws (suc n) limit ordered = nodes (wideAt ws limit ordered)
+nodesOf ws (suc n) limit ordered = nodes (wideTreeOf ws ordered limit)
 
 -- its deepest level; 0 without nodes
 unfoldable pub levelOf : List ℕ → (n limit : ℕ) → Bool → ℕ
 levelOf ws zero limit ordered = 0
-levelOf ws (suc n) limit ordered = level (wideAt ws limit ordered)
+levelOf ws (suc n) limit ordered = level (wideTreeOf ws ordered limit)
 
 -- the positions of the tree's leaves in the order in which the record has them
 unfoldable pub outputPositions : List ℕ → (n limit : ℕ) → Bool → List ℕ
 outputPositions ws zero limit ordered = []
-outputPositions ws (suc n) limit ordered = indexList (wideAt ws limit ordered)
+outputPositions ws (suc n) limit ordered = indexList (wideTreeOf ws ordered limit)
 
 -- the index list: the index words at these positions
 unfoldable pub indexListOf : List ℕ → List ℕ → ℕ → Bool → List ℕ

@@ -45,7 +45,7 @@ pub fn bvh2_to_cwbvh(
     let deepest = wide_level::deepest_level(words, decisions);
     if deepest > 31 {
         let k = (2 * n - 1) * 7;
-        bvh2_tables::clear_words(decisions, k);
+        words::clear(&mut decisions[..k]);
         bvh2_tables::clear_costs(costs, k);
         return Conversion::Refused(8);
     }

@@ -11,12 +11,13 @@ use lib.Ieee.{Float}
 use lib.ListN.{length, getD}
 use Rattle.ray.specs.declared.Ray.{Ray}
 use Rattle.ray.specs.Ray.{reaching, counts}
-use Rattle.walk.specs.Step as S
+use Rattle.walk.specs.Step as Step
 use Rattle.walk.specs.Queries.{Reaction, Pane, distance, faulty, Found, none, hit, fault, closest, miss, lower, lowerAt, blockAt}
 use Rattle.record_shape.specs.Record.{nodeCount}
 use Rattle.walk.specs.Words as W
 use Rattle.walk.specs.Words.{firstPosition, restOf}
 use Rattle.walk.specs.WordStep.{WalkerWords, SteppedWords, NodeWords, afterReportWords, seekWords}
+use Rattle.walk.proofs.WordEnds.{stepsLeftWords}
 use Rattle.walk.specs.WordQueries.{OutcomeWords, toldAllWords}
 use Rattle.walk_record.specs.WalkRay.{WalkRay, byBoxes}
 use Rattle.walk_record.specs.Record.{FieldsFit, nodeWordsAt}
@@ -43,16 +44,16 @@ use Rattle.closest.specs.Panes.{ClosestAnswer, blocked, refusedClosest, 
 
 module _ {A : Type 0} (refuse : ℕ → A) (found : Found Float → ℕ → Result A)
     {w : WalkerWords WalkRay} {x : Found Float} {goal : OutcomeWords WalkRay (Found Float)} where
-  pub ends-done : record { walker = w; accumulator = x; ended = S.done } ≡ goal → found x (w .tests) ≡ walked refuse found goal (goal .ended)
+  pub ends-done : record { walker = w; accumulator = x; ended = Step.done } ≡ goal → found x (w .tests) ≡ walked refuse found goal (goal .ended)
   unfolding walked
   ends-done e = ap (λ (o : OutcomeWords WalkRay (Found Float)). walked refuse found o (o .ended)) e
 
-  pub ends-refused : {k : ℕ} → record { walker = w; accumulator = x; ended = S.refused k } ≡ goal
+  pub ends-refused : {k : ℕ} → record { walker = w; accumulator = x; ended = Step.refused k } ≡ goal
       → record { answer = refuse k; tests = 0 } ≡ walked refuse found goal (goal .ended)
   unfolding walked
   ends-refused e = ap (λ (o : OutcomeWords WalkRay (Found Float)). walked refuse found o (o .ended)) e
 
-  ends-stopped : {p : ℕ} → record { walker = w; accumulator = x; ended = S.position p } ≡ goal → found x (w .tests)
+  ends-stopped : {p : ℕ} → record { walker = w; accumulator = x; ended = Step.position p } ≡ goal → found x (w .tests)
       ≡ walked refuse found goal (goal .ended)
   unfolding walked
   ends-stopped e = ap (λ (o : OutcomeWords WalkRay (Found Float)). walked refuse found o (o .ended)) e
@@ -97,24 +98,72 @@ module _ (indices : List ℕ) (panes : List Float) (p : ℕ) (b : WalkRay) (x : 
       → miss (paneOf indices panes) nearer p b x ≡ record { accumulator = fault k; tells = []; stop = true }
   miss-faulty k q = ap (λ (y : Pane Float). blockAt (paneOf indices panes) nearer y p b x) q
 
+-- ---- a query on its way
+
+-- what a query does at a position, and what it ends with
+abbrev pub Reacts : Type 0
+Reacts = ℕ → WalkRay → Found Float → Reaction Float (Found Float)
+
+abbrev pub Ends : Type 0
+Ends = OutcomeWords WalkRay (Found Float)
+
+-- from walk v over a record of these bytes and n positions, with x noted, the query ends as the goal says
+abbrev pub LeadsBy : List ℕ → (n octant : ℕ) → Reacts → Ends → Ray → Walk → List ℕ → Found Float → Type 0
+LeadsBy bytes n octant react goal ray v stack x = Leads (nodeCount bytes) (nodeWordsAt bytes byBoxes) n react goal (walkerOf ray octant v stack) x
+
+-- the most steps that are left to walk v
+abbrev pub stepsBy : List ℕ → ℕ → Ray → Walk → List ℕ → ℕ
+stepsBy bytes octant ray v stack = stepsLeftWords (nodeCount bytes) (walkerOf ray octant v stack)
+
+-- what a query walks over, and its ray's octant
+pub record Setting : Type 0 where
+  pub bytes : List ℕ
+  pub indices : List ℕ
+  pub panes : List Float
+  pub octant : ℕ
+  pub sized : RecordSized bytes (length indices)
+  pub fit : FieldsFit bytes
+
+module _ (S : Setting) where
+  -- closest and miss at a position of it
+  abbrev pub closestIn : Reacts
+  closestIn = closest (paneOf (S .indices) (S .panes)) nearer
+
+  abbrev pub missIn : Reacts
+  missIn = miss (paneOf (S .indices) (S .panes)) nearer
+
+  -- from walk v, with x noted, the query ends as the goal says
+  abbrev pub LeadsIn : Reacts → Ends → Ray → Walk → List ℕ → Found Float → Type 0
+  LeadsIn = LeadsBy (S .bytes) (length (S .indices)) (S .octant)
+
+  -- from walk v it goes on to walk u, with y noted
+  abbrev pub GoesIn : Reacts → Ends → (ray : Ray) (v : Walk) (stack : List ℕ) (ray₁ : Ray) (u : Walk) (stack₁ : List ℕ) → Found Float → Type 0
+  GoesIn react goal ray v stack ray₁ u stack₁ y =
+      Goes (nodeCount (S .bytes)) (nodeWordsAt (S .bytes) byBoxes) (length (S .indices)) react goal (walkerOf ray (S .octant) v stack)
+      (walkerOf ray₁ (S .octant) u stack₁) y
+
 -- ---- at a position in hand
 
 -- position p is the first in hand, it is met so, and `left` are the others
-pub record AtPosition (indices : List ℕ) (panes : List Float) (bytes : List ℕ) (react : ℕ → WalkRay → Found Float → Reaction Float (Found Float))
-    (goal : OutcomeWords WalkRay (Found Float)) (ray : Ray) (octant : ℕ) (v : Walk) (stack : List ℕ) (x : Found Float)
+pub record AtPosition (S : Setting) (react : Reacts) (goal : Ends) (ray : Ray) (v : Walk) (stack : List ℕ) (x : Found Float)
     (p : ℕ) (met : Met) (left : Group) : Type 0 where
-  pub sized : RecordSized bytes (length indices)
-  pub fit : FieldsFit bytes
-  pub leads : Leads (nodeCount bytes) (nodeWordsAt bytes byBoxes) (length indices) react goal (walkerOf ray octant v stack) x
+  pub leads : LeadsIn S react goal ray v stack x
   pub held : 0 < v .positions .bits
   pub named : p ≡ firstPosition (groupOf (v .positions))
-  pub pane : paneOfMet met ≡ positionMet indices panes p ray
+  pub pane : paneOfMet met ≡ positionMet (S .indices) (S .panes) p ray
   pub rest : groupOf left ≡ restOf (groupOf (v .positions))
 
-module _ {indices : List ℕ} {panes : List Float} {bytes : List ℕ} {react : ℕ → WalkRay → Found Float → Reaction Float (Found Float)}
-    {goal : OutcomeWords WalkRay (Found Float)} {ray : Ray} {octant : ℕ} {v : Walk} {stack : List ℕ} {x : Found Float}
-    {p : ℕ} {met : Met} {left : Group}
-    (P : AtPosition indices panes bytes react goal ray octant v stack x p met left) where
+module _ {S : Setting} {react : Reacts} {goal : Ends} {ray : Ray} {v : Walk} {stack : List ℕ} {x : Found Float} {p : ℕ} {met : Met} {left : Group}
+    (P : AtPosition S react goal ray v stack x p met left) where
+  abbrev bytes : List ℕ
+  bytes = S .bytes
+
+  abbrev indices : List ℕ
+  indices = S .indices
+
+  abbrev panes : List Float
+  panes = S .panes
+
   abbrev N : NodeWords WalkRay Float
   N = nodeWordsAt bytes byBoxes
 
@@ -122,10 +171,10 @@ module _ {indices : List ℕ} {panes : List Float} {bytes : List ℕ} {react : �
   n = length indices
 
   abbrev w : WalkerWords WalkRay
-  w = walkerOf ray octant v stack
+  w = walkerOf ray (S .octant) v stack
 
   abbrev beam : WalkRay
-  beam = record { ray = ray; octant = octant }
+  beam = record { ray = ray; octant = S .octant }
 
   -- the walk after its report
   abbrev pub reported : Walk
@@ -155,17 +204,17 @@ module _ {indices : List ℕ} {panes : List Float} {bytes : List ℕ} {react : �
           inr (past, cc)
 
   stops : {y : Found Float} {ds : List Float} → p < n → react p beam x ≡ record { accumulator = y; tells = ds; stop = true }
-      → record { walker = toldAllWords N ds (afterReportWords w .walker); accumulator = y; ended = S.position p } ≡ goal
-  stops there q = leads-stops (steady bytes n (P .sized) (P .fit)) (P .leads) refl refl (P .held) p (P .named) there q
+      → record { walker = toldAllWords N ds (afterReportWords w .walker); accumulator = y; ended = Step.position p } ≡ goal
+  stops there q = leads-stops (steady bytes n (S .sized) (S .fit)) (P .leads) refl refl (P .held) p (P .named) there q
 
   goes : {y : Found Float} {ds : List Float} → p < n → react p beam x ≡ record { accumulator = y; tells = ds; stop = false }
-      → Goes (nodeCount bytes) N n react goal w (toldAllWords N ds (walkerOf ray octant reported stack)) y
+      → Goes (nodeCount bytes) N n react goal w (toldAllWords N ds (walkerOf ray (S .octant) reported stack)) y
   goes {y = y} {ds = ds} there q =
       subst
       (λ (g : W.Group). Goes (nodeCount bytes) N n react goal w
       (toldAllWords N ds
       (record { ray = beam; tests = v .tests; positions = g; current = groupOf (v .current); depth = v .depth; stack = stack })) y)
-      (sym (P .rest)) (leads-on (steady bytes n (P .sized) (P .fit)) (P .leads) refl refl (P .held) p (P .named) there q)
+      (sym (P .rest)) (leads-on (steady bytes n (S .sized) (S .fit)) (P .leads) refl refl (P .held) p (P .named) there q)
 
   -- what refuses a position refuses the query
   fails : {A : Type 0} (refuse : ℕ → A) (found : Found Float → ℕ → Result A)
@@ -179,41 +228,33 @@ module _ {indices : List ℕ} {panes : List Float} {bytes : List ℕ} {react : �
       go (inl h) = refuses k _ ∙ ends-stopped refuse found (stops (h .0) (reacts k (h .1)))
       go (inr h) =
           ap (λ (j : ℕ). record { answer = refuse j; tests = 0 }) (h .1)
-          ∙ ends-refused refuse found (leads-past (steady bytes n (P .sized) (P .fit)) (P .leads) refl refl (P .held) p (P .named) (h .0))
+          ∙ ends-refused refuse found (leads-past (steady bytes n (S .sized) (S .fit)) (P .leads) refl refl (P .held) p (P .named) (h .0))
 
-module _ {indices : List ℕ} {panes : List Float} {bytes : List ℕ} {goal : OutcomeWords WalkRay (Found Float)}
-    {ray : Ray} {octant : ℕ} {v : Walk} {stack : List ℕ} {x : Found Float} {p : ℕ} {met : Met} {left : Group} where
-  module _ (P : AtPosition indices panes bytes (closest (paneOf indices panes) nearer) goal ray octant v stack x p met left) where
+module _ {S : Setting} {goal : Ends} {ray : Ray} {v : Walk} {stack : List ℕ} {x : Found Float} {p : ℕ} {met : Met} {left : Group} where
+  module _ (P : AtPosition S (closestIn S) goal ray v stack x p met left) where
     -- what refuses a position refuses closest
     pub closest-fails : (k : ℕ) → met ≡ Faulty k → record { answer = refusedClosest k; tests = 0 }
         ≡ walked refusedClosest closestFound goal (goal .ended)
     unfolding closestFound
-    closest-fails = fails P refusedClosest closestFound (λ k t. refl) (closest-faulty indices panes p (beam P) x)
+    closest-fails = fails P refusedClosest closestFound (λ k t. refl) (closest-faulty (S .indices) (S .panes) p (beam P) x)
 
     -- a distance that counts is noted and becomes the reach
     pub closest-lowers : (d : Float) → met ≡ At d → counts ray d ≡ true
-        → Goes (nodeCount bytes) (nodeWordsAt bytes byBoxes) (length indices) (closest (paneOf indices panes) nearer) goal
-        (walkerOf ray octant v stack)
-        (walkerOf (reaching d ray) octant (reported P) stack) (hit p d)
+        → GoesIn S (closestIn S) goal ray v stack (reaching d ray) (reported P) stack (hit p d)
     closest-lowers d f h =
         let t = at-there P d f in
-        subst
-        (λ (c : Bool). Goes (nodeCount bytes) (nodeWordsAt bytes byBoxes) (length indices) (closest (paneOf indices panes) nearer) goal
-        (walkerOf ray octant v stack) (walkerOf (cond c (reaching d ray) ray) octant (reported P) stack) (hit p d)) h
-        (goes P (t .0) (closest-at indices panes p (beam P) x d (t .1) true h))
+        subst (λ (c : Bool). GoesIn S (closestIn S) goal ray v stack (cond c (reaching d ray) ray) (reported P) stack (hit p d)) h
+        (goes P (t .0) (closest-at (S .indices) (S .panes) p (beam P) x d (t .1) true h))
 
     -- any other changes nothing
-    pub closest-passes : (d : Float) → met ≡ At d → counts ray d ≡ false
-        → Goes (nodeCount bytes) (nodeWordsAt bytes byBoxes) (length indices) (closest (paneOf indices panes) nearer) goal
-        (walkerOf ray octant v stack)
-        (walkerOf ray octant (reported P) stack) x
-    closest-passes d f h = let t = at-there P d f in goes P (t .0) (closest-at indices panes p (beam P) x d (t .1) false h)
+    pub closest-passes : (d : Float) → met ≡ At d → counts ray d ≡ false → GoesIn S (closestIn S) goal ray v stack ray (reported P) stack x
+    closest-passes d f h = let t = at-there P d f in goes P (t .0) (closest-at (S .indices) (S .panes) p (beam P) x d (t .1) false h)
 
-  module _ (P : AtPosition indices panes bytes (miss (paneOf indices panes) nearer) goal ray octant v stack x p met left) where
+  module _ (P : AtPosition S (missIn S) goal ray v stack x p met left) where
     -- what refuses a position refuses miss
     pub miss-fails : (k : ℕ) → met ≡ Faulty k → record { answer = refusedMiss k; tests = 0 } ≡ walked refusedMiss missFound goal (goal .ended)
     unfolding missFound
-    miss-fails = fails P refusedMiss missFound (λ k t. refl) (miss-faulty indices panes p (beam P) x)
+    miss-fails = fails P refusedMiss missFound (λ k t. refl) (miss-faulty (S .indices) (S .panes) p (beam P) x)
 
     -- a distance that counts ends it
     pub miss-blocks : (d : Float) → met ≡ At d → counts ray d ≡ true
@@ -221,65 +262,63 @@ module _ {indices : List ℕ} {panes : List Float} {bytes : List ℕ} {goal : Ou
     unfolding missFound
     miss-blocks d f h =
         let t = at-there P d f in
-        ends-stopped refusedMiss missFound (stops P (t .0) (miss-at indices panes p (beam P) x d (t .1) true h))
+        ends-stopped refusedMiss missFound (stops P (t .0) (miss-at (S .indices) (S .panes) p (beam P) x d (t .1) true h))
 
     -- any other changes nothing
-    pub miss-passes : (d : Float) → met ≡ At d → counts ray d ≡ false
-        → Goes (nodeCount bytes) (nodeWordsAt bytes byBoxes) (length indices) (miss (paneOf indices panes) nearer) goal (walkerOf ray octant v stack)
-        (walkerOf ray octant (reported P) stack) x
-    miss-passes d f h = let t = at-there P d f in goes P (t .0) (miss-at indices panes p (beam P) x d (t .1) false h)
+    pub miss-passes : (d : Float) → met ≡ At d → counts ray d ≡ false → GoesIn S (missIn S) goal ray v stack ray (reported P) stack x
+    miss-passes d f h = let t = at-there P d f in goes P (t .0) (miss-at (S .indices) (S .panes) p (beam P) x d (t .1) false h)
 
 -- ---- after a search
 
--- A search by the numbers of walk v, which has no position in hand, is one from v; u is the walk that it gave, read number by number.
-pub searched : (m : ℕ) (N : NodeWords WalkRay Float) (most n : ℕ) (ray : Ray) (octant : ℕ) (v : Walk) (stack : List ℕ) → v .positions .bits ≤ 0
-    → (u : Walk) (t : Turn) → u ≡ t .walk → (stack₁ : List ℕ)
-    → turned ray octant t stack₁ ≡ seekWords m N most n
-    (walkerOf ray octant (seeking (v .tests) (v .positions .base) (v .current .base) (v .current .bits) (v .depth)) stack)
-    → turned ray octant (record { answer = t .answer; walk = u }) stack₁ ≡ seekWords m N most n (walkerOf ray octant v stack)
-searched m N most n ray octant v stack held u t e stack₁ h =
-    ap (λ (w : Walk). turned ray octant (record { answer = t .answer; walk = w }) stack₁) e ∙ h
-    ∙ ap (seekWords m N most n) (seeking-from ray octant stack v (omega (arith, held)))
-
--- a search from walk v, which has no position in hand, gave t and a stack
-pub record AfterSearch (bytes indices : List ℕ) (react : ℕ → WalkRay → Found Float → Reaction Float (Found Float))
-    (goal : OutcomeWords WalkRay (Found Float))
-    (ray : Ray) (octant : ℕ) (v : Walk) (stack : List ℕ) (x : Found Float) (t : Turn) (stack₁ : List ℕ) : Type 0 where
-  pub sized : RecordSized bytes (length indices)
-  pub fit : FieldsFit bytes
-  pub leads : Leads (nodeCount bytes) (nodeWordsAt bytes byBoxes) (length indices) react goal (walkerOf ray octant v stack) x
+-- a search of at most so many tests from walk v, which has no position in hand, gave t and a stack
+pub record AfterSearch (S : Setting) (react : Reacts) (goal : Ends) (ray : Ray) (v : Walk) (stack : List ℕ) (x : Found Float) (t : Turn)
+    (stack₁ : List ℕ) : Type 0 where
+  pub leads : LeadsIn S react goal ray v stack x
   pub none : v .positions .bits ≤ 0
   pub most : ℕ
-  pub search : turned ray octant t stack₁ ≡ seekWords (nodeCount bytes) (nodeWordsAt bytes byBoxes) most (length indices)
-      (walkerOf ray octant v stack)
+  pub search : turned ray (S .octant) t stack₁
+      ≡ seekWords (nodeCount (S .bytes)) (nodeWordsAt (S .bytes) byBoxes) most (length (S .indices)) (walkerOf ray (S .octant) v stack)
 
-module _ {bytes indices : List ℕ} {react : ℕ → WalkRay → Found Float → Reaction Float (Found Float)} {goal : OutcomeWords WalkRay (Found Float)}
-    {ray : Ray} {octant : ℕ} {v : Walk} {stack : List ℕ} {x : Found Float} {t : Turn} {stack₁ : List ℕ}
-    (A : AfterSearch bytes indices react goal ray octant v stack x t stack₁) where
-  abbrev Left : S.Answer → Type 0
-  Left b = Sought (nodeCount bytes) (nodeWordsAt bytes byBoxes) (length indices) react goal (walkerOf ray octant v stack) x b
-      (walkerOf ray octant (t .walk) stack₁)
+-- a search by the numbers of walk v is one from v; u is the walk that it gave, read number by number
+pub after-search : {S : Setting} {react : Reacts} {goal : Ends} {ray : Ray} {v : Walk} {stack : List ℕ} {x : Found Float} (most : ℕ)
+    → LeadsIn S react goal ray v stack x → v .positions .bits ≤ 0 → (u : Walk) (t : Turn) → u ≡ t .walk → (stack₁ : List ℕ)
+    → turned ray (S .octant) t stack₁ ≡ seekWords (nodeCount (S .bytes)) (nodeWordsAt (S .bytes) byBoxes) most (length (S .indices))
+    (walkerOf ray (S .octant) (seeking (v .tests) (v .positions .base) (v .current .base) (v .current .bits) (v .depth)) stack)
+    → AfterSearch S react goal ray v stack x (record { answer = t .answer; walk = u }) stack₁
+after-search {S = S} {ray = ray} {v = v} {stack = stack} most leads empty u t e stack₁ h = record {
+  leads = leads;
+  none = empty;
+  most = most;
+  search =
+      ap (λ (w : Walk). turned ray (S .octant) (record { answer = t .answer; walk = w }) stack₁) e ∙ h
+      ∙ ap (seekWords (nodeCount (S .bytes)) (nodeWordsAt (S .bytes) byBoxes) most (length (S .indices)))
+      (seeking-from ray (S .octant) stack v (omega (arith, empty)));
+}
+
+module _ {S : Setting} {react : Reacts} {goal : Ends} {ray : Ray} {v : Walk} {stack : List ℕ} {x : Found Float} {t : Turn} {stack₁ : List ℕ}
+    (A : AfterSearch S react goal ray v stack x t stack₁) where
+  abbrev Left : Step.Answer → Type 0
+  Left b = Sought (nodeCount (S .bytes)) (nodeWordsAt (S .bytes) byBoxes) (length (S .indices)) react goal (walkerOf ray (S .octant) v stack) x b
+      (walkerOf ray (S .octant) (t .walk) stack₁)
 
   sought : (b : Answer) → t .answer ≡ b → Left (stepAnswer b)
   sought b e =
       subst (λ (a : Answer). Left (stepAnswer a)) e
-      (subst (λ (r : SteppedWords WalkRay). Sought (nodeCount bytes) (nodeWordsAt bytes byBoxes) (length indices) react goal
-      (walkerOf ray octant v stack) x (r .answer) (r .walker)) (sym (A .search))
-      (seek-sought (steady bytes (length indices) (A .sized) (A .fit)) (A .most) (walkerOf ray octant v stack) (A .leads) (A .none)))
+      (subst (λ (r : SteppedWords WalkRay). Sought (nodeCount (S .bytes)) (nodeWordsAt (S .bytes) byBoxes) (length (S .indices))
+      react goal (walkerOf ray (S .octant) v stack) x (r .answer) (r .walker)) (sym (A .search))
+      (seek-sought (steady (S .bytes) (length (S .indices)) (S .sized) (S .fit)) (A .most) (walkerOf ray (S .octant) v stack) (A .leads) (A .none)))
 
   -- the query goes on after a test, ends with done or a refusal, and no position is reported
-  pub search-tested : (u : ℕ) → t .answer ≡ Tested u
-      → Goes (nodeCount bytes) (nodeWordsAt bytes byBoxes) (length indices) react goal (walkerOf ray octant v stack)
-      (walkerOf ray octant (t .walk) stack₁) x
+  pub search-tested : (u : ℕ) → t .answer ≡ Tested u → GoesIn S react goal ray v stack ray (t .walk) stack₁ x
   unfolding stepAnswer
   search-tested u e = sought (Tested u) e
 
-  pub search-done : t .answer ≡ Done → record { walker = walkerOf ray octant (t .walk) stack₁; accumulator = x; ended = S.done } ≡ goal
+  pub search-done : t .answer ≡ Done → record { walker = walkerOf ray (S .octant) (t .walk) stack₁; accumulator = x; ended = Step.done } ≡ goal
   unfolding stepAnswer
   search-done e = sought Done e
 
   pub search-refused : (k : ℕ) → t .answer ≡ AnswerRefused k
-      → record { walker = walkerOf ray octant (t .walk) stack₁; accumulator = x; ended = S.refused k } ≡ goal
+      → record { walker = walkerOf ray (S .octant) (t .walk) stack₁; accumulator = x; ended = Step.refused k } ≡ goal
   unfolding stepAnswer
   search-refused k e = sought (AnswerRefused k) e
 

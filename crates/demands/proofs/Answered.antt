@@ -14,12 +14,12 @@ use Rattle.bvh2.proofs.Decoded.{accepted-decoded, decoded-leaves, positions-len
 use Rattle.wide_layout.specs.Sizes as S
 use Rattle.wide_layout.specs.Layout.{wordsAt}
 use Rattle.wide_tree.specs.WideTree.{wideOf}
-use Rattle.wide_tree.specs.Ordered.{placing}
+use Rattle.wide_tree.specs.Ordered.{placing, wideTreeOf}
 use Rattle.wide_tree.proofs.WideTree.{small-leaves}
 use Rattle.wide_tree.proofs.Positions.{wide-positions}
 use Rattle.wide_tree.proofs.Ordered.{places, fine, index-count, node-count}
 use Rattle.record_laws.specs.Writable.{Writable}
-use Rattle.bvh2_to_cwbvh.specs.Conversion.{wideAt, recordOf, levelOf, outputPositions, indexListOf}
+use Rattle.bvh2_to_cwbvh.specs.Conversion.{recordOf, levelOf, outputPositions, indexListOf}
 use Rattle.bvh2_to_cwbvh.proofs.Answers.{answered}
 use Rattle.bvh2_to_cwbvh.proofs.Sizes.{bytes-length, list-length}
 use Rattle.demands.specs.Call.{Call, Answers, leafCount, recordAt, listAt, leafPositions, definedRecord, definedList, deepestLevel, Convertible}
@@ -27,7 +27,7 @@ use Rattle.demands.proofs.Writes.{Writes, nothing, written}
 use Rattle.demands.proofs.Boxes.{node-boxes}
 
 module _ (ws : List ℕ) (limit : ℕ) (ordered : Bool) (n : ℕ) (h : Decoded ws n) (small : limit ≤ 3) where
-  wide : Writable (wideAt ws limit ordered)
+  wide : Writable (wideTreeOf ws ordered limit)
   unfolding wideOf
   wide =
       let b = node-boxes ws limit ordered (h .boxes) in
@@ -41,7 +41,7 @@ module _ (ws : List ℕ) (limit : ℕ) (ordered : Bool) (n : ℕ) (h : Decoded w
         positions = omega (arith, index-count ordered limit ws n h);
       }
 
-  held : Perm (S.slotsPositions (wideAt ws limit ordered .slots)) (positions (treeOf ws))
+  held : Perm (S.slotsPositions (wideTreeOf ws ordered limit .slots)) (positions (treeOf ws))
   unfolding wideOf
   held = wide-positions (placing ordered) limit (places ordered) (treeOf ws) (fine ws n h)
 
@@ -57,7 +57,7 @@ defined c h = go (leafCount c) (λ p. accepted-decoded (c .words) (leafCount c) 
     go zero d = nothing refl refl refl refl
     go (suc n) d =
         let t = d (omega arith) in
-        written (wideAt (c .words) (c .limit) (c .ordered)) (wide (c .words) (c .limit) (c .ordered) (suc n) t (h .small))
+        written (wideTreeOf (c .words) (c .ordered) (c .limit)) (wide (c .words) (c .limit) (c .ordered) (suc n) t (h .small))
         (held (c .words) (c .limit) (c .ordered) (suc n) t (h .small)) refl refl refl
 
 -- an answered call leaves them in front of its output slices, and its level is at most 31

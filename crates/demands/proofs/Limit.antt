@@ -13,10 +13,10 @@ use Rattle.cost.specs.Table.{Decision, word, wordOf, costOf}
 use Rattle.cost.proofs.Splits.{limit-zero}
 use Rattle.wide_layout.specs.Layout.{wordsAt}
 use Rattle.wide_tree.specs.WideTree.{Placing, Child, filledSlots, wideChildren, wideOf}
-use Rattle.wide_tree.specs.Ordered.{placing}
+use Rattle.wide_tree.specs.Ordered.{placing, wideTreeOf}
 use Rattle.bvh2_tables.specs.Call.{Call, leafCount, lengthsOf}
 use Rattle.bvh2_tables.specs.Tables.{prepareConditions, workAfter}
-use Rattle.bvh2_to_cwbvh.specs.Conversion.{wideAt, recordOf, nodesOf, levelOf, outputPositions, indexListOf}
+use Rattle.bvh2_to_cwbvh.specs.Conversion.{recordOf, nodesOf, levelOf, outputPositions, indexListOf}
 use Rattle.bvh2_to_cwbvh.specs.Conversion.{conversionConditions, conversionCause, converted, answerFor, outputAfter, outcomeFor, conversionOf}
 use Rattle.demands.specs.Call.{withLimit}
 
@@ -32,7 +32,7 @@ unfolding wideChildren
 children-zero place (leaf v box p) i = refl
 children-zero place (inner v box a b) i = simp (limit-zero, children-zero place a, children-zero place b)
 
-wide-zero : (ws : List ℕ) (ordered : Bool) → wideAt ws 0 ordered ≡ wideAt ws 1 ordered
+wide-zero : (ws : List ℕ) (ordered : Bool) → wideTreeOf ws ordered 0 ≡ wideTreeOf ws ordered 1
 unfolding wideOf
 wide-zero ws ordered =
     let box = boxOf (treeOf ws) in

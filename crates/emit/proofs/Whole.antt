@@ -17,7 +17,8 @@ use Rattle.wide_layout.specs.Wide.{Slots}
 use Rattle.wide_layout.specs.Sizes.{innerChildren, innerBefore, ownCount, ownBefore, ownPositions}
 use Rattle.wide_layout.proofs.Sizes.{own-inside}
 use Rattle.record.specs.Record.{metas, innerMask, gridBoxes, leafMeta, innerMeta, gridBox}
-use Rattle.record.specs.Children.{Content, contentAt, childMeta, childBytes, childBit, childPositions, childInner, bitsBefore, positionsBefore}
+use Rattle.wide_layout.specs.Content.{Content, contentAt}
+use Rattle.record.specs.Children.{childMeta, childBytes, childBit, childPositions, childInner, bitsBefore, positionsBefore}
 use Rattle.record.proofs.Children.{metas-length, boxes-length, meta-at, bytes-at, mask-all, bits-next, positions-all, positions-next, own-next}
 use Rattle.record.proofs.Children.{inner-next, own-all, inner-all, own-first, before-length}
 use Rattle.wide_layout.specs.Layout.{wordsAt}

@@ -18,8 +18,8 @@ use Rattle.record.specs.Record.{leafMeta, innerMeta, gridBox}
 use Rattle.node.specs.declared.Slot.{Slot}
 use Rattle.node.specs.declared.Node.{Node}
 use Rattle.wide_layout.specs.Wide.{Slots}
-use Rattle.record.specs.Children.{Content, leafChild, innerChild}
-use Rattle.record.specs.Children as R
+use Rattle.wide_layout.specs.Content.{Content, leafChild, innerChild}
+use Rattle.wide_layout.specs.Content as C
 use Rattle.emit.specs.declared.Held.{Held}
 use Rattle.emit.specs.declared.Built.{Built}
 use Rattle.wide_layout.specs.Layout.{wordsAt}
@@ -136,6 +136,6 @@ pub record BuiltAs (ws : List ℕ) (v count start : ℕ) (s : OwnState) (r : Bui
 
 -- what a slot's word says is what stands in a wide node's slot
 unfoldable pub Matches : Cell → Content → Type 0
-Matches none d = d ≡ R.none
+Matches none d = d ≡ C.none
 Matches (asLeaf b t) d = d ≡ leafChild b (positions t)
 Matches (asNode b) d = (s : Slots 8) × (d ≡ innerChild b s)

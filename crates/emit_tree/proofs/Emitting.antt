@@ -18,7 +18,7 @@ use Rattle.children.specs.Tabled.{Tabled}
 use Rattle.wide_layout.specs.Wide.{Slots, inner}
 use Rattle.wide_layout.specs.Conversion.{State, convert, convertNode}
 use Rattle.wide_tree.specs.WideTree.{rootSlots, slotsFrom}
-use Rattle.record.specs.Children.{Content, innerChild}
+use Rattle.wide_layout.specs.Content.{Content, innerChild}
 use Rattle.emit_tree.specs.declared.Next.{Next}
 use Rattle.wide_tree.specs.Ordered.{placing}
 use Rattle.emit_tree.specs.Emission.{slotWords, wideSlotsAt, EmitNode, isInner, EmitRoom, Emits, Written, writeEntry, progressOf}

@@ -20,7 +20,8 @@ use Rattle.wide_tree.proofs.WideTree.{small-leaves}
 use Rattle.node.specs.declared.Node.{Node}
 use Rattle.node.specs.Node.{nodeBytes}
 use Rattle.record.specs.Record.{nodeOf}
-use Rattle.record.specs.Children.{Content, contentAt, childPositions}
+use Rattle.wide_layout.specs.Content.{Content, contentAt}
+use Rattle.record.specs.Children.{childPositions}
 use Rattle.record.proofs.Children.{own-next, own-first}
 use Rattle.emit.specs.declared.Built.{Built}
 use Rattle.emit.specs.Own.{Cell, none, asLeaf, asNode, cellOf, Matches, CellReady, OwnReady, allSlots, BuiltAs}

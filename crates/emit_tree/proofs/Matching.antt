@@ -2,8 +2,8 @@
 use mathlib.Core.Path.{_≡_, refl, sym, ap, ap₂, subst, _∙_}
 use mathlib.Core.Bool.{Bool}
 use mathlib.Core.List.{List, [], _∷_, map}
-use Prim.Native.Nat.{ℕ, zero, suc, _+_, _*_, _/_, _≤_, _<_}
-use native.Mathlib.Nat.{add-zero, zero-add, le-of-suc-le-suc, not-suc-le-zero}
+use Prim.Native.Nat.{ℕ, zero, suc, _*_, _/_, _≤_, _<_}
+use native.Mathlib.Nat.{add-zero, zero-add}
 use native.Mathlib.Omega.{arith}
 use lib.ListN.{length, getD}
 use Rattle.aabb.specs.declared.Aabb.{Aabb}
@@ -20,50 +20,15 @@ use Rattle.order.specs.Order.{slotsOf, placed}
 use Rattle.order.specs.Assign as A
 use Rattle.order.proofs.Arrays.{eight-at}
 use Rattle.wide_layout.specs.Wide.{Slots}
-use Rattle.wide_tree.specs.WideTree.{Child, leafChild, innerChild, filledSlot, slotsFrom, Placing, childAs, wideChildren, rootSlots}
+use Rattle.wide_tree.specs.WideTree.{Child, slotsFrom, Placing, childAs, wideChildren, rootSlots}
+use Rattle.wide_tree.proofs.Slots.{heldAs, heldAt, from-at}
 use Rattle.wide_tree.proofs.Gathered.{childOf, children-gathered, children-boxes}
-use Rattle.record.specs.Children.{contentAt}
-use Rattle.record.specs.Children as R
+use Rattle.wide_layout.specs.Content.{contentAt}
+use Rattle.wide_layout.specs.Content as C
 use Rattle.emit.specs.Own.{Cell, cellOf, Matches}
 use Rattle.emit.proofs.OwnSteps.{cell-none, cell-leaf, cell-node}
 use Rattle.wide_tree.specs.Ordered.{placing}
 use Rattle.emit_tree.specs.Emission.{slotWords, EmitNode, wideSlotsAt}
-
--- ---- what stands in a slot
-abbrev pub heldAs : Child → R.Content
-heldAs (leafChild b ps) = R.leafChild b ps
-heldAs (innerChild b s) = R.innerChild b s
-
-abbrev pub heldAt : List Child → ℕ → R.Content
-heldAt [] i = R.none
-heldAt (c ∷ cs) zero = heldAs c
-heldAt (c ∷ cs) (suc i) = heldAt cs i
-
-slot-first : {w : ℕ} (cs : List Child) (i : ℕ) (s : Slots w) → contentAt (filledSlot cs i s) 0 ≡ heldAt cs i
-unfolding contentAt
-slot-first [] i s = refl
-slot-first (leafChild b ps ∷ cs) zero s = refl
-slot-first (innerChild b t ∷ cs) zero s = refl
-slot-first (c ∷ cs) (suc i) s = slot-first cs i s
-
-slot-later : {w : ℕ} (cs : List Child) (i : ℕ) (s : Slots w) (j : ℕ) → contentAt (filledSlot cs i s) (suc j) ≡ contentAt s j
-unfolding contentAt
-slot-later [] i s j = refl
-slot-later (leafChild b ps ∷ cs) zero s j = refl
-slot-later (innerChild b t ∷ cs) zero s j = refl
-slot-later (c ∷ cs) (suc i) s j = slot-later cs i s j
-
-pub from-at : (child : ℕ → ℕ) (cs : List Child) (k w j : ℕ) → j < w → contentAt (slotsFrom child cs k w) j ≡ heldAt cs (child (k + j))
-unfolding slotsFrom
-from-at child cs k zero j h = absurd (not-suc-le-zero h)
-from-at child cs k (suc w) zero h = slot-first cs (child k) (slotsFrom child cs (suc k) w) ∙ ap (λ (i : ℕ). heldAt cs (child i)) (sym (add-zero k))
-from-at child cs k (suc w) (suc j) h =
-    slot-later cs (child k) (slotsFrom child cs (suc k) w) j
-    ∙ from-at child cs (suc k) w j (le-of-suc-le-suc h)
-    ∙ ap (λ (i : ℕ). heldAt cs (child i)) (next k j)
-  where
-    next : (k j : ℕ) → suc k + j ≡ k + suc j
-    next k j = omega arith
 
 -- ---- a gathered node's word says what it becomes
 module _ (ws ds : List ℕ) (n limit d : ℕ) (place : Placing) (room : treeNodes n * 7 ≤ length ds) where
@@ -88,21 +53,21 @@ module _ (ws ds : List ℕ) (n limit d : ℕ) (place : Placing) (room : treeNode
       go : (k : Kind) → getD ds (labelOf t * 7) 0 / 0x4000_0000 ≡ code k
           → Matches (cellOf ws ds d (labelOf t)) (heldAs (childAs place k t (wideChildren place limit t 0)))
       go LEAF e =
-          subst (λ (c : Cell). Matches c (R.leafChild (boxOf t) (positions t))) (sym (cell-leaf ws ds d (labelOf t) (a-node t r) e))
-          (ap₂ (λ (b : Aabb) (x : Tree ℕ). R.leafChild b (positions x)) (sym (box-says t r)) (sym (r .tree)))
+          subst (λ (c : Cell). Matches c (C.leafChild (boxOf t) (positions t))) (sym (cell-leaf ws ds d (labelOf t) (a-node t r) e))
+          (ap₂ (λ (b : Aabb) (x : Tree ℕ). C.leafChild b (positions x)) (sym (box-says t r)) (sym (r .tree)))
       go INTERNAL e =
           subst (λ (c : Cell). Matches c (heldAs (childAs place INTERNAL t (wideChildren place limit t 0))))
           (sym (cell-node ws ds d (labelOf t) (a-node t r) (λ z. omega (arith, e, z))))
-          (rootSlots place limit t, ap (λ (b : Aabb). R.innerChild b (rootSlots place limit t)) (sym (box-says t r)))
+          (rootSlots place limit t, ap (λ (b : Aabb). C.innerChild b (rootSlots place limit t)) (sym (box-says t r)))
       go DISTRIBUTE e =
           subst (λ (c : Cell). Matches c (heldAs (childAs place DISTRIBUTE t (wideChildren place limit t 0))))
           (sym (cell-node ws ds d (labelOf t) (a-node t r) (λ z. omega (arith, e, z))))
-          (rootSlots place limit t, ap (λ (b : Aabb). R.innerChild b (rootSlots place limit t)) (sym (box-says t r)))
+          (rootSlots place limit t, ap (λ (b : Aabb). C.innerChild b (rootSlots place limit t)) (sym (box-says t r)))
 
   list-matches : (g : List (Tree ℕ)) → EachTree (Reread ws ds n limit d) g → (i : ℕ)
       → Matches (cellOf ws ds d (getD (map labelOf g) i 0xffff_ffff)) (heldAt (map (childOf place limit) g) i)
   unfolding EachTree Matches
-  list-matches [] h i = subst (λ (c : Cell). Matches c R.none) (sym (cell-none ws ds d 0xffff_ffff refl)) refl
+  list-matches [] h i = subst (λ (c : Cell). Matches c C.none) (sym (cell-none ws ds d 0xffff_ffff refl)) refl
   list-matches (t ∷ g) h zero = cell-matches t (h .0)
   list-matches (t ∷ g) h (suc i) = list-matches g (h .1) i
 

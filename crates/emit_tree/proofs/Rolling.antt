@@ -9,7 +9,7 @@ use Rattle.wide_layout.specs.Wide.{Slots, empty, leaf, inner}
 use Rattle.wide_layout.specs.Sizes.{innerChildren, nodesBelow, ownCount, countBelow}
 use Rattle.wide_layout.specs.Conversion.{State, convert, convertNode}
 use Rattle.wide_layout.proofs.Conversion.{convert-node}
-use Rattle.record.specs.Children.{Content, none, leafChild, innerChild}
+use Rattle.wide_layout.specs.Content.{Content, none, leafChild, innerChild}
 use Rattle.emit_tree.specs.declared.Next.{Next}
 use Rattle.emit_tree.specs.Emission.{Written, writeEntry, progressOf, EmitRoom, NodeRoom}
 

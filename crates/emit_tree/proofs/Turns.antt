@@ -23,13 +23,14 @@ use Rattle.order.specs.Assign as A
 use Rattle.order.proofs.Arrays.{eight-at}
 use Rattle.wide_layout.specs.Wide.{Slots}
 use Rattle.wide_tree.specs.WideTree.{Child, leafChild, innerChild, filledSlot, slotsFrom, Placing, childAs, wideChildren, rootSlots}
+use Rattle.wide_tree.proofs.Slots.{heldAs, heldAt, from-at}
 use Rattle.wide_tree.proofs.Gathered.{childOf}
-use Rattle.record.specs.Children.{contentAt}
-use Rattle.record.specs.Children as R
+use Rattle.wide_layout.specs.Content.{contentAt}
+use Rattle.wide_layout.specs.Content as C
 use Rattle.emit.specs.Own.{Cell, none, asLeaf, asNode, cellBy, cellOf, Matches}
 use Rattle.wide_tree.specs.Ordered.{placing}
 use Rattle.emit_tree.specs.Emission.{slotWords, EmitNode, wideSlotsAt, isInner}
-use Rattle.emit_tree.proofs.Matching.{heldAs, heldAt, from-at, kind-says, root-slots, slots-match}
+use Rattle.emit_tree.proofs.Matching.{kind-says, root-slots, slots-match}
 use Rattle.emit_tree.proofs.Rolling.{put}
 
 -- ---- the test of a slot's word
@@ -70,19 +71,19 @@ other-word ds x e n = go (ℕ-discrete (getD ds (x * 7) 0 / 0x4000_0000) 0)
 
 -- ---- a word that stands for a node
 -- the subtree that it names, with one edge less, and what stands in its slot
-pub record Below (ws ds : List ℕ) (n limit d : ℕ) (place : Placing) (x : ℕ) (c : R.Content) : Type 0 where
+pub record Below (ws ds : List ℕ) (n limit d : ℕ) (place : Placing) (x : ℕ) (c : C.Content) : Type 0 where
   pub tree : Tree ℕ
   pub label : labelOf tree ≡ x
   pub reread : Reread ws ds n limit d tree
-  pub held : c ≡ R.innerChild (boxOf tree) (rootSlots place limit tree)
+  pub held : c ≡ C.innerChild (boxOf tree) (rootSlots place limit tree)
 
 module _ (ws ds : List ℕ) (n limit d : ℕ) (place : Placing) (room : treeNodes n * 7 ≤ length ds) where
   node-held : (t : Tree ℕ) → Reread ws ds n limit d t → isInner ds (labelOf t) ≡ true → heldAs (childOf place limit t)
-      ≡ R.innerChild (boxOf t) (rootSlots place limit t)
+      ≡ C.innerChild (boxOf t) (rootSlots place limit t)
   node-held t r e = go (table limit t 0 .kind) (kind-says ws ds n limit d place room t r)
     where
       go : (k : Kind) → getD ds (labelOf t * 7) 0 / 0x4000_0000 ≡ code k → heldAs (childAs place k t (wideChildren place limit t 0))
-          ≡ R.innerChild (boxOf t) (rootSlots place limit t)
+          ≡ C.innerChild (boxOf t) (rootSlots place limit t)
       go LEAF z = absurd (inner-word ds (labelOf t) e .1 z)
       go INTERNAL z = refl
       go DISTRIBUTE z = refl
@@ -131,7 +132,7 @@ module _ (ws ds : List ℕ) (n d v : ℕ) (ordered : Bool) (h : EmitNode ws ds n
   rest-all = root-slots (placing ordered) (h .limit) (treeAt ws d v)
 
   -- what stands in slot k
-  abbrev pub standing : ℕ → R.Content
+  abbrev pub standing : ℕ → C.Content
   standing k = heldAt (map (childOf (placing ordered) (h .limit)) (gather (h .limit) (treeAt ws d v) 0))
       (A.childOf (slotsOf ordered (boxOf (treeAt ws d v)) (map boxOf (gather (h .limit) (treeAt ws d v) 0))) k)
 
@@ -179,27 +180,27 @@ module _ (ws ds : List ℕ) (n d v : ℕ) (ordered : Bool) (h : EmitNode ws ds n
 
   -- a word that does not
   pub slot-other : (k : ℕ) → k < 8 → isInner ds (getD (slotWords ordered (h .limit) (treeAt ws d v)) k 0) ≡ false → (b : Aabb) (s : Slots 8)
-      → standing k ≡ R.innerChild b s → ⊥
+      → standing k ≡ C.innerChild b s → ⊥
   unfolding Matches cellOf
   slot-other k l e b s q =
       matched (getD (slotWords ordered (h .limit) (treeAt ws d v)) k 0) e
-      (subst (λ (c : R.Content). Matches (cellOf ws ds d (getD (slotWords ordered (h .limit) (treeAt ws d v)) k 0)) c)
+      (subst (λ (c : C.Content). Matches (cellOf ws ds d (getD (slotWords ordered (h .limit) (treeAt ws d v)) k 0)) c)
       (ap (λ (r : Slots 8). contentAt r k) rest-all ∙ from-at
       (A.childOf (slotsOf ordered (boxOf (treeAt ws d v)) (map boxOf (gather (h .limit) (treeAt ws d v) 0))))
       (map (childOf (placing ordered) (h .limit)) (gather (h .limit) (treeAt ws d v) 0)) 0 8 k l ∙ ap standing (zero-add k) ∙ q)
       (slots-match ws ds n d v ordered h k l))
     where
-      differ : (c : Cell) (x : ℕ) → c ≡ none → Matches c (R.innerChild b s) → ⊥
+      differ : (c : Cell) (x : ℕ) → c ≡ none → Matches c (C.innerChild b s) → ⊥
       differ none x p m = clash cc
       differ (asLeaf c u) x p m = clash cc
       differ (asNode c) x p m = clash cc
 
-      differ' : (c : Cell) (y : Aabb) (z : Tree ℕ) → c ≡ asLeaf y z → Matches c (R.innerChild b s) → ⊥
+      differ' : (c : Cell) (y : Aabb) (z : Tree ℕ) → c ≡ asLeaf y z → Matches c (C.innerChild b s) → ⊥
       differ' none y z p m = clash cc
       differ' (asLeaf c u) y z p m = clash cc
       differ' (asNode c) y z p m = clash cc
 
-      matched : (x : ℕ) → isInner ds x ≡ false → Matches (cellOf ws ds d x) (R.innerChild b s) → ⊥
+      matched : (x : ℕ) → isInner ds x ≡ false → Matches (cellOf ws ds d x) (C.innerChild b s) → ⊥
       matched x f m = go (ℕ-discrete x 0xffff_ffff)
         where
           go : Dec (x ≡ 0xffff_ffff) → ⊥

@@ -15,12 +15,13 @@ use Rattle.wide_layout.proofs.Conversion.{converted}
 use Rattle.wide_layout.proofs.Sizes.{index-length}
 use Rattle.wide_layout.proofs.Written.{positions-all}
 use Rattle.wide_tree.specs.WideTree.{wideOf}
+use Rattle.wide_tree.specs.Ordered.{wideTreeOf}
 use Rattle.node.specs.Node.{nodeBytes}
 use Rattle.node.proofs.RoundTrip.{length-node}
 use Rattle.record.specs.Record.{nodeOf, recordBytes}
 use Rattle.record.proofs.Written.{put, written}
 use Rattle.emit_tree.specs.declared.Next.{Next}
-use Rattle.emit_tree.specs.Emission.{wideSlotsAt, wideEmitted, Emits, EmitTree, Emitted, Written, writeEntry, progressOf}
+use Rattle.emit_tree.specs.Emission.{wideSlotsAt, Emits, EmitTree, Emitted, Written, writeEntry, progressOf}
 
 block : Entry → List ℕ
 block e = nodeBytes (nodeOf e)
@@ -55,11 +56,11 @@ pub whole-done : (ws ds indices : List ℕ) (ordered : Bool) (bytes list bytes�
     → ((e : Emits ws ds (length indices) 127 0 ordered (length bytes) (length list) 0 (record { nodes = 1; positions = 0 })) (l p k : ℕ)
     → progressOf bytes₁ list₁ x ≡ convertNode (writeEntry indices) (boxAt ws 0) (wideSlotsAt ws ordered (e .at .limit) 127 0) l p k 0
     (progressOf bytes list (record { nodes = 1; positions = 0 })))
-    → Emitted indices (wideEmitted ws ordered (h .at .limit)) bytes list bytes₁ list₁ x
+    → Emitted indices (wideTreeOf ws ordered (h .at .limit)) bytes list bytes₁ list₁ x
 unfolding wideOf recordBytes splice block whole-ready
 whole-done ws ds indices ordered bytes list bytes₁ list₁ x h g =
     let e = g (whole-ready ws ds (length indices) ordered (length bytes) (length list) h) 0 0 0 in
-    let t = wideEmitted ws ordered (h .at .limit) in
+    let t = wideTreeOf ws ordered (h .at .limit) in
     let z : Written = record { bytes = bytes; list = list } in
     let c = e ∙ ap (λ (b : _). convertNode (writeEntry indices) b (wideSlotsAt ws ordered (h .at .limit) 127 0) 0 0 0 0
     (progressOf bytes list (record { nodes = 1; positions = 0 }))) (sym (box-is ws 127 0)) ∙ converted (writeEntry indices) t z in

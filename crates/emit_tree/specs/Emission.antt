@@ -8,7 +8,7 @@ use lib.Dec.{eqb}
 use lib.ListN.{length, getD}
 use Rattle.lists.specs.Splice.{splice}
 use Rattle.bvh2.specs.Tree.{Tree, labelOf, boxOf}
-use Rattle.bvh2.specs.Words.{treeNodes, treeAt, treeOf}
+use Rattle.bvh2.specs.Words.{treeNodes, treeAt}
 use Rattle.bvh2.specs.Decoded.{Subtree}
 use Rattle.cost.specs.Table.{wordOf}
 use Rattle.cost.specs.Rows.{RowsHold}
@@ -19,7 +19,7 @@ use Rattle.wide_layout.specs.Sizes.{innerChildren, nodesBelow, ownCount, countB
 use Rattle.wide_layout.specs.Layout.{Entry, nodes, indexCount, indexList, wordsAt}
 use Rattle.wide_layout.specs.Conversion.{State, writePositions}
 use Rattle.wide_tree.specs.WideTree.{rootSlots}
-use Rattle.wide_tree.specs.Ordered.{placing, wideTree}
+use Rattle.wide_tree.specs.Ordered.{placing, wideTreeOf}
 use Rattle.node.specs.Node.{nodeBytes}
 use Rattle.record.specs.Record.{nodeOf, recordBytes}
 use Rattle.emit_tree.specs.declared.Next.{Next}
@@ -82,17 +82,13 @@ pub record Emits (ws ds : List ℕ) (n d v : ℕ) (ordered : Bool) (m l i : ℕ)
   pub at : EmitNode ws ds n d v
   pub room : NodeRoom (wideSlotsAt ws ordered (at .limit) d v) m l i x
 
--- the wide tree of the words
-abbrev pub wideEmitted : List ℕ → Bool → ℕ → Wide
-wideEmitted ws ordered limit = wideTree ordered limit (treeOf ws)
-
 -- what emission of a whole tree of n leaves asks
 pub record EmitTree (ws ds : List ℕ) (n : ℕ) (ordered : Bool) (m l : ℕ) : Type 0 where
   pub at : EmitNode ws ds n 127 0
-  pub record-room : 80 * nodes (wideEmitted ws ordered (at .limit)) ≤ m
-  pub list-room : indexCount (wideEmitted ws ordered (at .limit)) ≤ l
-  pub few : nodes (wideEmitted ws ordered (at .limit)) < 2 ^ 32
-  pub short : indexCount (wideEmitted ws ordered (at .limit)) < 2 ^ 32
+  pub record-room : 80 * nodes (wideTreeOf ws ordered (at .limit)) ≤ m
+  pub list-room : indexCount (wideTreeOf ws ordered (at .limit)) ≤ l
+  pub few : nodes (wideTreeOf ws ordered (at .limit)) < 2 ^ 32
+  pub short : indexCount (wideTreeOf ws ordered (at .limit)) < 2 ^ 32
 
 -- the record and the index list of a wide tree stand before what was there, and x is how many nodes and positions they have
 pub record Emitted (indices : List ℕ) (t : Wide) (bytes list bytes₁ list₁ : List ℕ) (x : Next) : Type 0 where

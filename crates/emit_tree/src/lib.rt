@@ -10,7 +10,8 @@ ghost use Rattle.cost.specs.Rows.{RowsHold};
 ghost use Rattle.children.specs.Tabled.{Tabled};
 ghost use Rattle.order.specs.Lists.{padded};
 ghost use Rattle.wide_layout.specs.Conversion.{convertNode};
-ghost use Rattle.emit_tree.specs.Emission.{slotWords, isInner, wideSlotsAt, wideEmitted, Emits, EmitTree, Emitted, writeEntry, progressOf};
+ghost use Rattle.wide_tree.specs.Ordered.{wideTreeOf};
+ghost use Rattle.emit_tree.specs.Emission.{slotWords, isInner, wideSlotsAt, Emits, EmitTree, Emitted, writeEntry, progressOf};
 use aabb::Aabb;
 
 // The next free node and position.
@@ -135,7 +136,7 @@ pub fn emit(
     requires { ⌜ EmitTree (now words) (now decisions) (length (now indices)) ordered (length (now bytes)) (length (now out)) ⌝ }
     ensures { λ r. ⌜ ((h : EmitTree (now (words .entry)) (now (decisions .entry)) (length (now (indices .entry))) ordered
         (length (now (bytes .entry))) (length (now (out .entry))))
-        → Emitted (now (indices .entry)) (wideEmitted (now (words .entry)) ordered (h .at .limit)) (now (bytes .entry)) (now (out .entry))
+        → Emitted (now (indices .entry)) (wideTreeOf (now (words .entry)) ordered (h .at .limit)) (now (bytes .entry)) (now (out .entry))
         (now (bytes .exit)) (now (out .exit)) r) ⌝ }
 {
     let next = Next {

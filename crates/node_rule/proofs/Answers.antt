@@ -98,6 +98,14 @@ passed f r x y e g h = ap f (sym g) ∙ sym e ∙ yes r h
     yes true h = refl
     yes false h = sym h
 
+-- the same of a part after others that passed
+pub stopped-after : (p : Bool) (f : ℕ → Bool) (r : Bool) (x y : ℕ) → p ≡ true → r ≡ f x → x ≡ y → not r ≡ true → (p && f y) ≡ false
+stopped-after p f r x y h e g k = rw (h, stopped f r x y e g k)
+
+pub passed-after : (p : Bool) (f : ℕ → Bool) (r : Bool) (x y : ℕ) → p ≡ true → r ≡ f x → x ≡ y → not r ≡ false → (p && f y) ≡ true
+passed-after p f r x y h e g k = rw (h, passed f r x y e g k)
+
+-- the same of an answer itself
 pub wrong : (r b : Bool) → r ≡ b → not r ≡ true → b ≡ false
 wrong r b e h = stopped (λ n. b) r 0 0 e refl h
 

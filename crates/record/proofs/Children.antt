@@ -10,7 +10,8 @@ use Rattle.node.specs.Node.{noSlot}
 use Rattle.wide_layout.specs.Wide.{Slots, end, empty, leaf, inner}
 use Rattle.wide_layout.specs.Sizes.{innerChildren, innerBefore, ownCount, ownBefore, ownPositions}
 use Rattle.record.specs.Record.{metas, innerMask, gridBoxes, leafMeta, innerMeta}
-use Rattle.record.specs.Children.{Content, contentAt, childMeta, childBytes, childBit, childPositions, childInner, bitsBefore, positionsBefore}
+use Rattle.wide_layout.specs.Content.{Content, contentAt}
+use Rattle.record.specs.Children.{childMeta, childBytes, childBit, childPositions, childInner, bitsBefore, positionsBefore}
 
 -- ---- how many
 pub metas-length : {w : ℕ} (s : Slots w) (i o : ℕ) → length (metas s i o) ≡ w

@@ -1,30 +1,15 @@
--- Internal: a node's children one by one: what stands in each slot, and what it gives to the node's fields.
+-- Internal: a node's children one by one: what each gives to the node's fields.
 use mathlib.Core.List.{List, [], _++_}
 use Prim.Native.Nat.{ℕ, zero, suc, _+_, _^_}
 use lib.ListN.{length}
 use Rattle.aabb.specs.declared.Aabb.{Aabb}
 use Rattle.node.specs.declared.Slot.{Slot}
 use Rattle.node.specs.Node.{noSlot}
-use Rattle.wide_layout.specs.Wide.{Slots, end, empty, leaf, inner}
+use Rattle.wide_layout.specs.Wide.{Slots}
+use Rattle.wide_layout.specs.Content.{Content, none, leafChild, innerChild, contentAt}
 use Rattle.record.specs.Record.{leafMeta, innerMeta, gridBox}
 
--- nothing, a leaf child with its box and positions, or an inner child with its box and slots
-pub data Content : Type 0 where
-  none : Content
-  leafChild : Aabb → List ℕ → Content
-  innerChild : Aabb → Slots 8 → Content
-
--- what stands in slot k
-unfoldable pub contentAt : {w : ℕ} → Slots w → ℕ → Content
-contentAt end k = none
-contentAt (empty s) zero = none
-contentAt (empty s) (suc k) = contentAt s k
-contentAt (leaf b ps s) zero = leafChild b ps
-contentAt (leaf b ps s) (suc k) = contentAt s k
-contentAt (inner b t s) zero = innerChild b t
-contentAt (inner b t s) (suc k) = contentAt s k
-
--- its meta byte in slot i, with `before` of the node's positions before it
+-- the meta byte of what stands in slot i, with `before` of the node's positions before it
 unfoldable pub childMeta : Content → (i before : ℕ) → ℕ
 childMeta none i before = 0
 childMeta (leafChild b ps) i before = leafMeta (length ps) before

@@ -12,7 +12,8 @@ use Rattle.node.specs.Node.{innerBit, codeCount}
 use Rattle.wide_layout.specs.Wide.{Slots}
 use Rattle.wide_layout.specs.Sizes.{innerChildren, innerBefore}
 use Rattle.record.specs.Record.{leafMeta, innerMask}
-use Rattle.record.specs.Children.{Content, none, leafChild, innerChild, contentAt, childBit, childInner, bitsBefore}
+use Rattle.wide_layout.specs.Content.{Content, none, leafChild, innerChild, contentAt}
+use Rattle.record.specs.Children.{childBit, childInner, bitsBefore}
 use Rattle.record.proofs.Children.{mask-all, inner-next, inner-all, own-first}
 
 -- ---- leaf codes

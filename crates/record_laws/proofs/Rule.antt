@@ -23,7 +23,8 @@ use Rattle.wide_layout.specs.Layout.{Entry, nodes, indexCount}
 use Rattle.wide_layout.specs.Shape.{layoutEntry}
 use Rattle.wide_layout.proofs.Sizes.{own-inside}
 use Rattle.record.specs.Record.{nodeOf, metas, innerMask, recordBytes}
-use Rattle.record.specs.Children.{Content, none, leafChild, innerChild, contentAt, childMeta, childInner, childPositions}
+use Rattle.wide_layout.specs.Content.{Content, none, leafChild, innerChild, contentAt}
+use Rattle.record.specs.Children.{childMeta, childInner, childPositions}
 use Rattle.record_shape.specs.Record.{RuleAt}
 use Rattle.record_laws.specs.Writable.{NodeBox, Writable}
 use Rattle.record_laws.proofs.ReadBack.{record-count}

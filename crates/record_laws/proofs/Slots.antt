@@ -10,7 +10,8 @@ use Rattle.wide_layout.specs.Wide.{Slots, end, empty, leaf, inner}
 use Rattle.wide_layout.specs.Sizes.{ownBefore, ownAt, SmallLeaves}
 use Rattle.wide_layout.proofs.Sizes.{own-inside, own-most, own-at-most}
 use Rattle.record.specs.Record.{metas, innerMask}
-use Rattle.record.specs.Children.{Content, none, leafChild, innerChild, contentAt, childMeta, childInner, childPositions}
+use Rattle.wide_layout.specs.Content.{Content, none, leafChild, innerChild, contentAt}
+use Rattle.record.specs.Children.{childMeta, childInner, childPositions}
 use Rattle.record.proofs.Children.{meta-at}
 use Rattle.record_shape.specs.Record.{slotPositions}
 use Rattle.record_laws.proofs.Codes.{code, mask-bit}

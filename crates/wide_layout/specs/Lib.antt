@@ -1,4 +1,5 @@
 pub mod Wide
+pub mod Content
 pub mod Sizes
 pub mod Layout
 pub mod Ranges

@@ -6,15 +6,23 @@ use native.Mathlib.Omega.{arith}
 use lib.ListN.{length}
 use Rattle.wide_layout.specs.Wide.{Slots, end, empty}
 use Rattle.wide_layout.specs.Wide as W
+use Rattle.wide_layout.specs.Content.{Content, contentAt}
+use Rattle.wide_layout.specs.Content as C
 use Rattle.wide_layout.specs.Sizes.{levelsBelow}
 use Rattle.wide_tree.specs.WideTree.{Child, leafChild, innerChild, hold, slotsFrom}
-use Rattle.wide_tree.proofs.Slots.{OneToOne, childAt, held, own-slot, EachChild, slots-each}
+use Rattle.wide_tree.proofs.Slots.{OneToOne, heldAs, heldAt, own-slot, EachChild, slots-each}
 
--- what a child adds to its node's levels, and the most that one of a list adds
+-- what a slot's content adds to its node's levels
+abbrev contentLevels : Content → ℕ
+contentLevels C.none = 0
+contentLevels (C.leafChild b ps) = 0
+contentLevels (C.innerChild b s) = suc (levelsBelow s)
+
+-- what a child adds, in any slot
 abbrev pub childLevels : Child → ℕ
-childLevels (leafChild b ps) = 0
-childLevels (innerChild b s) = suc (levelsBelow s)
+childLevels c = contentLevels (heldAs c)
 
+-- the most that one of a list adds
 unfoldable pub deepest : List Child → ℕ
 deepest [] = 0
 deepest (c ∷ cs) = max (childLevels c) (deepest cs)
@@ -45,8 +53,8 @@ slots-most child cs =
     (each-most cs m (omega arith))
 
 -- ---- nor is a child deeper than its slot
-held-most : {w : ℕ} (s : Slots w) (k : ℕ) → deepest (held s k) ≤ levelsBelow s
-unfolding deepest held
+held-most : {w : ℕ} (s : Slots w) (k : ℕ) → contentLevels (contentAt s k) ≤ levelsBelow s
+unfolding contentAt
 held-most end k = omega arith
 held-most (empty s) zero = omega arith
 held-most (empty s) (suc k) = held-most s k
@@ -55,7 +63,7 @@ held-most (W.leaf b ps s) (suc k) = held-most s k
 held-most (W.inner b t s) zero = omega arith
 held-most (W.inner b t s) (suc k) = omega (arith, held-most s k)
 
-each-at : (cs : List Child) (m : ℕ) → ((c : ℕ) → c < length cs → deepest (childAt cs c) ≤ m) → deepest cs ≤ m
+each-at : (cs : List Child) (m : ℕ) → ((c : ℕ) → c < length cs → contentLevels (heldAt cs c) ≤ m) → deepest cs ≤ m
 unfolding deepest
 each-at [] m h = omega arith
 each-at (c ∷ cs) m h = omega (arith, h 0 (omega arith), each-at cs m (λ i u. h (suc i) (omega arith)))
@@ -63,5 +71,5 @@ each-at (c ∷ cs) m h = omega (arith, h 0 (omega arith), each-at cs m (λ i u. 
 pub slots-deepest : (child : ℕ → ℕ) (cs : List Child) → OneToOne (length cs) child → levelsBelow (slotsFrom child cs 0 8) ≡ deepest cs
 slots-deepest child cs h = omega (arith, slots-most child cs, each-at cs (levelsBelow (slotsFrom child cs 0 8)) least)
   where
-    least : (c : ℕ) → c < length cs → deepest (childAt cs c) ≤ levelsBelow (slotsFrom child cs 0 8)
+    least : (c : ℕ) → c < length cs → contentLevels (heldAt cs c) ≤ levelsBelow (slotsFrom child cs 0 8)
     least c u = rw (own-slot child cs h c u) at (held-most (slotsFrom child cs 0 8) (h .slot c))

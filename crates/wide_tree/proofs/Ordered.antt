@@ -20,7 +20,7 @@ use Rattle.order.proofs.Slots.{slots-one-to-one}
 use Rattle.wide_layout.specs.Layout as L
 use Rattle.wide_layout.proofs.Index.{slots-rearranged}
 use Rattle.wide_tree.specs.WideTree.{wideOf}
-use Rattle.wide_tree.specs.Ordered.{placing, wideTree}
+use Rattle.wide_tree.specs.Ordered.{placing, wideTreeOf}
 use Rattle.wide_tree.proofs.WideTree.{AllAccepted, Places, Fine}
 use Rattle.wide_tree.proofs.Positions.{wide-positions, wide-index, wide-nodes}
 
@@ -47,17 +47,17 @@ fine ws n h = record { boxes = h .boxes; few = omega (arith, decoded-leaves ws n
 
 module _ (ordered : Bool) (limit : ℕ) (ws : List ℕ) (n : ℕ) (h : Decoded ws n) where
   -- the positions written, in the order in which they are written, are the tree's, each once
-  pub index-list : Perm (L.indexList (wideTree ordered limit (treeOf ws))) (positions (treeOf ws))
+  pub index-list : Perm (L.indexList (wideTreeOf ws ordered limit)) (positions (treeOf ws))
   unfolding wideOf
-  index-list = Perm·trans (slots-rearranged (wideTree ordered limit (treeOf ws) .slots))
+  index-list = Perm·trans (slots-rearranged (wideTreeOf ws ordered limit .slots))
       (wide-positions (placing ordered) limit (places ordered) (treeOf ws) (fine ws n h))
 
-  pub index-upto : Perm (L.indexList (wideTree ordered limit (treeOf ws))) (upto 0 n)
+  pub index-upto : Perm (L.indexList (wideTreeOf ws ordered limit)) (upto 0 n)
   index-upto = Perm·trans index-list (h .held)
 
-  pub index-count : L.indexCount (wideTree ordered limit (treeOf ws)) ≡ n
+  pub index-count : L.indexCount (wideTreeOf ws ordered limit) ≡ n
   index-count = wide-index (placing ordered) limit (places ordered) (treeOf ws) (fine ws n h) ∙ decoded-leaves ws n h
 
   -- a record of max(1, n − 1) nodes has room
-  pub node-count : limit ≤ 3 → L.nodes (wideTree ordered limit (treeOf ws)) ≤ max 1 (n - 1)
+  pub node-count : limit ≤ 3 → L.nodes (wideTreeOf ws ordered limit) ≤ max 1 (n - 1)
   node-count u = rw (decoded-leaves ws n h) at (wide-nodes (placing ordered) limit (places ordered) (treeOf ws) u (fine ws n h))

@@ -9,7 +9,8 @@ use lib.Dec.{ltb}
 use lib.ListN.{length}
 use borrow.Author.Tests.{lt-ltb, le-ltb}
 use Rattle.wide_layout.specs.Wide.{Slots, end, empty}
-use Rattle.wide_layout.specs.Wide as W
+use Rattle.wide_layout.specs.Content.{contentAt}
+use Rattle.wide_layout.specs.Content as C
 use Rattle.wide_tree.specs.WideTree.{Child, leafChild, innerChild, hold, filledSlot, slotsFrom}
 
 -- `child` puts each of n children into one of eight slots, and into no other
@@ -19,51 +20,46 @@ pub record OneToOne (n : ℕ) (child : ℕ → ℕ) : Type 0 where
   pub there : (c : ℕ) → c < n → child (slot c) ≡ c
   pub back : (s : ℕ) → s < 8 → child s < n → slot (child s) ≡ s
 
--- ---- the child in a slot
--- child i of a list, and the child in slot k: a list of one, or none
-abbrev pub childAt : List Child → ℕ → List Child
-childAt [] i = []
-childAt (c ∷ cs) zero = c ∷ []
-childAt (c ∷ cs) (suc i) = childAt cs i
+-- ---- what stands in a slot
+-- a child as a slot's content
+abbrev pub heldAs : Child → C.Content
+heldAs (leafChild b ps) = C.leafChild b ps
+heldAs (innerChild b s) = C.innerChild b s
 
-unfoldable pub held : {w : ℕ} → Slots w → ℕ → List Child
-held end k = []
-held (empty s) zero = []
-held (empty s) (suc k) = held s k
-held (W.leaf b ps s) zero = leafChild b ps ∷ []
-held (W.leaf b ps s) (suc k) = held s k
-held (W.inner b t s) zero = innerChild b t ∷ []
-held (W.inner b t s) (suc k) = held s k
+-- child i of a list, nothing past its end
+abbrev pub heldAt : List Child → ℕ → C.Content
+heldAt [] i = C.none
+heldAt (c ∷ cs) zero = heldAs c
+heldAt (c ∷ cs) (suc i) = heldAt cs i
 
-slot-holds : {w : ℕ} (cs : List Child) (i : ℕ) (s : Slots w) → held (filledSlot cs i s) 0 ≡ childAt cs i
-unfolding held
-slot-holds [] i s = refl
-slot-holds (leafChild b ps ∷ cs) zero s = refl
-slot-holds (innerChild b t ∷ cs) zero s = refl
-slot-holds (leafChild b ps ∷ cs) (suc i) s = slot-holds cs i s
-slot-holds (innerChild b t ∷ cs) (suc i) s = slot-holds cs i s
+slot-first : {w : ℕ} (cs : List Child) (i : ℕ) (s : Slots w) → contentAt (filledSlot cs i s) 0 ≡ heldAt cs i
+unfolding contentAt
+slot-first [] i s = refl
+slot-first (leafChild b ps ∷ cs) zero s = refl
+slot-first (innerChild b t ∷ cs) zero s = refl
+slot-first (c ∷ cs) (suc i) s = slot-first cs i s
 
-slot-next : {w : ℕ} (cs : List Child) (i : ℕ) (s : Slots w) (k : ℕ) → held (filledSlot cs i s) (suc k) ≡ held s k
-unfolding held
-slot-next [] i s k = refl
-slot-next (leafChild b ps ∷ cs) zero s k = refl
-slot-next (innerChild b t ∷ cs) zero s k = refl
-slot-next (leafChild b ps ∷ cs) (suc i) s k = slot-next cs i s k
-slot-next (innerChild b t ∷ cs) (suc i) s k = slot-next cs i s k
+slot-later : {w : ℕ} (cs : List Child) (i : ℕ) (s : Slots w) (k : ℕ) → contentAt (filledSlot cs i s) (suc k) ≡ contentAt s k
+unfolding contentAt
+slot-later [] i s k = refl
+slot-later (leafChild b ps ∷ cs) zero s k = refl
+slot-later (innerChild b t ∷ cs) zero s k = refl
+slot-later (c ∷ cs) (suc i) s k = slot-later cs i s k
 
-held-from : (child : ℕ → ℕ) (cs : List Child) (k w j : ℕ) → j < w → held (slotsFrom child cs k w) j ≡ childAt cs (child (k + j))
+-- slot j of those that are filled from a list of children
+pub from-at : (child : ℕ → ℕ) (cs : List Child) (k w j : ℕ) → j < w → contentAt (slotsFrom child cs k w) j ≡ heldAt cs (child (k + j))
 unfolding slotsFrom
-held-from child cs k zero j h = absurd (omega arith)
-held-from child cs k (suc w) zero h = slot-holds cs (child k) (slotsFrom child cs (suc k) w) ∙ ap (λ (i : ℕ). childAt cs (child i)) (omega arith)
-held-from child cs k (suc w) (suc j) h =
-    slot-next cs (child k) (slotsFrom child cs (suc k) w) j ∙ held-from child cs (suc k) w j (omega arith) ∙ ap (λ (i : ℕ). childAt cs (child i))
+from-at child cs k zero j h = absurd (omega arith)
+from-at child cs k (suc w) zero h = slot-first cs (child k) (slotsFrom child cs (suc k) w) ∙ ap (λ (i : ℕ). heldAt cs (child i)) (omega arith)
+from-at child cs k (suc w) (suc j) h =
+    slot-later cs (child k) (slotsFrom child cs (suc k) w) j ∙ from-at child cs (suc k) w j (omega arith) ∙ ap (λ (i : ℕ). heldAt cs (child i))
     (omega arith)
 
 -- each child is in its own slot
 pub own-slot : (child : ℕ → ℕ) (cs : List Child) (h : OneToOne (length cs) child) (c : ℕ) → c < length cs
-    → held (slotsFrom child cs 0 8) (h .slot c) ≡ childAt cs c
+    → contentAt (slotsFrom child cs 0 8) (h .slot c) ≡ heldAt cs c
 own-slot child cs h c u =
-    held-from child cs 0 8 (h .slot c) (h .below c u) ∙ ap (λ (i : ℕ). childAt cs (child i)) (omega arith) ∙ ap (childAt cs) (h .there c u)
+    from-at child cs 0 8 (h .slot c) (h .below c u) ∙ ap (λ (i : ℕ). heldAt cs (child i)) (omega arith) ∙ ap (heldAt cs) (h .there c u)
 
 -- ---- sums over consecutive numbers
 unfoldable sumFrom : (ℕ → ℕ) → ℕ → ℕ → ℕ

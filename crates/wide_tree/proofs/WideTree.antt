@@ -17,10 +17,11 @@ use Rattle.cost.proofs.Splits.{leaf-kind, leaf-limit}
 use Rattle.children.specs.Gather.{gather, EachTree}
 use Rattle.children.proofs.Gather.{gather-each, gather-width, two-children}
 use Rattle.wide_layout.specs.Wide.{Slots}
+use Rattle.wide_layout.specs.Content.{contentAt}
 use Rattle.wide_layout.specs.Sizes as S
 use Rattle.wide_tree.specs.WideTree.{Child, leafChild, innerChild, childBox, hold, Placing, filledSlots, childAs, contributed, wideChildren}
 use Rattle.wide_tree.specs.WideTree.{rootSlots}
-use Rattle.wide_tree.proofs.Slots.{OneToOne, childAt, held, own-slot, total, slots-total, EachChild, slots-each}
+use Rattle.wide_tree.proofs.Slots.{OneToOne, heldAt, own-slot, total, slots-total, EachChild, slots-each}
 use Rattle.wide_tree.proofs.Gathered.{childOf, share, children-boxes, children-length}
 
 -- ---- the children that a tree opens into, by induction on the tree
@@ -142,8 +143,8 @@ module _ {A : Type 0} (place : Placing) (limit : ℕ) (places : Places place) wh
       (places (boxOf t) (map boxOf g) (rw (length-map g boxOf) (gather-width limit t (o .boxes) (o .few))) (root-accepted t (o .boxes))
       (boxes-accepted g (gather-each limit BoxesAccepted below-accepted t 0 (o .boxes))))
 
-  pub own-slots : (t : Tree A) (o : Fine t) (c : ℕ) → c < length (gather limit t 0) → held (rootSlots place limit t) (one-to-one t o .slot c)
-      ≡ childAt (wideChildren place limit t 0) c
+  pub own-slots : (t : Tree A) (o : Fine t) (c : ℕ) → c < length (gather limit t 0) → contentAt (rootSlots place limit t) (one-to-one t o .slot c)
+      ≡ heldAt (wideChildren place limit t 0) c
   own-slots t o c u = own-slot (place (boxOf t) (map childBox (wideChildren place limit t 0))) (wideChildren place limit t 0) (one-to-one t o) c
       (rw (children-length place limit t 0) u)
 

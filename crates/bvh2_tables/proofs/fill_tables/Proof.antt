@@ -1,11 +1,24 @@
-use mathlib.Core.Path.{sym, _∙_}
+use mathlib.Core.Path.{_≡_, sym, ap, _∙_}
+use mathlib.Core.List.{_++_}
 use native.Mathlib.Omega.{arith}
+use lib.ListN.{length, drop}
+use lib.Seq.{length-take-le}
 use Rattle.cost.specs.Table.{wordOf, costOf}
 use Rattle.cost.proofs.Start.{ready}
+use Rattle.bvh2_tables.specs.Tables.{tableSize, cleared}
+use Rattle.bvh2_tables.proofs.Cleared.{cleared-prefix, cleared-length}
 use Rattle.bvh2_tables.proofs.Filled.{still-cleared, tabled-filled, tabled-cleared, decoded}
 use borrow.Author.Needs.{needs}
 use Rattle.bvh2_tables.proofs.fill_tables.Statement.{statement}
 use Rattle.bvh2_tables.proofs.fill_tables.Tie as tie
+
+-- the decisions once their prefix is cleared
+words-cleared : (w : tie.After-clear) → let k = w .before .before .before .before in let s = k .before in
+    w .clear .last .0 ++ drop (tableSize (s .args .n)) (s .args .decisions .now) ≡ cleared 0 (tableSize (s .args .n)) (s .args .decisions .now)
+words-cleared w =
+    let k = w .before .before .before .before in
+    let s = k .before in
+    cleared-prefix 0 (tableSize (s .args .n)) (s .args .decisions .now) _ (s .pre .2) (w .clear .ensures)
 
 mul-k : tie.Need-mul-k
 mul-k c = search needs
@@ -16,8 +29,14 @@ sub-k c = search needs
 mul-k-2 : tie.Need-mul-k-2
 mul-k-2 c = search needs
 
-clear-words-requires : tie.Need-clear-words-requires
-clear-words-requires c κs = search needs
+slice-relend-prefix-clear : tie.Need-slice-relend-prefix-clear
+slice-relend-prefix-clear c = search needs
+
+slice-aggregate-clear : tie.Need-slice-aggregate-clear
+slice-aggregate-clear c = sym (length-take-le _ _ (omega arith))
+
+clear-requires : tie.Need-clear-requires
+clear-requires c κs = search needs
 
 clear-costs-requires : tie.Need-clear-costs-requires
 clear-costs-requires c κs = search needs
@@ -43,7 +62,7 @@ returns c =
       e,
       (
         tabled-cleared (wordOf (s .args .limit)) ws _ _ _ (λ q. c .if1 .taken (e ∙ q))
-            (still-cleared n (s .args .decisions .now) _ _ (s .pre .1) (w .clear-words .ensures) (x .structure .ensures .1)),
+            (still-cleared n (s .args .decisions .now) _ _ (s .pre .1) (words-cleared w) (x .structure .ensures .1)),
         tabled-cleared (costOf (s .args .limit)) ws _ _ _ (λ q. c .if1 .taken (e ∙ q)) (y .clear-costs .ensures),
       ),
     )
@@ -55,9 +74,10 @@ calculate-cost-requires c κs =
     let y = x .before .before .before .before in
     let w = y .before .before .before .before in
     let s = w .before .before .before .before .before in
-    let d = decoded (s .args .words .now) (s .args .n) (s .pre .0) (s .pre .1) (sym (x .structure .ensures .0) ∙ i .if1 .left) in
-    ready (s .args .words .now) (s .args .n) _ _ d (omega (arith, x .structure .kept .1 .1 .0, w .clear-words .kept .0))
-    (omega (arith, y .clear-costs .kept .0))
+    let n = s .args .n in
+    let d = decoded (s .args .words .now) n (s .pre .0) (s .pre .1) (sym (x .structure .ensures .0) ∙ i .if1 .left) in
+    let kept = ap length (words-cleared w) ∙ cleared-length 0 (tableSize n) (s .args .decisions .now) (s .pre .2) in
+    ready (s .args .words .now) n _ _ d (omega (arith, x .structure .kept .1 .1 .0, kept)) (omega (arith, y .clear-costs .kept .0))
 
 same-length-3 : tie.Need-same-length-3
 same-length-3 c = search needs
@@ -81,7 +101,7 @@ returns-2 c =
       sym e,
       (
         tabled-filled (wordOf (s .args .limit)) ws _ _ _ _ e
-            (still-cleared n (s .args .decisions .now) _ _ (s .pre .1) (w .clear-words .ensures) (x .structure .ensures .1))
+            (still-cleared n (s .args .decisions .now) _ _ (s .pre .1) (words-cleared w) (x .structure .ensures .1))
             (k .calculate-cost .ensures .1 .0),
         tabled-filled (costOf (s .args .limit)) ws _ _ _ _ e (y .clear-costs .ensures) (k .calculate-cost .ensures .1 .1),
       ),
@@ -94,7 +114,9 @@ fill-tables-spec =
     mul-k
     sub-k
     mul-k-2
-    clear-words-requires
+    slice-relend-prefix-clear
+    slice-aggregate-clear
+    clear-requires
     clear-costs-requires
     structure-requires
     same-length

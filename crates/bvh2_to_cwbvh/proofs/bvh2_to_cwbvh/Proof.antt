@@ -1,7 +1,12 @@
-use Prim.Native.Nat.{_<_}
+use mathlib.Core.Path.{sym}
+use Prim.Native.Nat.{_≤_, _<_}
 use native.Mathlib.Omega.{arith}
 use borrow.Author.Needs.{needs}
+use lib.ListN.{length}
+use lib.Seq.{length-take-le}
 use Rattle.bvh2_tables.specs.Call.{Call, leafCount}
+use Rattle.bvh2_tables.specs.Tables.{tableSize}
+use Rattle.bvh2_tables.proofs.Cleared.{cleared-prefix}
 use Rattle.bvh2_to_cwbvh.specs.Answer.{conversionAnswer}
 use Rattle.bvh2_to_cwbvh.proofs.Endings.{Prepares, early-ends, empty-ends, level-ready, emit-ready, few-leaves, words-room, costs-room}
 use Rattle.bvh2_to_cwbvh.proofs.Endings.{deep-ends, written-ends, nodes-fit}
@@ -27,6 +32,17 @@ call q =
 
 prepares : (q : tie.After-prepare) → let l = q .prepare .last .1 .1 .1 .1 .1 in Prepares (call q) (q .prepare .result) (l .0) (l .1 .0)
 prepares q = let e = q .prepare .ensures in record { cause = e .0; decisions = e .1 .0; costs = e .1 .1 }
+
+-- the decisions hold the tables that are cleared again
+decisions-room : (c : tie.Then3) → let s = c .before .before .before in let b = s .before .before .before in let q = b .before .before .before in
+    tableSize (leafCount (call q)) ≤ length (q .prepare .last .1 .1 .1 .1 .1 .0)
+decisions-room c =
+    let s = c .before .before .before in
+    let e = s .before in
+    let b = e .before .before in
+    let q = b .before .before .before in
+    let some : 0 < leafCount (call q) = omega (arith, s .if2 .left) in
+    words-room (prepares q) (e .if1 .left) some
 
 -- ---- the needs
 prepare-requires : tie.Need-prepare-requires
@@ -83,15 +99,14 @@ mul-k-2 c =
     let some : 0 < leafCount (call q) = omega (arith, s .if2 .left) in
     omega (arith, few-leaves (prepares q) (e .if1 .left) some)
 
-clear-words-requires : tie.Need-clear-words-requires
-clear-words-requires c κs =
-    let t = c .before .before in
-    let s = t .before .before in
-    let e = s .before in
-    let b = e .before .before in
-    let q = b .before .before .before in
-    let some : 0 < leafCount (call q) = omega (arith, s .if2 .left) in
-    omega (arith, words-room (prepares q) (e .if1 .left) some)
+slice-relend-prefix-clear : tie.Need-slice-relend-prefix-clear
+slice-relend-prefix-clear c = decisions-room c
+
+slice-aggregate-clear : tie.Need-slice-aggregate-clear
+slice-aggregate-clear c = sym (length-take-le _ _ (decisions-room (c .before)))
+
+clear-requires : tie.Need-clear-requires
+clear-requires c κs = search needs
 
 clear-costs-requires : tie.Need-clear-costs-requires
 clear-costs-requires c κs =
@@ -124,7 +139,7 @@ returns-3 c =
     let q = b .before .before .before in
     let some : 0 < leafCount (call q) = omega (arith, s .if2 .left) in
     deep-ends (prepares q) (e .if1 .left) some (d .deepest-level .result) (d .deepest-level .ensures) _ _
-    (t .if3 .taken) (w .clear-words .ensures) (k .clear-costs .ensures)
+    (t .if3 .taken) (cleared-prefix 0 (tableSize (leafCount (call q))) _ _ (decisions-room t) (w .clear .ensures)) (k .clear-costs .ensures)
 
 emit-requires : tie.Need-emit-requires
 emit-requires c κs =
@@ -194,7 +209,9 @@ bvh2-to-cwbvh-spec =
     mul-k
     sub-k
     mul-k-2
-    clear-words-requires
+    slice-relend-prefix-clear
+    slice-aggregate-clear
+    clear-requires
     clear-costs-requires
     same-length-5
     same-length-6

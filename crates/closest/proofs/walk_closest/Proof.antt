@@ -1,50 +1,38 @@
 use mathlib.Core.Path.{_≡_, refl, sym, ap, _∙_}
-use mathlib.Core.List.{List}
-use Prim.Native.Nat.{ℕ, _≤_}
+use Prim.Native.Nat.{_≤_}
 use native.Mathlib.Omega.{arith}
 use borrow.Author.Needs.{needs}
-use lib.Ieee.{Float}
 use lib.ListN.{length}
 use Rattle.node_slot.specs.Parts.{endsOf}
-use Rattle.record_shape.specs.Record.{nodeCount}
-use Rattle.walk.specs.Queries.{Found, none, closest}
-use Rattle.walk.specs.WordQueries.{OutcomeWords}
-use Rattle.walk.proofs.WordEnds.{stepsLeftWords}
-use Rattle.walk_record.specs.WalkRay.{WalkRay, byBoxes}
-use Rattle.walk_record.specs.Record.{FieldsFit, nodeWordsAt}
+use Rattle.walk.specs.Queries.{none, closest}
+use Rattle.walk_record.specs.Record.{FieldsFit}
 use Rattle.walk_record.proofs.Laws.{bytes-fit}
-use Rattle.advance.specs.Turn.{walkerOf}
-use Rattle.query.proofs.Leads.{Leads}
 use Rattle.query.proofs.Begins.{walkable, leads-begun}
 use Rattle.closest.specs.Panes.{paneOf, nearer, refusedClosest, closestFound, closestWalk, closestAnswer, closestResult}
-use Rattle.closest.proofs.Queries.{ends-done, ends-refused, foundBy, Held, closest-held, AtPosition, at-there, AfterSearch}
+use Rattle.closest.proofs.Queries.{Ends, LeadsBy, stepsBy, Setting, LeadsIn, closestIn, AtPosition, at-there, AfterSearch, after-search}
+use Rattle.closest.proofs.Queries.{ends-done, ends-refused, foundBy, Held, closest-held}
 use Rattle.closest.proofs.Queries.{closest-fails, closest-lowers, closest-passes}
-use Rattle.closest.proofs.Queries.{search-tested, search-done, search-refused, search-no-position, searched}
+use Rattle.closest.proofs.Queries.{search-tested, search-done, search-refused, search-no-position}
 use Rattle.closest.proofs.walk_closest.Statement.{statement}
 use Rattle.closest.proofs.walk_closest.Tie as tie
 
 abbrev Inv-loop2 : tie.InvT-loop2
 Inv-loop2 bytes indices panes n octant e ray₀ walk₀ stack answer₀ ray walk answer =
-    Held answer × (e ≡ endsOf (ray .direction))
-    × (stepsLeftWords (nodeCount bytes) (walkerOf ray octant walk stack) ≤ stepsLeftWords (nodeCount bytes) (walkerOf ray₀ octant walk₀ stack))
-    × ((goal : OutcomeWords WalkRay (Found Float))
-    → Leads (nodeCount bytes) (nodeWordsAt bytes byBoxes) n (closest (paneOf indices panes) nearer) goal
-    (walkerOf ray₀ octant walk₀ stack) (foundBy answer₀)
-    → Leads (nodeCount bytes) (nodeWordsAt bytes byBoxes) n (closest (paneOf indices panes) nearer) goal
-    (walkerOf ray octant walk stack) (foundBy answer))
+    let react = closest (paneOf indices panes) nearer in
+    Held answer × (e ≡ endsOf (ray .direction)) × (stepsBy bytes octant ray walk stack ≤ stepsBy bytes octant ray₀ walk₀ stack)
+    × ((goal : Ends) → LeadsBy bytes n octant react goal ray₀ walk₀ stack (foundBy answer₀)
+    → LeadsBy bytes n octant react goal ray walk stack (foundBy answer))
 
 abbrev μ-loop2 : tie.MeasureT-loop2
-μ-loop2 bytes indices panes n octant e ray₀ walk₀ stack answer₀ ray walk answer = stepsLeftWords (nodeCount bytes) (walkerOf ray octant walk stack)
+μ-loop2 bytes indices panes n octant e ray₀ walk₀ stack answer₀ ray walk answer = stepsBy bytes octant ray walk stack
 
 abbrev Inv-loop : tie.InvT-loop
 Inv-loop bytes indices panes n octant e ray₀ walk₀ stack₀ answer₀ ray walk stack answer =
     Held answer × (length stack ≡ 32) × (e ≡ endsOf (ray .direction))
-    × Leads (nodeCount bytes) (nodeWordsAt bytes byBoxes) n (closest (paneOf indices panes) nearer) (closestWalk bytes indices panes ray₀)
-    (walkerOf ray octant walk stack) (foundBy answer)
+    × LeadsBy bytes n octant (closest (paneOf indices panes) nearer) (closestWalk bytes indices panes ray₀) ray walk stack (foundBy answer)
 
 abbrev μ-loop : tie.MeasureT-loop
-μ-loop bytes indices panes n octant e ray₀ walk₀ stack₀ answer₀ ray walk stack answer = stepsLeftWords (nodeCount bytes)
-    (walkerOf ray octant walk stack)
+μ-loop bytes indices panes n octant e ray₀ walk₀ stack₀ answer₀ ray walk stack answer = stepsBy bytes octant ray walk stack
 
 -- ---- places further back
 
@@ -52,24 +40,27 @@ abbrev μ-loop : tie.MeasureT-loop
 abbrev start : tie.After-begin Inv-loop2 μ-loop2 Inv-loop μ-loop → tie.After-shared-slice-known Inv-loop2 μ-loop2 Inv-loop μ-loop
 start b = let o = b .before .before in o .before .before .before
 
--- at the head of the position loop
+-- the record's fields are in their ranges
+fits : (c : tie.After-shared-slice-known Inv-loop2 μ-loop2 Inv-loop μ-loop) → FieldsFit (c .before .args .bytes .now)
+fits c = bytes-fit _ (λ j. c .shared-slice-known .given j .fits)
+
+-- the same from the head of the position loop
 abbrev entry : tie.At-loop2 Inv-loop2 μ-loop2 Inv-loop μ-loop → tie.After-shared-slice-known Inv-loop2 μ-loop2 Inv-loop μ-loop
 entry l = start (l .before .before)
 
-abbrev octantAt : tie.At-loop2 Inv-loop2 μ-loop2 Inv-loop μ-loop → ℕ
-octantAt l = let b = l .before .before in b .before .before .octant .result
+-- what the walk is over, and how it ends
+abbrev setting : tie.At-loop2 Inv-loop2 μ-loop2 Inv-loop μ-loop → Setting
+setting l = let b = l .before .before in let k = entry l in record {
+  bytes = k .before .args .bytes .now;
+  indices = k .before .args .indices .now;
+  panes = k .before .args .panes .now;
+  octant = b .before .before .octant .result;
+  sized = k .before .pre .0;
+  fit = fits k;
+}
 
-abbrev bytesAt : tie.At-loop2 Inv-loop2 μ-loop2 Inv-loop μ-loop → List ℕ
-bytesAt l = entry l .before .args .bytes .now
-
-abbrev indicesAt : tie.At-loop2 Inv-loop2 μ-loop2 Inv-loop μ-loop → List ℕ
-indicesAt l = entry l .before .args .indices .now
-
-abbrev panesAt : tie.At-loop2 Inv-loop2 μ-loop2 Inv-loop μ-loop → List Float
-panesAt l = entry l .before .args .panes .now
-
-abbrev goalAt : tie.At-loop2 Inv-loop2 μ-loop2 Inv-loop μ-loop → OutcomeWords WalkRay (Found Float)
-goalAt l = closestWalk (bytesAt l) (indicesAt l) (panesAt l) (entry l .before .args .start)
+abbrev goalAt : tie.At-loop2 Inv-loop2 μ-loop2 Inv-loop μ-loop → Ends
+goalAt l = let k = setting l in closestWalk (k .bytes) (k .indices) (k .panes) (entry l .before .args .start)
 
 -- the head of the position loop, once a position is met, and after a search
 abbrev metIn : tie.After-rest-of Inv-loop2 μ-loop2 Inv-loop μ-loop → tie.At-loop2 Inv-loop2 μ-loop2 Inv-loop μ-loop
@@ -81,53 +72,36 @@ soughtIn c = let s = c .before .before in let i = s .before .before .before in i
 -- ---- what is known
 
 -- at the head of the position loop: what is left leads to the outcome
-leads : (l : tie.At-loop2 Inv-loop2 μ-loop2 Inv-loop μ-loop)
-    → Leads (nodeCount (bytesAt l)) (nodeWordsAt (bytesAt l) byBoxes) (length (indicesAt l)) (closest (paneOf (indicesAt l) (panesAt l)) nearer)
-    (goalAt l) (walkerOf (l .loop2 .ray) (octantAt l) (l .loop2 .walk) (l .before .loop .stack)) (foundBy (l .loop2 .answer))
+leads : (l : tie.At-loop2 Inv-loop2 μ-loop2 Inv-loop μ-loop) → let k = setting l in
+    LeadsIn k (closestIn k) (goalAt l) (l .loop2 .ray) (l .loop2 .walk) (l .before .loop .stack) (foundBy (l .loop2 .answer))
 leads l = l .loop2 .inv .3 _ (l .before .loop .inv .3)
 
-fits : (c : tie.After-shared-slice-known Inv-loop2 μ-loop2 Inv-loop μ-loop) → FieldsFit (c .before .args .bytes .now)
-fits c = bytes-fit _ (λ j. c .shared-slice-known .given j .fits)
-
 -- once a position is met, for any outcome to which the position loop led where it began
-atAny : (c : tie.After-rest-of Inv-loop2 μ-loop2 Inv-loop μ-loop) → let l = metIn c in (goal : OutcomeWords WalkRay (Found Float))
-    → Leads (nodeCount (bytesAt l)) (nodeWordsAt (bytesAt l) byBoxes) (length (indicesAt l)) (closest (paneOf (indicesAt l) (panesAt l)) nearer) goal
-    (walkerOf (l .before .loop .ray) (octantAt l) (l .before .loop .walk) (l .before .loop .stack)) (foundBy (l .before .loop .answer))
-    → AtPosition (indicesAt l) (panesAt l) (bytesAt l) (closest (paneOf (indicesAt l) (panesAt l)) nearer) goal (l .loop2 .ray) (octantAt l)
-    (l .loop2 .walk) (l .before .loop .stack) (foundBy (l .loop2 .answer))
+atAny : (c : tie.After-rest-of Inv-loop2 μ-loop2 Inv-loop μ-loop) → let l = metIn c in let k = setting l in (goal : Ends)
+    → LeadsIn k (closestIn k) goal (l .before .loop .ray) (l .before .loop .walk) (l .before .loop .stack) (foundBy (l .before .loop .answer))
+    → AtPosition k (closestIn k) goal (l .loop2 .ray) (l .loop2 .walk) (l .before .loop .stack) (foundBy (l .loop2 .answer))
     (c .before .before .first-position .result) (c .before .position-met .result) (c .rest-of .result)
-atAny c goal g = let l = metIn c in record {
-  sized = entry l .before .pre .0;
-  fit = fits (entry l);
-  leads = l .loop2 .inv .3 goal g;
+atAny c goal g = record {
+  leads = metIn c .loop2 .inv .3 goal g;
   held = let t = c .before .before .before in t .before .if1 .taken;
   named = c .before .before .first-position .ensures;
   pane = c .before .position-met .ensures;
   rest = c .rest-of .ensures;
 }
 
-at : (c : tie.After-rest-of Inv-loop2 μ-loop2 Inv-loop μ-loop) → let l = metIn c in
-    AtPosition (indicesAt l) (panesAt l) (bytesAt l) (closest (paneOf (indicesAt l) (panesAt l)) nearer) (goalAt l) (l .loop2 .ray) (octantAt l)
-    (l .loop2 .walk) (l .before .loop .stack) (foundBy (l .loop2 .answer))
+-- once a position is met
+at : (c : tie.After-rest-of Inv-loop2 μ-loop2 Inv-loop μ-loop) → let l = metIn c in let k = setting l in
+    AtPosition k (closestIn k) (goalAt l) (l .loop2 .ray) (l .loop2 .walk) (l .before .loop .stack) (foundBy (l .loop2 .answer))
     (c .before .before .first-position .result) (c .before .position-met .result) (c .rest-of .result)
 at c = atAny c _ (metIn c .before .loop .inv .3)
 
-after : (c : tie.After-walk-after Inv-loop2 μ-loop2 Inv-loop μ-loop) → let l = soughtIn c in let s = c .before .before in
-    AfterSearch (bytesAt l) (indicesAt l) (closest (paneOf (indicesAt l) (panesAt l)) nearer) (goalAt l) (l .loop2 .ray) (octantAt l)
-    (l .loop2 .walk) (l .before .loop .stack) (foundBy (l .loop2 .answer))
+-- after a search
+after : (c : tie.After-walk-after Inv-loop2 μ-loop2 Inv-loop μ-loop) → let l = soughtIn c in let k = setting l in let s = c .before .before in
+    AfterSearch k (closestIn k) (goalAt l) (l .loop2 .ray) (l .loop2 .walk) (l .before .loop .stack) (foundBy (l .loop2 .answer))
     (record { answer = s .seek .result .answer; walk = c .walk-after .result }) (s .seek .last .1 .1 .1 .1 .1 .1 .1 .1 .1 .0)
-after c = let l = soughtIn c in let s = c .before .before in record {
-  sized = entry l .before .pre .0;
-  fit = fits (entry l);
-  leads = leads l;
-  none = s .before .before .before .if1 .left;
-  most = 0xffff_ffff;
-  search =
-      searched (nodeCount (bytesAt l)) (nodeWordsAt (bytesAt l) byBoxes) 0xffff_ffff (length (indicesAt l)) (l .loop2 .ray) (octantAt l)
-      (l .loop2 .walk)
-      (l .before .loop .stack) (s .before .before .before .if1 .left)
-      (c .walk-after .result) (s .seek .result) (c .walk-after .ensures) _ (s .seek .ensures);
-}
+after c =
+    let s = c .before .before in
+    after-search 0xffff_ffff (leads (soughtIn c)) (s .before .before .before .if1 .left) _ _ (c .walk-after .ensures) _ (s .seek .ensures)
 
 -- ---- the needs
 
@@ -176,7 +150,7 @@ cast-t32 : tie.Need-cast-t32 Inv-loop2 μ-loop2 Inv-loop μ-loop
 cast-t32 c =
     let m = c .before .before .before in
     let r = m .before .before .before in
-    omega (arith, at-there (at r) _ (m .met .given .1) .0, entry (metIn r) .before .pre .0 .positions)
+    omega (arith, at-there (at r) _ (m .met .given .1) .0, setting (metIn r) .sized .positions)
 
 loop2-less : tie.Need-loop2-less Inv-loop2 μ-loop2 Inv-loop μ-loop
 loop2-less c =
@@ -240,8 +214,7 @@ seek-requires c κs =
     let back4 = back3 .before in
     let l = back4 in
     let b = l .before .before in
-    let w = walkerOf (l .loop2 .ray) (octantAt l) (l .loop2 .walk) (l .before .loop .stack) in
-    walkable (bytesAt l) (length (indicesAt l)) (entry l .before .pre .0) w (leads l .way) (b .before .near-ends .result) (l .loop2 .inv .1)
+    walkable _ _ (setting l .sized) _ (leads l .way) (b .before .near-ends .result) (l .loop2 .inv .1)
 
 walk-after-requires : tie.Need-walk-after-requires Inv-loop2 μ-loop2 Inv-loop μ-loop
 walk-after-requires c κs = search needs

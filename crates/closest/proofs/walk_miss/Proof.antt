@@ -1,47 +1,37 @@
 use mathlib.Core.Path.{_≡_, refl, sym, ap, _∙_}
-use mathlib.Core.List.{List}
-use Prim.Native.Nat.{ℕ, _≤_}
+use Prim.Native.Nat.{_≤_}
 use native.Mathlib.Omega.{arith}
 use borrow.Author.Needs.{needs}
-use lib.Ieee.{Float}
 use lib.ListN.{length}
 use Rattle.node_slot.specs.Parts.{endsOf}
-use Rattle.record_shape.specs.Record.{nodeCount}
-use Rattle.walk.specs.Queries.{Found, none, miss}
-use Rattle.walk.specs.WordQueries.{OutcomeWords}
-use Rattle.walk.proofs.WordEnds.{stepsLeftWords}
-use Rattle.walk_record.specs.WalkRay.{WalkRay, byBoxes}
-use Rattle.walk_record.specs.Record.{FieldsFit, nodeWordsAt}
+use Rattle.walk.specs.Queries.{none, miss}
+use Rattle.walk_record.specs.Record.{FieldsFit}
 use Rattle.walk_record.proofs.Laws.{bytes-fit}
-use Rattle.advance.specs.Turn.{walkerOf}
-use Rattle.query.proofs.Leads.{Leads}
 use Rattle.query.proofs.Begins.{walkable, leads-begun}
 use Rattle.closest.specs.declared.Occlusion.{Occlusion}
 use Rattle.closest.specs.declared.Occlusion.the-variants.{Missed}
 use Rattle.closest.specs.Panes.{paneOf, nearer, refusedMiss, missFound, missWalk, missAnswer, missResult}
-use Rattle.closest.proofs.Queries.{ends-done, ends-refused, AtPosition, AfterSearch, miss-fails, miss-blocks, miss-passes}
-use Rattle.closest.proofs.Queries.{search-tested, search-done, search-refused, search-no-position, searched}
+use Rattle.closest.proofs.Queries.{Ends, LeadsBy, stepsBy, Setting, missIn, AtPosition, AfterSearch, after-search}
+use Rattle.closest.proofs.Queries.{ends-done, ends-refused, miss-fails, miss-blocks, miss-passes}
+use Rattle.closest.proofs.Queries.{search-tested, search-done, search-refused, search-no-position}
 use Rattle.closest.proofs.walk_miss.Statement.{statement}
 use Rattle.closest.proofs.walk_miss.Tie as tie
 
 abbrev Inv-loop : tie.InvT-loop
 Inv-loop bytes indices panes ray n octant e walk₀ stack answer₀ walk answer =
-    (answer ≡ Missed)
-    × (stepsLeftWords (nodeCount bytes) (walkerOf ray octant walk stack) ≤ stepsLeftWords (nodeCount bytes) (walkerOf ray octant walk₀ stack))
-    × Leads (nodeCount bytes) (nodeWordsAt bytes byBoxes) n (miss (paneOf indices panes) nearer) (missWalk bytes indices panes ray)
-    (walkerOf ray octant walk stack) none
+    (answer ≡ Missed) × (stepsBy bytes octant ray walk stack ≤ stepsBy bytes octant ray walk₀ stack)
+    × LeadsBy bytes n octant (miss (paneOf indices panes) nearer) (missWalk bytes indices panes ray) ray walk stack none
 
 abbrev μ-loop : tie.MeasureT-loop
-μ-loop bytes indices panes ray n octant e walk₀ stack answer₀ walk answer = stepsLeftWords (nodeCount bytes) (walkerOf ray octant walk stack)
+μ-loop bytes indices panes ray n octant e walk₀ stack answer₀ walk answer = stepsBy bytes octant ray walk stack
 
 abbrev Inv-walk : tie.InvT-walk
 Inv-walk bytes indices panes ray n octant e walk₀ stack₀ answer₀ walk stack answer =
     (answer ≡ Missed) × (length stack ≡ 32) × (e ≡ endsOf (ray .direction))
-    × Leads (nodeCount bytes) (nodeWordsAt bytes byBoxes) n (miss (paneOf indices panes) nearer) (missWalk bytes indices panes ray)
-    (walkerOf ray octant walk stack) none
+    × LeadsBy bytes n octant (miss (paneOf indices panes) nearer) (missWalk bytes indices panes ray) ray walk stack none
 
 abbrev μ-walk : tie.MeasureT-walk
-μ-walk bytes indices panes ray n octant e walk₀ stack₀ answer₀ walk stack answer = stepsLeftWords (nodeCount bytes) (walkerOf ray octant walk stack)
+μ-walk bytes indices panes ray n octant e walk₀ stack₀ answer₀ walk stack answer = stepsBy bytes octant ray walk stack
 
 -- ---- places further back
 
@@ -49,24 +39,27 @@ abbrev μ-walk : tie.MeasureT-walk
 abbrev start : tie.After-begin Inv-loop μ-loop Inv-walk μ-walk → tie.After-shared-slice-known Inv-loop μ-loop Inv-walk μ-walk
 start b = let o = b .before .before in o .before .before .before
 
--- at the head of the position loop
+-- the record's fields are in their ranges
+fits : (c : tie.After-shared-slice-known Inv-loop μ-loop Inv-walk μ-walk) → FieldsFit (c .before .args .bytes .now)
+fits c = bytes-fit _ (λ j. c .shared-slice-known .given j .fits)
+
+-- the same from the head of the position loop
 abbrev entry : tie.At-loop Inv-loop μ-loop Inv-walk μ-walk → tie.After-shared-slice-known Inv-loop μ-loop Inv-walk μ-walk
 entry l = start (l .before .before)
 
-abbrev octantAt : tie.At-loop Inv-loop μ-loop Inv-walk μ-walk → ℕ
-octantAt l = let b = l .before .before in b .before .before .octant .result
+-- what the walk is over, and how it ends
+abbrev setting : tie.At-loop Inv-loop μ-loop Inv-walk μ-walk → Setting
+setting l = let b = l .before .before in let k = entry l in record {
+  bytes = k .before .args .bytes .now;
+  indices = k .before .args .indices .now;
+  panes = k .before .args .panes .now;
+  octant = b .before .before .octant .result;
+  sized = k .before .pre .0;
+  fit = fits k;
+}
 
-abbrev bytesAt : tie.At-loop Inv-loop μ-loop Inv-walk μ-walk → List ℕ
-bytesAt l = entry l .before .args .bytes .now
-
-abbrev indicesAt : tie.At-loop Inv-loop μ-loop Inv-walk μ-walk → List ℕ
-indicesAt l = entry l .before .args .indices .now
-
-abbrev panesAt : tie.At-loop Inv-loop μ-loop Inv-walk μ-walk → List Float
-panesAt l = entry l .before .args .panes .now
-
-abbrev goalAt : tie.At-loop Inv-loop μ-loop Inv-walk μ-walk → OutcomeWords WalkRay (Found Float)
-goalAt l = missWalk (bytesAt l) (indicesAt l) (panesAt l) (entry l .before .args .ray)
+abbrev goalAt : tie.At-loop Inv-loop μ-loop Inv-walk μ-walk → Ends
+goalAt l = let k = setting l in missWalk (k .bytes) (k .indices) (k .panes) (entry l .before .args .ray)
 
 -- the head of the position loop, once a position is met, and after a search
 abbrev metIn : tie.After-rest-of Inv-loop μ-loop Inv-walk μ-walk → tie.At-loop Inv-loop μ-loop Inv-walk μ-walk
@@ -77,39 +70,25 @@ soughtIn c = let s = c .before .before in let i = s .before .before .before in i
 
 -- ---- what is known
 
-fits : (c : tie.After-shared-slice-known Inv-loop μ-loop Inv-walk μ-walk) → FieldsFit (c .before .args .bytes .now)
-fits c = bytes-fit _ (λ j. c .shared-slice-known .given j .fits)
-
-at : (c : tie.After-rest-of Inv-loop μ-loop Inv-walk μ-walk) → let l = metIn c in
-    AtPosition (indicesAt l) (panesAt l) (bytesAt l) (miss (paneOf (indicesAt l) (panesAt l)) nearer) (goalAt l) (entry l .before .args .ray)
-    (octantAt l) (l .loop .walk) (l .before .walk .stack) none
+-- once a position is met
+at : (c : tie.After-rest-of Inv-loop μ-loop Inv-walk μ-walk) → let l = metIn c in let k = setting l in
+    AtPosition k (missIn k) (goalAt l) (entry l .before .args .ray) (l .loop .walk) (l .before .walk .stack) none
     (c .before .before .first-position .result) (c .before .position-met .result) (c .rest-of .result)
-at c = let l = metIn c in record {
-  sized = entry l .before .pre .0;
-  fit = fits (entry l);
-  leads = l .loop .inv .2;
+at c = record {
+  leads = metIn c .loop .inv .2;
   held = let t = c .before .before .before in t .before .if1 .taken;
   named = c .before .before .first-position .ensures;
   pane = c .before .position-met .ensures;
   rest = c .rest-of .ensures;
 }
 
-after : (c : tie.After-walk-after Inv-loop μ-loop Inv-walk μ-walk) → let l = soughtIn c in let s = c .before .before in
-    AfterSearch (bytesAt l) (indicesAt l) (miss (paneOf (indicesAt l) (panesAt l)) nearer) (goalAt l) (entry l .before .args .ray)
-    (octantAt l) (l .loop .walk) (l .before .walk .stack) none
+-- after a search
+after : (c : tie.After-walk-after Inv-loop μ-loop Inv-walk μ-walk) → let l = soughtIn c in let k = setting l in let s = c .before .before in
+    AfterSearch k (missIn k) (goalAt l) (entry l .before .args .ray) (l .loop .walk) (l .before .walk .stack) none
     (record { answer = s .seek .result .answer; walk = c .walk-after .result }) (s .seek .last .1 .1 .1 .1 .1 .1 .1 .1 .1 .0)
-after c = let l = soughtIn c in let s = c .before .before in record {
-  sized = entry l .before .pre .0;
-  fit = fits (entry l);
-  leads = l .loop .inv .2;
-  none = s .before .before .before .if1 .left;
-  most = 0xffff_ffff;
-  search =
-      searched (nodeCount (bytesAt l)) (nodeWordsAt (bytesAt l) byBoxes) 0xffff_ffff (length (indicesAt l)) (entry l .before .args .ray)
-      (octantAt l) (l .loop .walk)
-      (l .before .walk .stack) (s .before .before .before .if1 .left)
-      (c .walk-after .result) (s .seek .result) (c .walk-after .ensures) _ (s .seek .ensures);
-}
+after c =
+    let s = c .before .before in
+    after-search 0xffff_ffff (soughtIn c .loop .inv .2) (s .before .before .before .if1 .left) _ _ (c .walk-after .ensures) _ (s .seek .ensures)
 
 -- ---- the needs
 
@@ -190,9 +169,7 @@ seek-requires c κs =
     let back4 = back3 .before in
     let l = back4 in
     let b = l .before .before in
-    let w = walkerOf (entry l .before .args .ray) (octantAt l) (l .loop .walk) (l .before .walk .stack) in
-    walkable (bytesAt l) (length (indicesAt l)) (entry l .before .pre .0) w (l .loop .inv .2 .way)
-    (b .before .near-ends .result) (l .before .walk .inv .2)
+    walkable _ _ (setting l .sized) _ (l .loop .inv .2 .way) (b .before .near-ends .result) (l .before .walk .inv .2)
 
 walk-after-requires : tie.Need-walk-after-requires Inv-loop μ-loop Inv-walk μ-walk
 walk-after-requires c κs = search needs
