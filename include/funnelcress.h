@@ -37,7 +37,7 @@ extern "C" {
 /* Sizes. */
 #define FUNNELCRESS_NODE_BYTES 80      /* bytes of a record node */
 #define FUNNELCRESS_TREE_WORDS 7       /* words of a tree node: lower and upper corner as float bits, link */
-#define FUNNELCRESS_RAY_FLOATS 8       /* origin x y z, direction x y z, tmin, tmax */
+#define FUNNELCRESS_RAY_FLOATS 8       /* origin x y z, direction x y z, tmin, tmax: what counts is not before tmin, and below tmax */
 #define FUNNELCRESS_PANE_FLOATS 6      /* min x y z, max x y z */
 #define FUNNELCRESS_MAX_POSITIONS 65536
 #define FUNNELCRESS_MAX_NODES 65535

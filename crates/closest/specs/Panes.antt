@@ -1,6 +1,5 @@
--- Closest and miss (01, "Walking"; "Causes of refusal", 6 and 10): a walk over panes that are boxes of six floats, a position's pane being the one
--- that
--- its index word names.
+-- Closest and miss (01, "Walking"; "Causes of refusal", 6 and 10; 02, [1]): a walk over panes that are boxes of six floats, a position's pane being
+-- the one that its index word names.
 use mathlib.Core.Bool.{Bool, cond}
 use mathlib.Core.List.{List}
 use Prim.Native.Nat.{ℕ, _/_, _%_}
@@ -57,7 +56,7 @@ pub data ClosestAnswer : Type 0 where
   noHit : ClosestAnswer
   refusedClosest : (number : ℕ) → ClosestAnswer
 
--- miss: no pane is nearer than the reach, or one is, or a refusal
+-- miss: no pane's distance counts, or one does, or a refusal
 pub data MissAnswer : Type 0 where
   missed : MissAnswer
   blocked : MissAnswer
@@ -81,7 +80,7 @@ module _ (bytes indices : List ℕ) (panes : List Float) (r : Ray) where
   abbrev pub paneCause : ℕ
   paneCause = entryCause (eqb (length panes % 6) 0) (length bytes) (length indices) 0 r
 
-  -- the walks that they take: closest notes and tells each distance below the reach, so of equal ones the first counts; miss stops at the first
+  -- the walks that they take: closest notes and tells each distance that counts, so of equal ones the first does; miss stops at the first
   unfoldable pub closestWalk : OutcomeWords WalkRay (Found Float)
   unfolding paneOf queryAt
   closestWalk = queryAt bytes byBoxes (closest (paneOf indices panes) nearer) none (length indices) (walkRay r)

@@ -21,7 +21,7 @@ pub enum ClosestHit {
     Refused(u32),
 }
 
-// How miss ends: no pane is nearer than the reach, or one is, or refused for the cause of this number.
+// How miss ends: no pane's distance counts, or one does, or refused for the cause of this number.
 pub enum Occlusion {
     Missed,
     Blocked,
@@ -139,7 +139,7 @@ fn walk_closest(bytes: &[u8], indices: &[u32], panes: &[f32], start: Ray) -> Clo
     }
 }
 
-// The first of the panes along a ray: of those that the walk reports, the nearest that is nearer than the reach, the first met of equal ones.
+// The first of the panes along a ray: of those that the walk reports, the nearest whose distance counts, the first met of equal ones.
 pub fn closest(
     record: &[u8],
     indices: &[u32],
@@ -172,7 +172,7 @@ fn refused_miss(cause: u32) -> MissFound
     MissFound { answer, tests: 0 }
 }
 
-// Miss's walk over a record with nodes, where nothing refuses it on entry: the first pane nearer than the reach leaves both loops.
+// Miss's walk over a record with nodes, where nothing refuses it on entry: the first pane whose distance counts leaves both loops.
 fn walk_miss(bytes: &[u8], indices: &[u32], panes: &[f32], ray: Ray) -> MissFound
     requires { ⌜ RecordSized (now bytes) (length (now indices)) × (forgedRay (walkRay ray) ≡ false) ⌝ }
     ensures { λ r. ⌜ missResult r ≡ missWalked (now (bytes .entry)) (now (indices .entry)) (now (panes .entry)) ray ⌝ }
@@ -234,7 +234,7 @@ fn walk_miss(bytes: &[u8], indices: &[u32], panes: &[f32], ray: Ray) -> MissFoun
     MissFound { answer, tests }
 }
 
-// Whether a ray meets no pane nearer than its reach: the walk ends at the first that is.
+// Whether a ray meets no pane at a distance that counts: the walk ends at the first that is.
 pub fn miss(
     record: &[u8],
     indices: &[u32],

@@ -10,7 +10,7 @@ ghost use Rattle.node_slot.specs.Parts.{extentsOf, pointOf, rayGridOf, n
 use ray::Ray;
 use ray::Vec3;
 
-// No slot counts nearer than this.
+// No slot counts nearer than this, whatever the ray's start.
 const NEAR_LIMIT: f32 = 0.0001;
 
 // The ray in a node's grid: what a step of the grid adds to the distance on each axis, and the distances of p's planes.

@@ -66,7 +66,7 @@ started r = elim (acceptedRay r) [
 
 -- ---- telling
 
--- a distance below the reach becomes the reach; nothing else changes, and nothing is refused
+-- a distance that counts becomes the reach; nothing else changes, and nothing is refused
 abbrev pub toldWalker : Float → WalkerWords WalkRay → WalkerWords WalkRay
 toldWalker t w = tellWords (nodeWordsAt [] byBoxes) t w
 

@@ -85,7 +85,7 @@ pub data Found (Distance : Type 0) : Type 0 where
   fault : ℕ → Found Distance
 
 module _ {RayData Distance : Type 0} (pane : ℕ → RayData → Pane Distance) (nearer : Distance → RayData → Bool) where
-  -- closest: a distance below the reach is noted and told, so that of equal distances the first counts
+  -- closest: a nearer distance is noted and told, so that of equal distances the first counts
   abbrev pub lower : Bool → ℕ → Distance → Found Distance → Reaction Distance (Found Distance)
   lower true p t x = record { accumulator = hit p t; tells = t ∷ []; stop = false }
   lower false p t x = record { accumulator = x; tells = []; stop = false }
@@ -97,7 +97,7 @@ module _ {RayData Distance : Type 0} (pane : ℕ → RayData → Pane Distance) 
   abbrev pub closest : ℕ → RayData → Found Distance → Reaction Distance (Found Distance)
   closest p r x = lowerAt (pane p r) p r x
 
-  -- miss: the first distance below the reach ends it
+  -- miss: the first nearer distance ends it
   abbrev pub blockAt : Pane Distance → ℕ → RayData → Found Distance → Reaction Distance (Found Distance)
   blockAt (distance t) p r x = record { accumulator = cond (nearer t r) (hit p t) x; tells = []; stop = nearer t r }
   blockAt (faulty e) p r x = record { accumulator = fault e; tells = []; stop = true }

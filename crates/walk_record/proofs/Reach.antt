@@ -2,17 +2,21 @@
 -- whatever is told, the ray then held reaches no node and passes no position that it did not before.
 use mathlib.Core.Bool.{Bool, true, false, cond}
 use mathlib.Core.List.{List}
-use mathlib.Core.Path.{_≡_, refl}
+use mathlib.Core.Logic.{_↔_}
+use mathlib.Core.Path.{_≡_, refl, sym, _∙_}
 use Prim.Native.Nat.{ℕ}
 use lib.ListN.{getD}
-use lib.Ieee.{Float}
+use lib.Ieee.{Float, lt}
+use Rattle.float.specs.Compare.{plusZero}
 use Rattle.float.proofs.Order.{le-of-lt}
 use Rattle.ray.specs.declared.Ray.{Ray}
-use Rattle.ray.specs.Ray.{reaching, counts}
+use Rattle.ray.specs.Ray.{startingAt, reaching, counts}
 use Rattle.ray.proofs.Counts.{counts-below}
 use Rattle.node.specs.Node.{noSlot}
+use Rattle.node_slot.specs.Slot.{leastLimit}
 use Rattle.node_slot.specs.Mask.{passesSlot}
 use Rattle.record_shape.specs.Record.{Nodes, nodesAt}
+use Rattle.node_hits.proofs.Limit.{passes-early}
 use Rattle.node_hits.proofs.Reach.{Narrower, lower-reach, passes-fewer}
 use Rattle.walk.proofs.Slots.{fewer-reached, fewer-passed}
 use Rattle.walk_record.specs.Record.{slotsAt}
@@ -28,6 +32,28 @@ module _ (bytes : List ℕ) (n : ℕ) (r s : Ray) (narrower : Narrower r s) wher
 
   pub narrower-meets-fewer : (p : ℕ) → Passed bytes n r p → Passed bytes n s p
   narrower-meets-fewer = fewer-passed (slotsAt bytes byBoxes n) (walkRay r) (walkRay s) (passed-slot (nodesAt bytes) r s narrower) (λ p e. e)
+
+-- ---- starts up to 0.0001
+
+-- such a ray reaches and passes what the ray with start 0 does
+module _ (bytes : List ℕ) (n : ℕ) (r : Ray) (early : lt leastLimit (r .tmin) ≡ false) where
+  abbrev fromZero : Ray
+  fromZero = startingAt plusZero r
+
+  same-slot : (v j : ℕ) → passesSlot (nodesAt bytes .node v) r j ≡ passesSlot (nodesAt bytes .node v) fromZero j
+  same-slot v j = passes-early r early (nodesAt bytes .node v) (getD (nodesAt bytes .node v .slots) j noSlot)
+
+  pub early-reaches-same : (v : ℕ) → Reached bytes n r v ↔ Reached bytes n fromZero v
+  early-reaches-same v = (
+    fewer-reached (slotsAt bytes byBoxes n) (walkRay r) (walkRay fromZero) (λ u j e. sym (same-slot u j) ∙ e) v,
+    fewer-reached (slotsAt bytes byBoxes n) (walkRay fromZero) (walkRay r) (λ u j e. same-slot u j ∙ e) v,
+  )
+
+  pub early-meets-same : (p : ℕ) → Passed bytes n r p ↔ Passed bytes n fromZero p
+  early-meets-same p = (
+    fewer-passed (slotsAt bytes byBoxes n) (walkRay r) (walkRay fromZero) (λ u j e. sym (same-slot u j) ∙ e) (λ q e. e) p,
+    fewer-passed (slotsAt bytes byBoxes n) (walkRay fromZero) (walkRay r) (λ u j e. same-slot u j ∙ e) (λ q e. e) p,
+  )
 
 -- ---- telling
 

@@ -57,7 +57,7 @@ given t = (
   leaf-entries-reads.Learnt,
 )
 
--- the places: the entry, the index of an inner node read, the branch of a leaf, after the first call, after the second
+-- the places: the entry, the index of an inner node read, the branch of a leaf, after the first call, after the second, and after the entries
 abbrev S : ℕ → Type 0
 S t = calculate-cost-lts.Start (given t) (calculate-cost-at t) calculate-cost.Post
 
@@ -84,6 +84,12 @@ inner-of t c = c .before .before .before
 
 abbrev call-of : (t : ℕ) → D t → C t
 call-of t c = c .before .before .before .before .before .before .before
+
+abbrev E : ℕ → Type 0
+E t = calculate-cost-lts.After-inner-entries (given t) (calculate-cost-at t) calculate-cost.Post
+
+abbrev joined-at : (t : ℕ) → E t → D t
+joined-at t e = e .before .before .before .before .before .before .before
 
 abbrev first : (t : ℕ) → I t → ℕ
 first t i = i .below-kind .result
@@ -164,17 +170,15 @@ calculate-cost-inner-entries-requires t c κs =
     (rw (h .words-length, h .costs-length) (below t (inner-of t (call-of t d)) .room), omega arith)
 
 calculate-cost-same-length : (t : ℕ) → calculate-cost-lts.Need-same-length (given t) (calculate-cost-at t) calculate-cost.Post
-calculate-cost-same-length t c = c .before .before .before .before .inner-entries .kept .0 ∙ joint t
-    (c .before .before .before .before .before .before .before .before .before .before .before) .words-length
+calculate-cost-same-length t c = let e = c .before .before .before .before in e .inner-entries .kept .0 ∙ joint t (joined-at t e) .words-length
 
 calculate-cost-same-length-2 : (t : ℕ) → calculate-cost-lts.Need-same-length-2 (given t) (calculate-cost-at t) calculate-cost.Post
-calculate-cost-same-length-2 t c = c .before .before .before .before .inner-entries .kept .1 .0 ∙ joint t
-    (c .before .before .before .before .before .before .before .before .before .before .before) .costs-length
+calculate-cost-same-length-2 t c = let e = c .before .before .before .before in e .inner-entries .kept .1 .0 ∙ joint t (joined-at t e) .costs-length
 
 calculate-cost-returns : (t : ℕ) → calculate-cost-lts.Need-returns (given t) (calculate-cost-at t) calculate-cost.Post
 calculate-cost-returns t c =
     let e = c .before .before .before .before in
-    let d = e .before .before .before .before .before .before .before in
+    let d = joined-at t e in
     let a = call-of t d in
     let i = inner-of t a in
     let h = up (below t i) (start t i .args .limit) (one t a) (two t d) (joint t d) (i .before .before .before .before .node-area .ensures)

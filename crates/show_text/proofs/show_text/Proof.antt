@@ -24,6 +24,13 @@ returns c =
     (text-short (at-start .args .input .now)
     (at-if1 .if1 .taken)) (at-print-refusal .print-refusal .ensures)
 
+-- the call, seen from where the input has a first word
+given : tie.Else1 → tie.Start
+given e =
+    let back3 = e .before .before .before in
+    let back6 = back3 .before .before .before in
+    back6 .before .before .before
+
 load-u32-requires : tie.Need-load-u32-requires
 load-u32-requires c κs = search needs
 
@@ -41,9 +48,9 @@ returns-2 c =
     let at-print-refusal2 = c .before .before in
     let back4 = at-print-refusal2 .before .before in
     let q = back4 in
+    let read = q .before .before in
     wrote-as _ _ _ _ _
-    (text-many (q .before .before .before .before .before .before .before .before .before .before .before .args .input .now) _
-    (q .before .before .if1 .left) (q .before .load-u32 .ensures .value) (q .if2 .taken))
+    (text-many (given read .args .input .now) _ (read .if1 .left) (q .before .load-u32 .ensures .value) (q .if2 .taken))
     (at-print-refusal2 .print-refusal2 .ensures)
 
 tree-size-requires : tie.Need-tree-size-requires
@@ -69,9 +76,10 @@ returns-3 c =
     let at-print-refusal3 = c .before .before in
     let back4 = at-print-refusal3 .before .before in
     let q = back4 in
+    let few = q .before .before in
+    let read = few .before .before in
     wrote-as _ _ _ _ _
-    (text-unfit (q .before .before .before .before .before .before .before .before .before .before .before .before .before .args .input .now) _
-    (q .before .before .before .before .if1 .left) (q .before .before .before .load-u32 .ensures .value) (q .before .before .if2 .left) _
+    (text-unfit (given read .args .input .now) _ (read .if1 .left) (few .before .load-u32 .ensures .value) (few .if2 .left) _
     (q .before .tree-size .ensures) (q .if3 .taken))
     (at-print-refusal3 .print-refusal3 .ensures)
 
@@ -93,9 +101,10 @@ returns-4 c =
     let back4 = at-print-refusal4 .before .before in
     let q = back4 in
     let s = q .before .before .before in
+    let few = s .before .before in
+    let read = few .before .before in
     wrote-as _ _ _ _ _
-    (text-disorder (s .before .before .before .before .before .before .before .before .before .before .before .before .before .args .input .now) _
-    (s .before .before .before .before .if1 .left) (s .before .before .before .load-u32 .ensures .value) (s .before .before .if2 .left) _
+    (text-disorder (given read .args .input .now) _ (read .if1 .left) (few .before .load-u32 .ensures .value) (few .if2 .left) _
     (s .before .tree-size .ensures) (s .if3 .left) _ _ (q .before .before .load-u322 .ensures .value) (q .before .load-u323 .ensures .value)
     (omega (arith, q .if4 .taken)))
     (at-print-refusal4 .print-refusal4 .ensures)
@@ -134,7 +143,7 @@ tree-text-requires c κs =
     let back18 = back15 .before .before .before in
     let back20 = back18 .before .before in
     let q = back20 in
-    (take-most _ _ _ (q .if2 .left), q .before .before .before .before .before .before .before .before .before .before .before .pre .1)
+    (take-most _ _ _ (q .if2 .left), given (q .before .before) .pre .1)
 
 same-length-5 : tie.Need-same-length-5
 same-length-5 c = search needs
@@ -172,9 +181,10 @@ returns-5 c =
     let back26 = at-read-words .before .before in
     let q = back26 in
     let s = q .before .before .before in
+    let few = s .before .before in
+    let read = few .before .before in
     wrote-as _ _ _ _ _
-    (text-tree (s .before .before .before .before .before .before .before .before .before .before .before .before .before .args .input .now) _
-    (s .before .before .before .before .if1 .left) (s .before .before .before .load-u32 .ensures .value) (s .before .before .if2 .left) _
+    (text-tree (given read .args .input .now) _ (read .if1 .left) (few .before .load-u32 .ensures .value) (few .if2 .left) _
     (s .before .tree-size .ensures) (s .if3 .left) _ _ (q .before .before .load-u322 .ensures .value) (q .before .load-u323 .ensures .value)
     (omega (arith, q .if4 .left)) _ _ _ _
     (at-read-words .read-words .ensures) (at-read-words2 .read-words2 .ensures))
