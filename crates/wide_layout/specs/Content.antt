@@ -1,4 +1,4 @@
--- What stands in the slots of a node.
+-- Internal: what stands in the slots of a node.
 use mathlib.Core.List.{List}
 use Prim.Native.Nat.{ℕ, zero, suc}
 use Rattle.aabb.specs.declared.Aabb.{Aabb}
