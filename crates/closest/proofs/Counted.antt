@@ -1,5 +1,5 @@
--- Which distances count in closest and miss (02, [1]): a pane nearer than the start is passed over, and what they have noted counts for the ray that the
--- walk began with, since telling keeps the start and never raises the reach.
+-- Which distances count in closest and miss (02, [1]): a pane nearer than the start is passed over, and what they have noted counts for the ray that
+-- the walk began with, since telling keeps the start and never raises the reach.
 use mathlib.Core.Bool.{Bool, true, false, cond}
 use mathlib.Core.List.{List, []}
 use mathlib.Core.Path.{_≡_, sym, ap, _∙_}

@@ -124,7 +124,8 @@ module _ (bytes indices : List ℕ) (panes : List Float) (are-bytes : (i : ℕ) 
       → HitCounts indices panes ray (closestReports bytes indices panes ray) p t
   unfolding closestOf closestWalk
   hit-counts p t e =
-      let w = on-entry refusedClosest (hitAt p t) (refused-hit-apart p t) (paneCause bytes indices panes ray) (closestWalked bytes indices panes ray) e in
+      let w = on-entry refusedClosest (hitAt p t) (refused-hit-apart p t) (paneCause bytes indices panes ray)
+      (closestWalked bytes indices panes ray) e in
       let b = begun (w .0) in
       let f = at-end refusedClosest (hitAt p t) (refused-hit-apart p t) closestFound (closestWalk bytes indices panes ray)
       (closestWalk bytes indices panes ray .ended) (w .1) in

@@ -140,8 +140,8 @@ module _ {bytes indices : List ℕ} {panes : List Float} {d : ℕ} {ray : Ray} (
   closest-picked : Picks lt seesAt (ray .tmax) none (closestWalk bytes indices panes ray .accumulator) (closestReports bytes indices panes ray)
   unfolding closestWalk
   closest-picked =
-      closest-picks (nodeCount bytes) T (paneOf indices panes) nearer lt (λ b. b .ray .tmax) sees (panes-reached indices panes) Number distances-ordered
-      seesAt (closestReports bytes indices panes ray) (walkRay ray) none _ (all-seen near)
+      closest-picks (nodeCount bytes) T (paneOf indices panes) nearer lt (λ b. b .ray .tmax) sees (panes-reached indices panes) Number
+      distances-ordered seesAt (closestReports bytes indices panes ray) (walkRay ray) none _ (all-seen near)
       (query-noted bytes (good .layout) (good .are-bytes) n accepted near none)
 
   closest-tests : closestWalk bytes indices panes ray .walker .tests ≡ length (testedNodes (closestSteps bytes indices panes ray))
@@ -202,8 +202,8 @@ module _ {bytes indices : List ℕ} {panes : List Float} {d : ℕ} {ray : Ray} (
   miss-stopped : Stops lt seesAt (ray .tmax) none (missWalk bytes indices panes ray .accumulator) (missReports bytes indices panes ray)
   unfolding missWalk
   miss-stopped =
-      miss-stops (nodeCount bytes) T (paneOf indices panes) nearer lt (λ b. b .ray .tmax) sees (panes-reached indices panes) Number distances-ordered
-      seesAt (missReports bytes indices panes ray) (walkRay ray) none _ (all-seen block)
+      miss-stops (nodeCount bytes) T (paneOf indices panes) nearer lt (λ b. b .ray .tmax) sees (panes-reached indices panes) Number
+      distances-ordered seesAt (missReports bytes indices panes ray) (walkRay ray) none _ (all-seen block)
       (query-noted bytes (good .layout) (good .are-bytes) n accepted block none)
 
   miss-tests : missWalk bytes indices panes ray .walker .tests ≡ length (testedNodes (missSteps bytes indices panes ray))
@@ -213,8 +213,8 @@ module _ {bytes indices : List ℕ} {panes : List Float} {d : ℕ} {ray : Ray} (
   as-closest : missReports bytes indices panes ray ≡ upTo (λ p. lt (seesAt p) (ray .tmax)) (closestReports bytes indices panes ray)
   as-closest =
       miss-closest bytes (good .layout) (good .are-bytes) n accepted (paneOf indices panes) nearer
-      ∙ stops-below (nodeCount bytes) T (paneOf indices panes) nearer lt (λ b. b .ray .tmax) sees (panes-reached indices panes) Number distances-ordered
-      seesAt (closestReports bytes indices panes ray) (walkRay ray) (all-seen near)
+      ∙ stops-below (nodeCount bytes) T (paneOf indices panes) nearer lt (λ b. b .ray .tmax) sees (panes-reached indices panes) Number
+      distances-ordered seesAt (closestReports bytes indices panes ray) (walkRay ray) (all-seen near)
 
   -- no position that miss reports is below the reach exactly if closest has no hit
   none-reported : NoneBelow lt seesAt (ray .tmax) (missReports bytes indices panes ray) ↔ closestOf bytes indices panes ray .answer ≡ noHit

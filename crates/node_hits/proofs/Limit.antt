@@ -60,8 +60,8 @@ module _ (r : Ray) where
 -- a later start has no lower limit
 pub limit-rises : (r s : Ray) → T (le (s .tmin) (r .tmin)) → T (le (nearLimit s) (nearLimit r))
 limit-rises r s h =
-    limit-cases s (λ x. T (le x (nearLimit r))) (λ e. le-transitive (s .tmin) (r .tmin) (nearLimit r) h (limit-from-start r (no-nan-le-r (s .tmin) (r .tmin) (is-true _ h))))
-    (λ e. limit-from-least r)
+    limit-cases s (λ x. T (le x (nearLimit r))) (λ e. le-transitive (s .tmin) (r .tmin) (nearLimit r) h
+    (limit-from-start r (no-nan-le-r (s .tmin) (r .tmin) (is-true _ h)))) (λ e. limit-from-least r)
 
 -- ---- starts up to 0.0001
 

@@ -1,4 +1,4 @@
--- A ray with a lower reach or a greater near limit passes no more slots, and sets no more bits of the hit mask: for any node, any bytes and any floats.
+-- A ray with a lower reach or a greater near limit passes no more slots, and sets no more bits of the hit mask: for any node and any floats.
 use mathlib.Core.Path.{_≡_, refl, sym, ap, _∙_, subst}
 use mathlib.Core.Bool.{Bool, true, false, not, cond}
 use Prim.Native.Nat.{ℕ}

@@ -11,7 +11,8 @@ use Rattle.walk.specs.Reports.{toldRay, Notes}
 use Rattle.walk.proofs.Lists.{in-head, in-tail}
 
 -- the notes of the positions after a reaction
-abbrev pub After : {RayData Distance : Type 0} (m : ℕ) (T : Tests RayData Distance) → (ℕ → RayData → Found Distance → Reaction Distance (Found Distance))
+abbrev pub After : {RayData Distance : Type 0} (m : ℕ) (T : Tests RayData Distance)
+    → (ℕ → RayData → Found Distance → Reaction Distance (Found Distance))
     → RayData → List ℕ → Found Distance → Reaction Distance (Found Distance) → Type 0
 After m T react r l y k = elim (k .stop) as (λ (b : Bool). Type 0) [
   | true ↦ (l ≡ []) × (y ≡ k .accumulator)

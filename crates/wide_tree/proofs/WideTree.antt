@@ -143,11 +143,6 @@ module _ {A : Type 0} (place : Placing) (limit : ℕ) (places : Places place) wh
       (places (boxOf t) (map boxOf g) (rw (length-map g boxOf) (gather-width limit t (o .boxes) (o .few))) (root-accepted t (o .boxes))
       (boxes-accepted g (gather-each limit BoxesAccepted below-accepted t 0 (o .boxes))))
 
-  pub own-slots : (t : Tree A) (o : Fine t) (c : ℕ) → c < length (gather limit t 0) → contentAt (rootSlots place limit t) (one-to-one t o .slot c)
-      ≡ heldAt (wideChildren place limit t 0) c
-  own-slots t o c u = own-slot (place (boxOf t) (map childBox (wideChildren place limit t 0))) (wideChildren place limit t 0) (one-to-one t o) c
-      (rw (children-length place limit t 0) u)
-
   -- ---- each inner child has two children or more
   pub children-number : (t : Tree A) → Fine t → S.children (rootSlots place limit t) ≡ length (gather limit t 0)
   unfolding total
