@@ -8,8 +8,8 @@ use lib.ListN.{getD}
 use lib.Ieee.{Float, round, lt, le, isNan}
 use lib.Ieee.Bits.{is-true}
 use Rattle.lists.proofs.Tells.{clash}
-use Rattle.float.specs.Compare.{maxOf, plusZero}
-use Rattle.float.proofs.Order.{le-self, le-of-lt, le-of-not-lt, le-transitive}
+use Rattle.float.specs.Compare.{minOf, maxOf, plusZero}
+use Rattle.float.proofs.Order.{le-self, le-of-lt, le-of-not-lt, le-transitive, lt-excludes-le}
 use Rattle.float.proofs.Sign.{no-nan-lt-r, no-nan-le-r}
 use Rattle.words.proofs.Ors.{or-of-congr}
 use Rattle.ray.specs.declared.Ray.{Ray}
@@ -17,7 +17,7 @@ use Rattle.ray.specs.Ray.{startingAt}
 use Rattle.node.specs.declared.Slot.{Slot}
 use Rattle.node.specs.declared.Node.{Node}
 use Rattle.node.specs.Node.{noSlot}
-use Rattle.node_slot.specs.Slot.{leastLimit, nearLimit, nearOf, farOf, passes}
+use Rattle.node_slot.specs.Slot.{leastLimit, nearLimit, nearX, nearY, nearZ, farX, farY, farZ, nearOf, farOf, passes}
 use Rattle.node_slot.specs.Mask.{onlyIf, hitBits, passesSlot, slotHit, hitMaskOf, hitMask}
 
 -- 0.0001 is a number
@@ -62,6 +62,36 @@ pub limit-rises : (r s : Ray) → T (le (s .tmin) (r .tmin)) → T (le (nearLimi
 limit-rises r s h =
     limit-cases s (λ x. T (le x (nearLimit r))) (λ e. le-transitive (s .tmin) (r .tmin) (nearLimit r) h
     (limit-from-start r (no-nan-le-r (s .tmin) (r .tmin) (is-true _ h)))) (λ e. limit-from-least r)
+
+-- ---- starts past the reach
+
+-- a slot is passed only if the near limit is at most the reach, whatever floats there are
+within-reach : (v : Node) (t : Slot) (r : Ray) → T (passes v t r) → T (le (nearLimit r) (r .tmax))
+unfolding passes nearOf farOf maxOf minOf
+within-reach v t r h =
+    let near = maxOf (maxOf (nearX v t r) (nearY v t r)) (nearZ v t r) in
+    let far = minOf (minOf (farX v t r) (farY v t r)) (farZ v t r) in
+    low near (r .tmax) (lt (nearLimit r) near) refl (high (maxOf near (nearLimit r)) far (lt far (r .tmax)) refl h)
+  where
+    -- the near limit is at most the larger of it and x, and the lesser of y and the reach at most the reach
+    low : (x z : Float) (c : Bool) → lt (nearLimit r) x ≡ c → T (le (cond c x (nearLimit r)) z) → T (le (nearLimit r) z)
+    low x z true e p = le-transitive (nearLimit r) x z (le-of-lt (nearLimit r) x e) p
+    low x z false e p = p
+
+    high : (x y : Float) (c : Bool) → lt y (r .tmax) ≡ c → T (le x (cond c y (r .tmax))) → T (le x (r .tmax))
+    high x y true e p = le-transitive x y (r .tmax) p (le-of-lt y (r .tmax) e)
+    high x y false e p = p
+
+-- so a ray that starts past its reach passes none
+pub start-past-reach : (v : Node) (t : Slot) (r : Ray) → lt (r .tmax) (r .tmin) ≡ true → passes v t r ≡ false
+start-past-reach v t r h = go (passes v t r) refl
+  where
+    go : (c : Bool) → passes v t r ≡ c → passes v t r ≡ false
+    go false e = e
+    go true e =
+        absurd (lt-excludes-le (r .tmax) (r .tmin) h
+        (le-transitive (r .tmin) (nearLimit r) (r .tmax) (limit-from-start r (no-nan-lt-r (r .tmax) (r .tmin) h))
+        (within-reach v t r (subst T (sym e) tt))))
 
 -- ---- starts up to 0.0001
 
