@@ -91,6 +91,8 @@ static void queries(const uint8_t *good, const uint32_t *good_list) {
     expect("check, no working words", 4, funnelcress_validate(good, 80, 2, NULL, 0), 1);
     expect("any-hit, a ray of seven", 1, funnelcress_any_hit(good, 80, 2, along, 7, list, 2), kept(list, 0, sizeof list));
     expect("any-hit, tmax a NaN", 9, funnelcress_any_hit(good, 80, 2, ray, 8, list, 2), kept(list, 0, sizeof list));
+    ray[6] = NAN, ray[7] = along[7];
+    expect("any-hit, tmin a NaN", 9, funnelcress_any_hit(good, 80, 2, ray, 8, list, 2), kept(list, 0, sizeof list));
     expect("any-hit, a damaged record", 10, funnelcress_any_hit(bad, 80, 2, along, 8, list, 2), kept(list, 0, sizeof list));
     uint64_t lacking = funnelcress_any_hit(good, 80, 2, along, 8, list, 1);
     int eleven = funnelcress_kind(lacking) == 1 && funnelcress_value(lacking) == 2 && kept(list, 0, sizeof list);

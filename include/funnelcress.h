@@ -17,7 +17,7 @@
  *     6  a box, or a pane met, that is not finite, past 2^40 either way, or with a lower end above its upper one
  *     7  a node or position that is not reached exactly once, or a path of over 127 edges
  *     8  some node of the record would lie deeper than level 31
- *     9  a ray whose origin or direction is not finite or past 2^40 either way, or whose tmax is a NaN
+ *     9  a ray whose origin or direction is not finite or past 2^40 either way, or whose tmin or tmax is a NaN
  *    10  a damaged record, an index that names no pane, or a forged walker
  *    11  any-hit meets more positions than its list has room for
  *   Causes are looked at in rising number; those of a walk come where the walk meets them.
@@ -37,7 +37,7 @@ extern "C" {
 /* Sizes. */
 #define FUNNELCRESS_NODE_BYTES 80      /* bytes of a record node */
 #define FUNNELCRESS_TREE_WORDS 7       /* words of a tree node: lower and upper corner as float bits, link */
-#define FUNNELCRESS_RAY_FLOATS 8       /* origin x y z, direction x y z, tmin, tmax: what counts is not before tmin, and below tmax */
+#define FUNNELCRESS_RAY_FLOATS 8       /* origin x y z, direction x y z, tmin, tmax */
 #define FUNNELCRESS_PANE_FLOATS 6      /* min x y z, max x y z */
 #define FUNNELCRESS_MAX_POSITIONS 65536
 #define FUNNELCRESS_MAX_NODES 65535
@@ -94,7 +94,7 @@ uint64_t funnelcress_validate(const uint8_t *record, size_t record_len, size_t n
 uint64_t funnelcress_any_hit(const uint8_t *record, size_t record_len, size_t n, const float *ray, size_t ray_len,
                              uint32_t *list, size_t list_len);
 
-/* The nearest pane that the walk meets.
+/* The nearest pane that the walk meets; one that the ray enters before its tmin is passed over.
  *   indices    the index list of the record, a word a position; read
  *   panes      6 floats each; a position's pane is the one that its index word names; read
  *   out        1 float or more: a hit's distance is written to out[0], and nothing else
@@ -103,7 +103,7 @@ uint64_t funnelcress_closest(const uint8_t *record, size_t record_len, const uin
                              const float *panes, size_t panes_len, const float *ray, size_t ray_len, float *out,
                              size_t out_len);
 
-/* Whether no pane is nearer than the ray's tmax. Returns kind 0 (missed), kind 1 (blocked), or kind 2. Writes nothing.
+/* Whether no pane is entered from the ray's tmin on and before its tmax. Returns kind 0 (missed), kind 1 (blocked), or kind 2. Writes nothing.
  * Refusals: 1, 2, 6, 9, 10. */
 uint64_t funnelcress_miss(const uint8_t *record, size_t record_len, const uint32_t *indices, size_t indices_len,
                           const float *panes, size_t panes_len, const float *ray, size_t ray_len);
@@ -125,7 +125,8 @@ uint64_t funnelcress_begin(const float *ray, size_t ray_len, uint64_t head[FUNNE
 uint64_t funnelcress_step(uint64_t head[FUNNELCRESS_WALKER_HEAD], uint64_t stack[FUNNELCRESS_WALKER_STACK],
                           const uint8_t *record, size_t record_len, size_t n);
 
-/* Tells a distance: one below the walker's reach becomes its reach, any other does nothing, a NaN too. Refuses nothing. */
+/* Tells a distance: one from the ray's tmin on and below the walker's reach becomes its reach, any other does nothing, a
+ * NaN too. Refuses nothing. */
 void funnelcress_tell(uint64_t head[FUNNELCRESS_WALKER_HEAD], uint64_t stack[FUNNELCRESS_WALKER_STACK], float distance);
 
 /* The half area of each box of six floats, at the front of out. Returns 0 or the cause. Refusals: 1, 4. */

@@ -85,7 +85,7 @@ impl Refusal {
             }
             Refusal::Level => "some node of the record would lie deeper than level 31",
             Refusal::Ray => {
-                "the ray's origin or direction is not finite or goes past 2^40 either way, or its tmax is no number"
+                "the ray's origin or direction is not finite or goes past 2^40 either way, or its tmin or tmax is no number"
             }
             Refusal::Record => "the record is damaged, an index names no pane, or the walker is forged",
             Refusal::List { .. } => "more positions are met than the list has room for",

@@ -84,7 +84,7 @@ impl<'a> Walker<'a> {
         }
     }
 
-    /// Tells a distance: one below the reach becomes the reach, any other does nothing, a NaN too.
+    /// Tells a distance: one from the ray's start on and below the reach becomes the reach, any other does nothing, a NaN too.
     pub fn tell(&mut self, distance: f32) {
         let State { head, stack } = &mut self.state;
         // SAFETY: as in `begin`.

@@ -61,7 +61,7 @@ fn records() {
 #[test]
 fn rays_and_panes() {
     let record = record();
-    for bad in [Ray { tmax: f32::NAN, ..along() }, Ray::new([f32::INFINITY, 0.0, 0.0], [1.0, 0.0, 0.0])] {
+    for bad in [along().starting(f32::NAN), along().reaching(f32::NAN), Ray::new([f32::INFINITY, 0.0, 0.0], [1.0, 0.0, 0.0])] {
         assert_eq!(record.any_hit(&bad), Err(Refusal::Ray));
         assert_eq!(record.closest(&PANES, &bad), Err(Refusal::Ray));
         assert_eq!(record.miss(&PANES, &bad), Err(Refusal::Ray));
@@ -133,6 +133,7 @@ fn tellings() {
     assert_eq!(reports(f32::NAN), 64);
     assert_eq!(reports(f32::INFINITY), 64);
     assert!(reports(2.0) < 64);
+    assert_eq!(reports(-1.0), 64);
 }
 
 #[test]

@@ -80,6 +80,30 @@ fn queries() {
     assert_eq!(positions, [1, 0]);
 }
 
+/// The start: slots that end before it are not passed, panes entered before it are no hits.
+#[test]
+fn starts() {
+    let record = sample().convert(Options { limit: 3, ordered: false }).unwrap();
+    let ray = Ray::new([-1.0, 0.5, 0.5], [1.0, 0.0, 0.0]);
+    let hit = |ray: &Ray| record.closest(&PANES, ray).unwrap().hit.map(|h| (h.position, h.distance));
+    for (tmin, listed, nearest) in [
+        (1.0, vec![1, 0], Some((0, 1.0))),
+        (1.5, vec![1, 0], Some((1, 3.0))),
+        (2.5, vec![1], Some((1, 3.0))),
+        (3.0, vec![1], Some((1, 3.0))),
+        (3.5, vec![1], None),
+        (4.5, vec![], None),
+        (f32::INFINITY, vec![], None),
+    ] {
+        let met = record.any_hit(&ray.starting(tmin)).unwrap();
+        assert_eq!((met.positions, met.tests), (listed, 1));
+        assert_eq!(hit(&ray.starting(tmin)), nearest);
+        assert_eq!(record.miss(&PANES, &ray.starting(tmin)).unwrap().missed, nearest.is_none());
+    }
+    let within = Ray::new([0.5; 3], [1.0, 0.0, 0.0]);
+    assert_eq!((hit(&within), hit(&within.starting(-1.0))), (Some((1, 1.5)), Some((0, -0.5))));
+}
+
 /// A direction with −0.0 misses today; a later request reads it as +0.0.
 #[test]
 fn a_negative_zero() {

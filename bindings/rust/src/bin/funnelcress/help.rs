@@ -53,7 +53,8 @@ example: funnelcress any-hit house.record rays.txt
 pub const CLOSEST: &str = "\
 usage: funnelcress closest RECORD LIST PANES RAYS [--json] [--threads N]
 
-A line a ray: its number, the node tests, and the nearest position with its pane and distance, or `none`.
+A line a ray: its number, the node tests, and the nearest position with its pane and distance, or `none`. A pane that
+the ray enters before its tmin, or from its tmax on, is none.
 
 example: funnelcress closest house.record house.list house.txt rays.txt
 ";
