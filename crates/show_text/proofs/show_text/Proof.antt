@@ -25,7 +25,7 @@ returns c =
     (at-if1 .if1 .taken)) (at-print-refusal .print-refusal .ensures)
 
 -- the call, seen from where the input has a first word
-given : tie.Else1 → tie.Start
+abbrev given : tie.Else1 → tie.Start
 given e =
     let back3 = e .before .before .before in
     let back6 = back3 .before .before .before in
