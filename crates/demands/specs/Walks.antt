@@ -42,7 +42,7 @@ pub record CheckedRecord (bytes : List ℕ) (n d : ℕ) : Type 0 where
   pub positions : n ≤ 65536
   pub are-bytes : (i : ℕ) → getD bytes i 0 < 256
 
--- a ray as it is made from its origin, direction and reach, of which cause 9 does not hold
+-- a ray as it is made from its origin, direction, start and reach, of which cause 9 does not hold
 pub record AcceptedRay (ray : Ray) : Type 0 where
   pub origin : Vec3
   pub direction : Vec3

@@ -1,4 +1,4 @@
--- Rays (01, "Corners of each file", ray.rs; "Walking"; "Causes of refusal", 9).
+-- Rays (01, "Corners of each file", ray.rs; "Walking"; "Causes of refusal", 9; 02, [1]). A ray's start is its tmin, its reach its tmax.
 use Prim.Native.Nat.{ℕ, _+_, _-_}
 use mathlib.Core.Bool.{Bool, true, false, not, _&&_, cond}
 use lib.IntN.{pos, negsuc}

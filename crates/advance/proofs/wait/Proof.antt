@@ -31,8 +31,9 @@ same-length c = search needs
 returns-2 : tie.Need-returns-2
 returns-2 c =
     let p = c .before .before in
-    let a = p .before .before .before .before .before .before .before .args in
-    rest-waits (a .stack .now) _ (a .depth) (a .rest .base) (a .rest .bits) (p .before .before .before .before .if1 .left) (p .push .ensures .1)
+    let room = p .before .before .before .before in
+    let a = room .before .before .before .args in
+    rest-waits (a .stack .now) _ (a .depth) (a .rest .base) (a .rest .bits) (room .if1 .left) (p .push .ensures .1)
 
 pub wait-spec : {M : Type 1} → statement M
 wait-spec =

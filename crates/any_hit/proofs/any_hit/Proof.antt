@@ -50,10 +50,11 @@ returns-2 : tie.Need-returns-2
 unfolding anyHitAnswer
 returns-2 c =
     let e = c .before in
-    let a = e .before .before .before .before .before .args in
+    let known = e .before .before .before .before in
+    let a = known .before .args in
     let h = enters (a .origin) (a .direction) (a .tmin) (a .tmax) (a .«record» .now) (a .n) (no-cause e) in
     let f = unforged (a .origin) (a .direction) (a .tmin) (a .tmax) (a .«record» .now) (a .n) (no-cause e) in
-    let fit = bytes-fit _ (λ i. e .before .before .before .before .shared-slice-known .given i .fits) in
+    let fit = bytes-fit _ (λ i. known .shared-slice-known .given i .fits) in
     answers-empty (a .«record» .now) (a .n) (ray (e .before)) (a .list .now) (no-cause e) (c .if2 .taken) (h .sizes .few) fit f
 
 walk-whole-requires : tie.Need-walk-whole-requires

@@ -124,11 +124,13 @@ module _ (c : tie.After-first-position Inv-loop2 μ-loop2 Inv-loop μ-loop) wher
   abbrev head : tie.At-loop2 Inv-loop2 μ-loop2 Inv-loop μ-loop
   head = c .before .before .before .before
 
-noted : (c : tie.After-t38 Inv-loop2 μ-loop2 Inv-loop μ-loop) → let p = c .before .before .before .before .before .before in
+noted : (c : tie.After-t38 Inv-loop2 μ-loop2 Inv-loop μ-loop) →
+    let at-note = c .before .before .before .before in
+    let p = at-note .before .before in
     let j = head (p .before) in
     Noted (sized (l (k j))) (fit (l (k j))) (within j) (p .before .before .before .if1 .taken)
     (p .before .first-position .result) (p .before .first-position .ensures)
-    (groupOf (c .before .rest-of .result)) (c .before .before .before .before .note .last .0)
+    (groupOf (c .before .rest-of .result)) (at-note .note .last .0)
 noted c =
     let back3 = c .before .before .before in
     let at-note = back3 .before in

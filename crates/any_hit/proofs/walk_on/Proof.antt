@@ -40,7 +40,7 @@ module _ (c : tie.After-gather) where
   abbrev At : State → Type 0
   At x = Stands (s .args .«record» .now) (s .args .n) (s .args .ray) x 0xffff_0000 w (c .gather .result .count) moved kept
 
-done : (c : tie.At-match-keys2) → At (c .before .before .before .before) Done
+done : (c : tie.At-match-keys2) → let k = c .before .before .before .before in At k Done
 done c =
     let back3 = c .before .before .before in
     let back4 = back3 .before in
@@ -83,8 +83,8 @@ enum-known-state c = search needs
 walk-again-requires : tie.Need-walk-again-requires
 walk-again-requires c κs =
     let d = c .before .before .before in
-    let p = s (d .before .before .before .before) .pre .0 in
-    (p, done d .0)
+    let k = d .before .before .before .before in
+    (s k .pre .0, done d .0)
 
 same-length : tie.Need-same-length
 same-length c = search needs

@@ -20,12 +20,15 @@ use Rattle.any_hit.proofs.walk_whole.Tie as tie
 -- ---- after the first walk
 
 module _ (c : tie.After-gather) where
+  abbrev facing : tie.After-octant
+  facing = c .before .before .before .before .before
+
   abbrev s : tie.Start
-  s = c .before .before .before .before .before .before .before .before
+  s = facing .before .before .before
 
   -- the walker then, and the positions kept aside
   abbrev w : WalkerWords WalkRay
-  w = walkerOf (s .args .ray) (c .before .before .before .before .before .octant .result) (c .gather .result .walk)
+  w = walkerOf (s .args .ray) (facing .octant .result) (c .gather .result .walk)
       (c .gather .last .1 .1 .1 .1 .1 .1 .1 .1 .0)
 
   abbrev kept : List ℕ

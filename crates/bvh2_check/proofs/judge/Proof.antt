@@ -23,8 +23,7 @@ Else2 = lts.Else2 (
   all-marked-reads.Learnt,
 ) reads.Pre reads.Post
 
-begun-at : (c : Else2) → Begun (c .before .before .before .before .before .before .args .words .now)
-    (c .before .before .before .before .before .before .args .n) (c .before .before .before .before .before .before .args .marks .now)
+begun-at : (c : Else2) → let s = c .before .before .before .before .before .before in Begun (s .args .words .now) (s .args .n) (s .args .marks .now)
 begun-at c =
     let at-links-inside = c .before .before .before in
     let at-start = at-links-inside .before .before .before in

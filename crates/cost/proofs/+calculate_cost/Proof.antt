@@ -129,7 +129,7 @@ calculate-cost-node-area-requires : (t : ℕ) → calculate-cost-lts.Need-node-a
 calculate-cost-node-area-requires t c κs = let h = known t (c .before .before .before) in omega arith
 
 calculate-cost-link-word-requires : (t : ℕ) → calculate-cost-lts.Need-link-word-requires (given t) (calculate-cost-at t) calculate-cost.Post
-calculate-cost-link-word-requires t c κs = let h = known t (c .before .before .before .before) in omega arith
+calculate-cost-link-word-requires t c κs = let s = c .before .before .before .before in let h = known t s in omega arith
 
 calculate-cost-kind-requires : (t : ℕ) → calculate-cost-lts.Need-kind-requires (given t) (calculate-cost-at t) calculate-cost.Post
 calculate-cost-kind-requires t c κs = tt
@@ -150,7 +150,7 @@ calculate-cost-add-calculate-cost : (t : ℕ) → calculate-cost-lts.Need-add-ca
 calculate-cost-add-calculate-cost t c = omega arith
 
 calculate-cost-sub-calculate-cost-2 : (t : ℕ) → calculate-cost-lts.Need-sub-calculate-cost-2 (given t) (calculate-cost-at t) calculate-cost.Post
-calculate-cost-sub-calculate-cost-2 t c = below t (inner-of t (c .before .before .before .before)) .deep
+calculate-cost-sub-calculate-cost-2 t c = let a = c .before .before .before .before in below t (inner-of t a) .deep
 
 calculate-cost-calculate-cost-requires-2 : (t : ℕ) → calculate-cost-lts.Need-calculate-cost-requires-2 (given t) (calculate-cost-at t)
     calculate-cost.Post
@@ -160,7 +160,7 @@ calculate-cost-calculate-cost-requires-2 t c κs =
     (omega arith, rw (a .calculate-cost .kept .1 .1 .1 .1 .0, a .calculate-cost .kept .1 .1 .1 .1 .1 .0) (h .right))
 
 calculate-cost-add-count : (t : ℕ) → calculate-cost-lts.Need-add-count (given t) (calculate-cost-at t) calculate-cost.Post
-calculate-cost-add-count t c = let h = joint t (c .before .before .before .before) .few in omega arith
+calculate-cost-add-count t c = let d = c .before .before .before .before in let h = joint t d .few in omega arith
 
 calculate-cost-inner-entries-requires : (t : ℕ) → calculate-cost-lts.Need-inner-entries-requires (given t) (calculate-cost-at t) calculate-cost.Post
 calculate-cost-inner-entries-requires t c κs =
@@ -181,7 +181,8 @@ calculate-cost-returns t c =
     let d = joined-at t e in
     let a = call-of t d in
     let i = inner-of t a in
-    let h = up (below t i) (start t i .args .limit) (one t a) (two t d) (joint t d) (i .before .before .before .before .node-area .ensures)
+    let measured = i .before .before .before .before in
+    let h = up (below t i) (start t i .args .limit) (one t a) (two t d) (joint t d) (measured .node-area .ensures)
     (e .inner-entries .ensures .0) (e .inner-entries .ensures .1) in
     (h .counted, (h .decided, h .priced))
 
@@ -189,10 +190,10 @@ calculate-cost-leaf-entries-requires : (t : ℕ) → calculate-cost-lts.Need-lea
 calculate-cost-leaf-entries-requires t c κs = let h = known t (start-leaf t (c .before .before)) in (h .decisions, h .costs)
 
 calculate-cost-same-length-3 : (t : ℕ) → calculate-cost-lts.Need-same-length-3 (given t) (calculate-cost-at t) calculate-cost.Post
-calculate-cost-same-length-3 t c = c .before .before .before .before .leaf-entries .kept .0
+calculate-cost-same-length-3 t c = let e = c .before .before .before .before in e .leaf-entries .kept .0
 
 calculate-cost-same-length-4 : (t : ℕ) → calculate-cost-lts.Need-same-length-4 (given t) (calculate-cost-at t) calculate-cost.Post
-calculate-cost-same-length-4 t c = c .before .before .before .before .leaf-entries .kept .1 .0
+calculate-cost-same-length-4 t c = let e = c .before .before .before .before in e .leaf-entries .kept .1 .0
 
 calculate-cost-returns-2 : (t : ℕ) → calculate-cost-lts.Need-returns-2 (given t) (calculate-cost-at t) calculate-cost.Post
 calculate-cost-returns-2 t c =

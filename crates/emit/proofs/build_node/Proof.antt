@@ -115,30 +115,34 @@ loop-again c =
     let l = h .before .before .before .before in
     (omega arith, h .own-slot .kept .1 .1 .1 .0 ∙ l .loop .inv .1, rw add-one (next h))
 
+-- the call, from where the box is read
+abbrev called : tie.After-node-box Inv-loop μ-loop → S
+called n = n .before .before .before .before .before
+
 -- the box is an accepted one
 float-to-bits-t33 : tie.Need-float-to-bits-t33 Inv-loop μ-loop
 float-to-bits-t33 c = let n = c .before .before .before .before in rw (n .node-box .ensures)
-    (corner-numbers (boxAt _ _) (n .before .before .before .before .before .pre .1) .0)
+    (corner-numbers (boxAt _ _) (called n .pre .1) .0)
 
 float-to-bits-t34 : tie.Need-float-to-bits-t34 Inv-loop μ-loop
 float-to-bits-t34 c = let n = c .before .before .before .before .before in rw (n .node-box .ensures)
-    (corner-numbers (boxAt _ _) (n .before .before .before .before .before .pre .1) .1)
+    (corner-numbers (boxAt _ _) (called n .pre .1) .1)
 
 float-to-bits-t35 : tie.Need-float-to-bits-t35 Inv-loop μ-loop
 float-to-bits-t35 c = let n = c .before .before .before .before .before .before in rw (n .node-box .ensures)
-    (corner-numbers (boxAt _ _) (n .before .before .before .before .before .pre .1) .2)
+    (corner-numbers (boxAt _ _) (called n .pre .1) .2)
 
 cast-t36 : tie.Need-cast-t36 Inv-loop μ-loop
-cast-t36 c = omega (arith, bits (c .before .before .before .before) .0)
+cast-t36 c = let n = c .before .before .before .before in omega (arith, bits n .0)
 
 cast-t37 : tie.Need-cast-t37 Inv-loop μ-loop
-cast-t37 c = omega (arith, bits (c .before .before .before .before) .1)
+cast-t37 c = let n = c .before .before .before .before in omega (arith, bits n .1)
 
 cast-t38 : tie.Need-cast-t38 Inv-loop μ-loop
 cast-t38 c = omega arith
 
 same-length : tie.Need-same-length Inv-loop μ-loop
-same-length c = c .before .before .before .before .loop .inv .1
+same-length c = let l = c .before .before .before .before in l .loop .inv .1
 
 returns : tie.Need-returns Inv-loop μ-loop
 returns c =

@@ -31,7 +31,8 @@ near-ends-requires c κs = search needs
 seek-requires : tie.Need-seek-requires
 seek-requires c κs =
     let e = c .before .before in
-    let w = e .before .before .before .before .pre (e .near-ends .result) (e .near-ends .ensures) in
+    let s = e .before .before .before .before in
+    let w = s .pre (e .near-ends .result) (e .near-ends .ensures) in
     record {
       whole = w .whole;
       nodes = w .nodes;

@@ -167,11 +167,12 @@ added-levels-returns-3 : (t : ℕ) → added-levels-lts.Need-returns-3 (given t)
 added-levels-returns-3 t c =
     let g = c .before in
     let w = both t g in
+    let inner = w .before .before .before .before in
     let h = start t w .pre .1 in (
       less t g,
       λ limit k. ap (λ (m : ℕ). m + 1) (g .greater .ensures)
           ∙ as-inner (h .0) (h .1) (kind-of t w .kind .ensures) (below t w) (g .before .before .added-levels .ensures .1)
-          (g .before .added-levels2 .ensures .1) (w .before .before .before .before .if1 .left) (c .if2 .left) limit k,
+          (g .before .added-levels2 .ensures .1) (inner .if1 .left) (c .if2 .left) limit k,
     )
 
 pub +added-levels-spec : {M : Type 1} → statement M
