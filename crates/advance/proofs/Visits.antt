@@ -2,8 +2,7 @@
 use mathlib.Core.Path.{_≡_, refl, sym, ap, _∙_, subst}
 use mathlib.Core.Bool.{Bool, true, false, not, _||_, cond}
 use mathlib.Core.List.{List}
-use Prim.Native.Nat.{ℕ, suc, _+_, _*_, _/_, _%_, _≤_, _<_}
-use native.Mathlib.Omega.{arith}
+use Prim.Native.Nat.{ℕ, _+_, _*_, _/_, _%_, _≤_, _<_}
 use native.Mathlib.Numerals.{add-one}
 use lib.Dec.{leb, T}
 use borrow.Author.Tests.{le-leb, lt-leb, leb-false}
@@ -17,12 +16,12 @@ use Rattle.node_test.specs.Test.{tested, broken}
 use Rattle.record_shape.specs.Record.{nodeCount}
 use Rattle.walk.specs.Step as S
 use Rattle.walk.specs.Words as W
-use Rattle.walk.specs.WordStep.{WalkerWords, SteppedWords, NodeWords, stayWords, passedPositions, passedChildren, afterTestWords, visitWords}
+use Rattle.walk.specs.WordStep.{WalkerWords, SteppedWords, NodeWords, stayWords, afterTestWords, visitWords}
 use Rattle.walk.specs.WordStep.{badChild}
 use Rattle.walk_record.specs.WalkRay.{WalkRay, byBoxes}
 use Rattle.walk_record.specs.Record.{nodeWordsAt}
 use Rattle.advance.specs.declared.Walk.{Walk}
-use Rattle.advance.specs.Turn.{groupOf, walkerOf, lacksRoom, isPast, waits, stacked, followed}
+use Rattle.advance.specs.Turn.{walkerOf, lacksRoom, isPast, waits, stacked, followed}
 
 -- ---- whether a child is there
 

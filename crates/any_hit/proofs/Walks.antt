@@ -37,7 +37,7 @@ use Rattle.query.proofs.Begins.{steady, leads-begun}
 use Rattle.query.proofs.Leads.{Steady, Sought, leads-past, leads-on, seek-sought}
 use Rattle.any_hit.specs.declared.State.{State}
 use Rattle.any_hit.specs.declared.State.the-variants.{Done, Paused, Refused}
-use Rattle.any_hit.specs.Gather.{metIn, pauseOf, anyHitOutcome, Walking, Counted, Stands}
+use Rattle.any_hit.specs.Gather.{metIn, pauseOf, anyHitOutcome, Walking, Counted}
 use Rattle.any_hit.proofs.Written.{met-next, met-front, met-over, met-kept}
 use Rattle.any_hit.proofs.Few.{seek-few}
 

@@ -1,12 +1,8 @@
 -- The tests before the walk, as the code makes them.
-use mathlib.Core.Path.{_≡_, refl, sym, _∙_}
+use mathlib.Core.Path.{_≡_, sym, _∙_}
 use mathlib.Core.Bool.{Bool, true, false, not}
-use mathlib.Core.List.{List, [], _∷_, _++_}
-use Prim.Native.Nat.{ℕ, zero, suc, _+_, _*_, _-_, _/_, _%_, _<_, _≤_}
-use native.Mathlib.Numerals.{add-one}
+use Prim.Native.Nat.{ℕ, _+_, _*_, _-_, _/_, _%_, _<_, _≤_}
 use native.Mathlib.Omega.{arith}
-use lib.ListN.{length, set, take, replicate}
-use lib.Seq.{take-suc-set, take-length}
 use lib.Dec.{ltb}
 use Rattle.lists.proofs.Tells.{clash, tells-true, tells-false, eqb-tells, leb-tells}
 use Rattle.causes.proofs.Causes.{first-here, first-later, passed-none}

@@ -1,7 +1,6 @@
 -- A ray's start (02, [1]), of the public calls, over any bytes: what a hit is, a told distance below the start, and a start that is a NaN.
-use mathlib.Core.Bool.{true, false, not, _&&_}
+use mathlib.Core.Bool.{true, not}
 use mathlib.Core.List.{List}
-use mathlib.Core.Logic.{_⊎_, inl, inr}
 use mathlib.Core.Path.{_≡_, refl, sym, ap, subst, _∙_}
 use Prim.Native.Nat.{ℕ, zero, suc, _%_, _<_}
 use native.Mathlib.Omega.{arith}
@@ -10,7 +9,7 @@ use lib.Ieee.{Float, nan, lt}
 use lib.ListN.{length, getD}
 use Rattle.ray.specs.declared.Vec3.{Vec3}
 use Rattle.ray.specs.declared.Ray.{Ray}
-use Rattle.ray.specs.Ray.{rayOf, counts, acceptedRay}
+use Rattle.ray.specs.Ray.{rayOf, counts}
 use Rattle.ray.proofs.Bounds.{nan-start-refused}
 use Rattle.ray.proofs.Counts.{counts-below, counts-from, early-not-counted, nan-not-counted}
 use Rattle.record_shape.specs.Record.{nodeCount}
@@ -25,11 +24,10 @@ use Rattle.walk.proofs.Hits.{Came, stayed, hits, faults, closest-came, miss-cam
 use Rattle.walk_record.specs.WalkRay.{WalkRay, walkRay, forgedRay, byBoxes}
 use Rattle.walk_record.specs.Record.{slotsAt}
 use Rattle.causes.proofs.Sizes.{Fit}
-use Rattle.query.proofs.Entry.{Entered, entered, entry-ray}
-use Rattle.query.specs.Entry.{entryCause}
+use Rattle.query.proofs.Entry.{entered, entry-ray}
 use Rattle.query.specs.Result as R
 use Rattle.query.specs.Result.{Result, walked}
-use Rattle.traverse.specs.Walker.{started, noWalker, toldWalker, stepBytes, isForged}
+use Rattle.traverse.specs.Walker.{started, noWalker, toldWalker, stepBytes}
 use Rattle.traverse.proofs.Begun.{refuses}
 use Rattle.traverse.proofs.Steps.{told-farther, step-forged}
 use Rattle.any_hit.specs.AnyHit.{AnyHitAnswer, refused, anyHitOf}

@@ -1,5 +1,5 @@
 -- Which distances count, those from the start and below the reach; and as what they are seen.
-use mathlib.Core.Path.{_≡_, refl, sym, ap, _∙_}
+use mathlib.Core.Path.{_≡_, refl, sym, _∙_}
 use mathlib.Core.Bool.{Bool, true, false, not, _&&_, cond}
 use lib.Dec.{T}
 use lib.Ieee.{Float, nan, inf, fin, lt, isNan}

@@ -1,6 +1,6 @@
 -- A record has 80 bytes to a node.
 use mathlib.Core.Path.{_≡_}
-use Prim.Native.Nat.{ℕ, _*_}
+use Prim.Native.Nat.{_*_}
 use lib.ListN.{length}
 use Rattle.node.specs.Node.{nodeBytes}
 use Rattle.node.proofs.RoundTrip.{length-node}

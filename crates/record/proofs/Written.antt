@@ -21,7 +21,7 @@ use Rattle.wide_layout.proofs.Each.{each-map, none-numbered, node-has, node-num
 use Rattle.wide_layout.proofs.Numbers.{numbers-once}
 use Rattle.wide_layout.proofs.Placed.{inside}
 use Rattle.record.specs.Record.{joinedBelow}
-use Rattle.record.proofs.Joined.{joined-length, joined-at, Beside, beside-other, Place, place}
+use Rattle.record.proofs.Joined.{joined-length, joined-at, Beside, beside-other, place}
 
 -- a node's block at its number, where blocks have so many elements
 abbrev pub put : ℕ → (Entry → List ℕ) → Entry → List ℕ → List ℕ

@@ -7,7 +7,7 @@ use Prim.Native.Nat.{ℕ}
 use Rattle.walk.specs.Tests.{Tests}
 use Rattle.walk.specs.Calls.{All}
 use Rattle.walk.specs.Queries.{Reaction, Pane, distance, Found, none, hit, closest, miss, lower, lowerAt, blockAt}
-use Rattle.walk.specs.Reports.{toldRay, Notes, upTo, NoneBelow, Nearest, Blocks}
+use Rattle.walk.specs.Reports.{Notes, upTo, NoneBelow, Nearest, Blocks}
 use Rattle.walk.proofs.Lists.{all-map}
 use Rattle.walk.proofs.Hits.{After}
 use Rattle.walk.proofs.Nearest.{up-to-same, Order, front-nearest, nearer-later, nearest-stays, blocks-stays}

@@ -17,11 +17,10 @@ use Rattle.cost.proofs.Splits.{leaf-kind, leaf-limit}
 use Rattle.children.specs.Gather.{gather, EachTree}
 use Rattle.children.proofs.Gather.{gather-each, gather-width, two-children}
 use Rattle.wide_layout.specs.Wide.{Slots}
-use Rattle.wide_layout.specs.Content.{contentAt}
 use Rattle.wide_layout.specs.Sizes as S
 use Rattle.wide_tree.specs.WideTree.{Child, leafChild, innerChild, childBox, hold, Placing, filledSlots, childAs, contributed, wideChildren}
 use Rattle.wide_tree.specs.WideTree.{rootSlots}
-use Rattle.wide_tree.proofs.Slots.{OneToOne, heldAt, own-slot, total, slots-total, EachChild, slots-each}
+use Rattle.wide_tree.proofs.Slots.{OneToOne, total, slots-total, EachChild, slots-each}
 use Rattle.wide_tree.proofs.Gathered.{childOf, share, children-boxes, children-length}
 
 -- ---- the children that a tree opens into, by induction on the tree

@@ -1,6 +1,5 @@
 use mathlib.Core.Path.{ap, _∙_}
 use Prim.Native.Nat.{ℕ, _%_, _^_}
-use Rattle.walk.specs.Words.{Group}
 use Rattle.advance.proofs.Groups.{highest-found}
 use borrow.Author.Needs.{needs}
 use Rattle.advance.proofs.rest_of.Statement.{statement}

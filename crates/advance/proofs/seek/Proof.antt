@@ -1,6 +1,5 @@
-use mathlib.Core.Bool.{Bool, true, false, not}
-use mathlib.Core.List.{List}
-use mathlib.Core.Path.{_≡_, refl, sym, ap, subst, _∙_}
+use mathlib.Core.Bool.{true, false, not}
+use mathlib.Core.Path.{_≡_, refl, _∙_}
 use Prim.Native.Nat.{ℕ, _-_, _≤_, _<_}
 use native.Mathlib.Omega.{arith}
 use borrow.Author.Needs.{needs}
@@ -12,7 +11,7 @@ use Rattle.record_shape.specs.Record.{nodeCount}
 use Rattle.walk.specs.WordStep.{WalkerWords, SteppedWords, NodeWords, advanceWords, seekWords}
 use Rattle.walk_record.specs.WalkRay.{WalkRay, byBoxes}
 use Rattle.walk_record.specs.Record.{nodeWordsAt}
-use Rattle.advance.specs.Turn.{walkerOf, turned, goesOn, stepAnswer}
+use Rattle.advance.specs.Turn.{walkerOf, turned, goesOn}
 use Rattle.advance.proofs.Seeks.{seek-ends, seek-goes, seek-left, seek-none, seek-deep}
 use Rattle.advance.proofs.seek.Statement.{statement}
 use Rattle.advance.proofs.seek.Tie as tie

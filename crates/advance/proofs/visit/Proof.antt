@@ -1,9 +1,7 @@
 use mathlib.Core.Path.{_≡_, sym, _∙_}
-use mathlib.Core.Bool.{false}
-use Prim.Native.Nat.{_<_, _≤_}
 use native.Mathlib.Omega.{arith}
 use Rattle.record_shape.specs.Record.{nodeCount}
-use Rattle.advance.specs.Turn.{groupOf, stepAnswer, isPast}
+use Rattle.advance.specs.Turn.{groupOf, stepAnswer}
 use Rattle.advance.proofs.Visits.{not-past, turn-crowded, turn-past, turn-broken, turn-tested}
 use borrow.Author.Needs.{needs}
 use Rattle.advance.proofs.visit.Statement.{statement}

@@ -17,7 +17,7 @@ use Rattle.advance.specs.Turn.{stepAnswer, groupOf, walkerOf}
 use Rattle.advance.proofs.Seeks.{seeking-from}
 use Rattle.query.specs.Walk.{RecordSized}
 use Rattle.query.proofs.Begins.{walkable}
-use Rattle.any_hit.specs.declared.State.the-variants.{Done, Paused, Refused}
+use Rattle.any_hit.specs.declared.State.the-variants.{Paused}
 use Rattle.any_hit.specs.Gather.{Walking, pauseOf}
 use Rattle.any_hit.proofs.Written.{met-length}
 use Rattle.any_hit.proofs.Walks.{walk-kept, walk-over, After, walk-seeks, walk-goes, walk-past, Noted, walk-notes}

@@ -1,5 +1,4 @@
 use mathlib.Core.Path.{_≡_, sym, ap, _∙_}
-use Prim.Native.Nat.{ℕ}
 use native.Mathlib.Omega.{arith}
 use Rattle.walk.specs.Words.{Group, restOf}
 use Rattle.advance.specs.Turn.{groupOf}
