@@ -17,7 +17,7 @@ use Rattle.node.specs.declared.Node.{Node}
 unfoldable pub leastLimit : Float
 leastLimit = round binary32 false 1 10000
 
--- the near limit of a ray: the larger of its start and 0.0001, which it is for a start that is a NaN (02, [1])
+-- the near limit of a ray: the larger of its start and 0.0001; 0.0001 also where the start is a NaN (02, [1])
 unfoldable pub nearLimit : Ray → Float
 unfolding maxOf leastLimit
 nearLimit r = maxOf (r .tmin) leastLimit
