@@ -58,27 +58,27 @@ module _ {A : Type 0} (refuse : ℕ → A) (a : A) (apart : (k : ℕ) → refuse
   at-end found o (S.refused k) e = absurd (apart k e)
 
 -- closest's answers are apart, and so are miss's
-no-hit-apart : {A : Type 0} (p : ℕ) (t : Float) → noHit ≡ hitAt p t → A
-no-hit-apart p t e = let z : _≡_ {A = ℕ} 0 1 = cc in absurd (omega arith)
+pub hits-apart : {A : Type 0} (p : ℕ) (t : Float) → noHit ≡ hitAt p t → A
+hits-apart p t e = let z : _≡_ {A = ℕ} 0 1 = cc in absurd (omega arith)
 
 refused-hit-apart : {A : Type 0} (p : ℕ) (t : Float) (k : ℕ) → refusedClosest k ≡ hitAt p t → A
 refused-hit-apart p t k e = let z : _≡_ {A = ℕ} 0 1 = cc in absurd (omega arith)
 
-missed-apart : {A : Type 0} → missed ≡ blocked → A
-missed-apart e = let z : _≡_ {A = ℕ} 0 1 = cc in absurd (omega arith)
+pub blocks-apart : {A : Type 0} → missed ≡ blocked → A
+blocks-apart e = let z : _≡_ {A = ℕ} 0 1 = cc in absurd (omega arith)
 
 refused-blocked-apart : {A : Type 0} (k : ℕ) → refusedMiss k ≡ blocked → A
 refused-blocked-apart k e = let z : _≡_ {A = ℕ} 0 1 = cc in absurd (omega arith)
 
 found-hit : (y : Found Float) (k p : ℕ) (t : Float) → closestFound y k .answer ≡ hitAt p t → y ≡ hit p t
 unfolding closestFound
-found-hit none k p t e = no-hit-apart p t e
+found-hit none k p t e = hits-apart p t e
 found-hit (hit q u) k p t e = let a : q ≡ p = cc in let b : u ≡ t = cc in rw (a, b)
 found-hit (fault j) k p t e = refused-hit-apart p t j e
 
 found-block : (y : Found Float) (k : ℕ) → missFound y k .answer ≡ blocked → (p : ℕ) × (t : Float) × (y ≡ hit p t)
 unfolding missFound
-found-block none k e = missed-apart e
+found-block none k e = blocks-apart e
 found-block (hit p t) k e = (p, t, refl)
 found-block (fault j) k e = refused-blocked-apart j e
 

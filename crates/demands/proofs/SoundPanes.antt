@@ -37,6 +37,7 @@ use Rattle.demands.specs.Runs.{callsMade, answersMade}
 use Rattle.demands.specs.Walks.{CheckedRecord, AcceptedRay}
 use Rattle.demands.specs.Panes.{Panes, distanceOf, closestSteps, missSteps, closestReports, missReports, ClosestAnswers, MissAnswers}
 use Rattle.demands.proofs.Rays.{distance-known}
+use Rattle.demands.proofs.NearLimit.{hits-apart, blocks-apart}
 use Rattle.demands.proofs.SoundWalks.{sound-walks, query-not-refused}
 use Rattle.demands.proofs.Runs.{query-tests, reported-exist, query-noted, miss-closest}
 
@@ -51,13 +52,6 @@ found-at-end refuse found zero o (S.position p) e h = refl
 found-at-end refuse found zero o S.done e h = refl
 found-at-end refuse found zero o (S.refused k) e h = absurd h
 found-at-end refuse found (suc c) o b e h = absurd (omega arith)
-
--- answers of two kinds are not one
-hits-apart : {A : Type 0} (p : ℕ) (t : Float) → noHit ≡ hitAt p t → A
-hits-apart p t e = let z : _≡_ {A = ℕ} 0 1 = cc in absurd (omega arith)
-
-blocks-apart : {A : Type 0} → missed ≡ blocked → A
-blocks-apart e = let z : _≡_ {A = ℕ} 0 1 = cc in absurd (omega arith)
 
 -- what holds of a hit's position holds of an equal hit's
 same-hit : (entersAt : ℕ → Float) (P : ℕ → Type 0) (p q : ℕ) (t : Float) → P p → hitAt p (entersAt p) ≡ hitAt q t → (t ≡ entersAt q) × P q

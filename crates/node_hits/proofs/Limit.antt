@@ -57,11 +57,15 @@ module _ (r : Ray) where
   pub limit-least : lt leastLimit (r .tmin) ≡ false → nearLimit r ≡ leastLimit
   limit-least h = limit-cases (λ x. x ≡ leastLimit) (λ e. clash (sym h ∙ e)) (λ e. refl)
 
+-- what something is at most is a number
+pub number-right : (x y : Float) → T (le x y) → T (not (isNan y))
+number-right x y h = no-nan-le-r x y (is-true (le x y) h)
+
 -- a later start has no lower limit
 pub limit-rises : (r s : Ray) → T (le (s .tmin) (r .tmin)) → T (le (nearLimit s) (nearLimit r))
 limit-rises r s h =
     limit-cases s (λ x. T (le x (nearLimit r))) (λ e. le-transitive (s .tmin) (r .tmin) (nearLimit r) h
-    (limit-from-start r (no-nan-le-r (s .tmin) (r .tmin) (is-true _ h)))) (λ e. limit-from-least r)
+    (limit-from-start r (number-right (s .tmin) (r .tmin) h))) (λ e. limit-from-least r)
 
 -- ---- starts past the reach
 

@@ -9,7 +9,6 @@ use lib.Ieee.{Float, nan, inf, fin, lt, le, isNan}
 use lib.Ieee.Bits.{is-true}
 use Rattle.float.specs.Compare.{minOf, maxOf}
 use Rattle.float.proofs.Order.{le-self, le-transitive, le-of-lt, le-of-not-lt}
-use Rattle.float.proofs.Sign.{no-nan-le-r}
 use Rattle.words.specs.Fields.{field}
 use Rattle.words.proofs.Ors.{bit-from, bit-to, zero-bit}
 use Rattle.ray.specs.declared.Ray.{Ray}
@@ -19,7 +18,7 @@ use Rattle.node.specs.declared.Node.{Node}
 use Rattle.node.specs.Node.{noSlot}
 use Rattle.node_slot.specs.Slot.{nearLimit, nearX, nearY, nearZ, farX, farY, farZ, nearOf, farOf, passes}
 use Rattle.node_slot.specs.Mask.{onlyIf, hitBits, passesSlot, slotHit, hitMaskOf, hitMask}
-use Rattle.node_hits.proofs.Limit.{limit-number, limit-rises}
+use Rattle.node_hits.proofs.Limit.{limit-number, number-right, limit-rises}
 
 -- two rays that differ in start and reach alone: the first has no lower near limit and no higher reach
 pub record Narrower (r s : Ray) : Type 0 where
@@ -43,10 +42,7 @@ later-start r t h n = record {
   reach = le-self (r .tmax) n;
 }
 
--- what something is at most is no NaN, and neither is what is at most something
-number-right : (x y : Float) → T (le x y) → T (not (isNan y))
-number-right x y h = no-nan-le-r x y (is-true (le x y) h)
-
+-- what is at most something is no NaN
 no-nan-left : (x y : Float) → T (le x y) → T (not (isNan x))
 unfolding le isNan
 no-nan-left nan y h = h
