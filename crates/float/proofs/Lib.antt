@@ -10,4 +10,5 @@ pub mod Rounding
 pub mod Sign
 pub mod Signed
 pub mod Units
+pub mod Unsigned
 pub mod Zeros

@@ -32,7 +32,7 @@ nonzero f s m e t F =
     none true = omega arith
     none false = omega arith
 
-zero-is : (f : Format) (s : Bool) (e : ℤ) → T (fits f (fin s 0 e)) → fin s 0 e ≡ fin s 0 (pos 0)
+pub zero-is : (f : Format) (s : Bool) (e : ℤ) → T (fits f (fin s 0 e)) → fin s 0 e ≡ fin s 0 (pos 0)
 unfolding fits
 zero-is f s e F = value-unique f (fin s 0 e) (fin s 0 (pos 0)) s 0 1 0 1 F tt (lit< tt) (lit< tt) (refl, omega arith) (refl, refl) refl
 

@@ -1,7 +1,7 @@
 // Internal: small float operations that the other crates share. The laws on floats stand in proofs/.
 ghost use mathlib.Core.Path.{_≡_};
 ghost use lib.Ieee.{binary32, ofBits};
-ghost use Rattle.float.specs.Compare.{minOf, maxOf, unsignedZero, inBounds};
+ghost use Rattle.float.specs.Compare.{minOf, maxOf, unsignedZero, isMinusZero, inBounds};
 ghost use Rattle.float.specs.PowerOfTwo.{scaleOf};
 
 // The lesser of two, as a vector's min takes it.
@@ -23,6 +23,16 @@ pub fn unsigned_zero(x: f32) -> f32
     ensures { λ r. ⌜ r ≡ unsignedZero x ⌝ }
 {
     if x == 0.0 { 0.0 } else { x }
+}
+
+// Whether x is -0.0.
+pub fn is_minus_zero(x: f32) -> bool
+    ensures { λ r. ⌜ r ≡ isMinusZero x ⌝ }
+{
+    if x == 0.0 {
+        return f32::to_bits(x) >= 0x8000_0000;
+    }
+    false
 }
 
 // Whether x is finite and within 2^40 of zero.

@@ -11,6 +11,7 @@ use Rattle.float.specs.Compare.{inBounds}
 use Rattle.float.specs.Magnitude.{Within}
 use Rattle.float.specs.Sign.{signBit}
 use Rattle.float.proofs.Held.{held-pow}
+use Rattle.float.proofs.Sign.{div-sign}
 use Rattle.float.proofs.Magnitude.{div-atmost, atmost-of-tests, atleast-of-test, atmost-no-nan}
 use Rattle.ray.specs.declared.Vec3.{Vec3}
 use Rattle.ray.specs.declared.Ray.{Ray}
@@ -57,6 +58,15 @@ safe-inverse-within v p = go (tiny v) refl
     go false h =
         div-atmost binary32 (fin false 1 (pos 0)) v 1 1 1 (2 ^ 23) (lit< tt) (lit< tt) (held-pow binary32 23 (lit≤ tt)) (lit≤ tt)
         (atleast-of-test v 1 (negsuc 22) p h)
+
+-- it has the sign of what it is the inverse of
+pub inverse-sign : (v : Float) → T (not (isNan v)) → signBit (safeInverse v) ≡ signBit v
+unfolding safeInverse
+inverse-sign v p = go (tiny v)
+  where
+    go : (t : Bool) → signBit (cond t (fin (signBit v) 1 (pos 23)) (div binary32 (fin false 1 (pos 0)) v)) ≡ signBit v
+    go true = refl
+    go false = div-sign binary32 0 (pos 0) v p
 
 -- ---- accepted rays
 pub record Accepted (r : Ray) : Type 0 where

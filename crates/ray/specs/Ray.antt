@@ -1,9 +1,9 @@
--- Rays (01, "Corners of each file", ray.rs; "Walking"; "Causes of refusal", 9; 02, [1]). A ray's start is its tmin, its reach its tmax.
+-- Rays (01, "Corners of each file", ray.rs; "Walking"; "Causes of refusal", 9; 02, [1] and [2]). A ray's start is its tmin, its reach its tmax.
 use Prim.Native.Nat.{ℕ, _+_, _-_}
 use mathlib.Core.Bool.{Bool, true, false, not, _&&_, cond}
 use lib.IntN.{pos, negsuc}
 use lib.Ieee.{Float, inf, fin, binary32, div, lt, le, isNan}
-use Rattle.float.specs.Compare.{plusZero, inBounds}
+use Rattle.float.specs.Compare.{plusZero, unsignedZero, isMinusZero, inBounds}
 use Rattle.float.specs.Sign.{signBit}
 use Rattle.ray.specs.declared.Vec3.{Vec3}
 use Rattle.ray.specs.declared.Ray.{Ray}
@@ -24,12 +24,24 @@ belowZero v = lt v plusZero
 unfoldable pub octantOf : Vec3 → ℕ
 octantOf d = 7 - (cond (belowZero (d .x)) 4 0 + cond (belowZero (d .y)) 2 0 + cond (belowZero (d .z)) 1 0)
 
--- a ray as it enters: its inverse is its direction's
+-- each component as it enters: a zero of either sign is +0 (02, [2])
+unfoldable pub unsignedVec : Vec3 → Vec3
+unsignedVec v = record { x = unsignedZero (v .x); y = unsignedZero (v .y); z = unsignedZero (v .z) }
+
+-- no component is -0 (02, [2])
+unfoldable pub plainVec : Vec3 → Bool
+plainVec v = not (isMinusZero (v .x)) && not (isMinusZero (v .y)) && not (isMinusZero (v .z))
+
+-- the safe inverse of each component
+abbrev pub inverseOf : Vec3 → Vec3
+inverseOf d = record { x = safeInverse (d .x); y = safeInverse (d .y); z = safeInverse (d .z) }
+
+-- a ray as it enters: the zeros of its origin and its direction are +0, and its inverse is that of the direction so read (02, [2])
 unfoldable pub rayOf : Vec3 → Vec3 → Float → Float → Ray
 rayOf o d near far = record {
-  origin = o;
-  direction = d;
-  inverse = record { x = safeInverse (d .x); y = safeInverse (d .y); z = safeInverse (d .z) };
+  origin = unsignedVec o;
+  direction = unsignedVec d;
+  inverse = inverseOf (unsignedVec d);
   tmin = near;
   tmax = far;
 }

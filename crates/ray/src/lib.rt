@@ -1,7 +1,7 @@
 // Rays (ray.rs): the safe inverse of a direction, the octant, and which rays are accepted.
 ghost use mathlib.Core.Path.{_≡_};
 ghost use mathlib.Core.Bool.{cond};
-ghost use Rattle.ray.specs.Ray.{belowZero, safeInverse, octantOf, rayOf, counts, acceptedRay, boundedVec};
+ghost use Rattle.ray.specs.Ray.{belowZero, safeInverse, octantOf, unsignedVec, plainVec, rayOf, counts, acceptedRay, boundedVec};
 
 // Three floats, in the place of the Rust's Vec3A.
 pub struct Vec3 {
@@ -60,20 +60,46 @@ impl Vec3 {
         }
         false
     }
+
+    // Whether no component is -0.0.
+    pub fn plain(self) -> bool
+        ensures { λ r. ⌜ r ≡ plainVec self ⌝ }
+    {
+        if float::is_minus_zero(self.x) {
+            return false;
+        }
+        if float::is_minus_zero(self.y) {
+            return false;
+        }
+        !float::is_minus_zero(self.z)
+    }
+
+    // Each zero component as +0.0.
+    fn unsigned(self) -> Vec3
+        ensures { λ r. ⌜ r ≡ unsignedVec self ⌝ }
+    {
+        Vec3 {
+            x: float::unsigned_zero(self.x),
+            y: float::unsigned_zero(self.y),
+            z: float::unsigned_zero(self.z),
+        }
+    }
 }
 
 impl Ray {
-    // The ray from an origin along a direction, with its range of distances.
+    // The ray from an origin along a direction, zeros of either sign as +0.0, with its range of distances.
     pub fn new(origin: Vec3, direction: Vec3, tmin: f32, tmax: f32) -> Ray
         ensures { λ r. ⌜ r ≡ rayOf origin direction tmin tmax ⌝ }
     {
-        let x = safe_inverse(direction.x);
-        let y = safe_inverse(direction.y);
-        let z = safe_inverse(direction.z);
+        let from = origin.unsigned();
+        let along = direction.unsigned();
+        let x = safe_inverse(along.x);
+        let y = safe_inverse(along.y);
+        let z = safe_inverse(along.z);
         let inverse = Vec3 { x, y, z };
         Ray {
-            origin,
-            direction,
+            origin: from,
+            direction: along,
             inverse,
             tmin,
             tmax,
