@@ -1,11 +1,12 @@
 -- What holds of rays within the bounds: an octant is below 8, a safe inverse at most 2 ^ 23 in size, an accepted ray's components finite.
-use mathlib.Core.Path.{_≡_, refl}
+use mathlib.Core.Path.{_≡_, refl, sym, subst}
 use mathlib.Core.Bool.{Bool, true, false, not, _&&_, cond}
 use Prim.Native.Nat.{ℕ, _^_, _≤_, _<_}
 use native.Mathlib.Omega.{arith}
 use lib.IntN.{pos, negsuc}
 use lib.Dec.{T, lit<, lit≤}
 use lib.Ieee.{Float, nan, fin, binary32, div, le, isNan}
+use lib.Ieee.Bits.{is-true}
 use lib.Ieee.Fits.{and-l, and-r}
 use Rattle.float.specs.Compare.{inBounds}
 use Rattle.float.specs.Magnitude.{Within}
@@ -15,7 +16,7 @@ use Rattle.float.proofs.Sign.{div-sign}
 use Rattle.float.proofs.Magnitude.{div-atmost, atmost-of-tests, atleast-of-test, atmost-no-nan}
 use Rattle.ray.specs.declared.Vec3.{Vec3}
 use Rattle.ray.specs.declared.Ray.{Ray}
-use Rattle.ray.specs.Ray.{tiny, safeInverse, octantOf, boundedVec, acceptedRay}
+use Rattle.ray.specs.Ray.{tiny, safeInverse, octantOf, reaching, boundedVec, acceptedRay}
 
 pub weight-le : (b : Bool) (w : ℕ) → cond b w 0 ≤ w
 weight-le true w = omega arith
@@ -86,6 +87,13 @@ accepted r t =
       tmin = and-r bounds (not (isNan (r .tmin))) start;
       tmax = and-r (bounds && not (isNan (r .tmin))) (not (isNan (r .tmax))) t;
     }
+
+-- another reach that is no NaN leaves it accepted
+pub reaching-accepted : (r : Ray) (t : Float) → acceptedRay r ≡ true → isNan t ≡ false → acceptedRay (reaching t r) ≡ true
+unfolding acceptedRay
+reaching-accepted r t h n =
+    let start = boundedVec (r .origin) && boundedVec (r .direction) && not (isNan (r .tmin)) in
+    rw (is-true start (and-l start (not (isNan (r .tmax))) (subst T (sym h) tt)), n)
 
 -- with a NaN as its start a ray is not accepted
 pub nan-start-refused : (r : Ray) → r .tmin ≡ nan → acceptedRay r ≡ false

@@ -8,14 +8,14 @@ use lib.Dec.{eqb}
 use lib.IntN.{pos, negsuc}
 use lib.Ieee.{Float, inf, fin, round, ofBits, ofInt, add, sub, mul, div, lt, le, eq, isNan}
 use lib.ListN.{replicate}
-use Rattle.float.specs.Compare.{minOf, maxOf, inBounds}
+use Rattle.float.specs.Compare.{minOf, maxOf, unsignedZero, isMinusZero, inBounds}
 use Rattle.float.specs.PowerOfTwo.{scaleOf}
 use Rattle.words.specs.Fields.{field}
 use Rattle.words.specs.Le.{leAt, sumOf}
 use Rattle.words.specs.Ones.{onesBelow}
 use Rattle.words.specs.Ors.{orOf}
 use Rattle.faststack.specs.Stack.{pushed, topOf}
-use Rattle.ray.specs.Ray.{safeInverse, octantOf, rayOf, counts, boundedVec, acceptedRay}
+use Rattle.ray.specs.Ray.{safeInverse, octantOf, unsignedVec, plainVec, rayOf, counts, boundedVec, acceptedRay}
 use Rattle.node.specs.Node.{slotOffset, slotFrom, nodeFrom, childIndex}
 use Rattle.node_rule.specs.Rule.{pointOk, exponentOk, headOk, childrenOk, leafTop, slotOk, slotsOk, nodeRule}
 use Rattle.node_slot.specs.Slot.{nearLimit, adjustedInverse, adjustedOrigin, planeAt, nearOf, farOf, passes}
@@ -108,7 +108,7 @@ pub examples : Examples
 unfolding anyHitAt queryAt runAt queryWords runWords stepWords advanceWords reportWords visitWords popWords rayOf counts octantOf hitMask slotHit
     hitBits orOf passes nearOf farOf maxOf minOf planeAt adjustedInverse adjustedOrigin nearLimit scaleOf nodeFrom leAt sumOf slotFrom slotOffset
     nodeRule headOk childrenOk slotsOk slotOk leafTop pointOk exponentOk inBounds onesBelow field childIndex topOf pushed leadingZeros safeInverse
-    boundedVec acceptedRay round ofBits ofInt add sub mul div lt le eq isNan
+    boundedVec acceptedRay unsignedVec plainVec unsignedZero isMinusZero round ofBits ofInt add sub mul div lt le eq isNan
 examples = record {
   octant-7 = refl;
   octant-3 = refl;

@@ -1,4 +1,4 @@
--- The ray of a walker: its octant is one of eight unless it is forged, and telling leaves octant and acceptance as they were.
+-- The ray of a walker: when it is not forged, that its octant is one of eight then, and that telling leaves octant and acceptance as they were.
 use mathlib.Core.Bool.{Bool, true, false, not, _&&_, cond}
 use mathlib.Core.Path.{_≡_, refl, sym, subst}
 use Prim.Native.Nat.{ℕ, _*_, _^_, _<_}
@@ -8,15 +8,16 @@ use lib.Ieee.{Float, nan, inf, fin, up, down, lt, eq, isNan}
 use borrow.Author.Tests.{eqb-true, eq-eqb}
 use Rattle.lists.proofs.Tells.{clash}
 use Rattle.ray.specs.declared.Vec3.{Vec3}
-use Rattle.ray.specs.Ray.{safeInverse, octantOf, rayOf, reaching, boundedVec, acceptedRay}
-use Rattle.ray.proofs.Bounds.{accepted, inverse-within}
+use Rattle.ray.specs.Ray.{safeInverse, octantOf, unsignedVec, rayOf, reaching, acceptedRay}
+use Rattle.ray.proofs.Bounds.{accepted, reaching-accepted, inverse-within}
 use Rattle.ray.proofs.Bounds
 use Rattle.ray.proofs.Counts.{counts-below}
+use Rattle.ray.proofs.Entered.{entered-plain}
 use Rattle.float.specs.Magnitude.{Within}
 use Rattle.float.proofs.Magnitude.{atmost-no-nan}
 use Rattle.walk.proofs.Cases.{and-true, not-false-true}
 use Rattle.walk_record.specs.Record.{RayLaws, AllPresent}
-use Rattle.walk_record.specs.WalkRay.{WalkRay, walkRay, ownInverse, forgedRay, toldWalkRay, byBoxes}
+use Rattle.walk_record.specs.WalkRay.{WalkRay, walkRay, plainRay, ownInverse, forgedRay, toldWalkRay, byBoxes}
 
 -- what is below something is no NaN
 below-no-nan : (x y : Float) → lt x y ≡ true → isNan x ≡ false
@@ -25,25 +26,46 @@ below-no-nan nan y e = clash e
 below-no-nan (inf s) y e = refl
 below-no-nan (fin s m z) y e = refl
 
+-- what a ray must have that is not forged
+pub record Unforged (b : WalkRay) : Type 0 where
+  pub accepted : acceptedRay (b .ray) ≡ true
+  pub plain : plainRay (b .ray) ≡ true
+  pub inverse : ownInverse (b .ray) ≡ true
+  pub octant : b .octant ≡ octantOf (b .ray .direction)
+
+-- and these are all that it takes
+module _ (b : WalkRay) where
+  pub unforged : forgedRay b ≡ false → Unforged b
+  unforged f =
+      let turned = eqb (b .octant) (octantOf (b .ray .direction)) in
+      let three = and-true (acceptedRay (b .ray) && plainRay (b .ray) && ownInverse (b .ray)) turned (not-false-true _ f) in
+      let two = and-true (acceptedRay (b .ray) && plainRay (b .ray)) (ownInverse (b .ray)) (three .0) in
+      let one = and-true (acceptedRay (b .ray)) (plainRay (b .ray)) (two .0) in
+      record {
+        accepted = one .0;
+        plain = one .1;
+        inverse = two .1;
+        octant = eqb-true (b .octant) (octantOf (b .ray .direction)) (three .1);
+      }
+
+  pub not-forged : Unforged b → forgedRay b ≡ false
+  not-forged u = rw (u .accepted, u .plain, u .inverse, eq-eqb (b .octant) (octantOf (b .ray .direction)) (u .octant))
+
 octant-lt : (b : WalkRay) → forgedRay b ≡ false → b .octant < 8
-octant-lt b f =
-    let a = and-true (acceptedRay (b .ray) && ownInverse (b .ray)) (eqb (b .octant) (octantOf (b .ray .direction))) (not-false-true _ f) in
-    let e = eqb-true (b .octant) (octantOf (b .ray .direction)) (a .1) in
-    omega (arith, Bounds.octant-lt (b .ray .direction))
+octant-lt b f = omega (arith, unforged b f .octant, Bounds.octant-lt (b .ray .direction))
 
 -- a ray that is not forged stays so with another reach, if that is no NaN
 reach-accepted : (t : Float) (b : WalkRay) (c : Bool) → (c ≡ true → isNan t ≡ false) → forgedRay b ≡ false
     → forgedRay (record { ray = cond c (reaching t (b .ray)) (b .ray); octant = b .octant }) ≡ false
-unfolding acceptedRay
 reach-accepted t b false n f = f
 reach-accepted t b true n f =
-    let a = and-true (acceptedRay (b .ray) && ownInverse (b .ray)) (eqb (b .octant) (octantOf (b .ray .direction))) (not-false-true _ f) in
-    let c = and-true (acceptedRay (b .ray)) (ownInverse (b .ray)) (a .0) in
-    let bounds = boundedVec (b .ray .origin) && boundedVec (b .ray .direction) in
-    let s = and-true (bounds && not (isNan (b .ray .tmin))) (not (isNan (b .ray .tmax))) (c .0) in
-    let g = and-true bounds (not (isNan (b .ray .tmin))) (s .0) in
-    let h = and-true (boundedVec (b .ray .origin)) (boundedVec (b .ray .direction)) (g .0) in
-    rw (h .0, h .1, g .1, n refl, c .1, a .1)
+    let u = unforged b f in
+    not-forged (record { ray = reaching t (b .ray); octant = b .octant }) (record {
+      accepted = reaching-accepted (b .ray) t (u .accepted) (n refl);
+      plain = u .plain;
+      inverse = u .inverse;
+      octant = u .octant;
+    })
 
 told-accepted : (t : Float) (b : WalkRay) → forgedRay b ≡ false → forgedRay (toldWalkRay t b) ≡ false
 told-accepted t b = reach-accepted t b _ (λ e. below-no-nan t (b .ray .tmax) (counts-below (b .ray) t e))
@@ -72,10 +94,12 @@ pub begun-accepted : (o d : Vec3) (near far : Float) → acceptedRay (rayOf o d 
 unfolding rayOf
 begun-accepted o d near far h =
     let a = accepted (rayOf o d near far) (subst T (sym h) tt) in
-    rw (
-      h,
-      inverse-self (d .x) (a .direction .x),
-      inverse-self (d .y) (a .direction .y),
-      inverse-self (d .z) (a .direction .z),
-      eq-eqb (octantOf d) (octantOf d) refl,
-    )
+    let p = entered-plain o d near far in
+    not-forged (walkRay (rayOf o d near far)) (record {
+      accepted = h;
+      plain = rw (p .0, p .1);
+      inverse =
+          let v = unsignedVec d in
+          rw (inverse-self (v .x) (a .direction .x), inverse-self (v .y) (a .direction .y), inverse-self (v .z) (a .direction .z));
+      octant = refl;
+    })
