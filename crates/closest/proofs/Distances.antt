@@ -13,7 +13,7 @@ use Rattle.float.proofs.Magnitude.{sub-within, mul-within}
 use Rattle.float.proofs.Order.{lt-through, lt-self, lt-between}
 use Rattle.ray.specs.declared.Ray.{Ray}
 use Rattle.ray.specs.declared.Vec3.{Vec3}
-use Rattle.ray.specs.Ray.{rayOf, reaching, counts, seenAt, acceptedRay}
+use Rattle.ray.specs.Ray.{unsignedVec, rayOf, reaching, counts, seenAt, acceptedRay}
 use Rattle.ray.proofs.Bounds.{inverse-within}
 use Rattle.ray.proofs.Bounds as R
 use Rattle.ray.proofs.Counts.{counts-seen, seen-itself}
@@ -70,9 +70,9 @@ distance-number b o d near far p q =
     number =
         max-no-nan _ _
         (max-no-nan _ _
-        (near-number _ _ _ _ (box .low .x) (box .high .x) (ray .origin .x) (inverse-within (d .x) (ray .direction .x)))
-        (near-number _ _ _ _ (box .low .y) (box .high .y) (ray .origin .y) (inverse-within (d .y) (ray .direction .y))))
-        (near-number _ _ _ _ (box .low .z) (box .high .z) (ray .origin .z) (inverse-within (d .z) (ray .direction .z)))
+        (near-number _ _ _ _ (box .low .x) (box .high .x) (ray .origin .x) (inverse-within (unsignedVec d .x) (ray .direction .x)))
+        (near-number _ _ _ _ (box .low .y) (box .high .y) (ray .origin .y) (inverse-within (unsignedVec d .y) (ray .direction .y))))
+        (near-number _ _ _ _ (box .low .z) (box .high .z) (ray .origin .z) (inverse-within (unsignedVec d .z) (ray .direction .z)))
 
     go : (c : Bool) → Number (cond c (unsignedZero (boxNear b (rayOf o d near far))) (inf false))
     go true = zero-number _ number

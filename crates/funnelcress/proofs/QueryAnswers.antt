@@ -9,6 +9,7 @@ use lib.ListN.{length}
 use borrow.Author.Tests.{eq-eqb, ne-eqb}
 use Rattle.ray.specs.declared.Ray.{Ray}
 use Rattle.ray.specs.Ray.{rayOf}
+use Rattle.ray.proofs.Entered.{entered-again}
 use Rattle.query.specs.Entry.{entryCause}
 use Rattle.query.specs.Result.{Result, unanswered}
 use Rattle.any_hit.specs.AnyHit.{AnyHitAnswer, refused, anyHitOf, listAfter}
@@ -23,8 +24,8 @@ module _ (ray : List Float) where
   again r = rayOf (r .origin) (r .direction) (r .tmin) (r .tmax)
 
   pub same-ray : (r : Ray) → r ≡ rayIn ray 0 → again r ≡ rayIn ray 0
-  unfolding rayIn rayOf
-  same-ray r e = rw e
+  unfolding rayIn
+  same-ray r e = entered-again _ _ _ _ r e
 
   pub fit : {A : Type 0} (x y : A) → length ray ≡ 8 → y ≡ ofEight ray x y
   fit x y e = ap (λ (b : Bool). cond b y x) (sym (eq-eqb _ _ e))

@@ -10,9 +10,9 @@ use Rattle.words.specs.Ones.{onesBelow}
 use Rattle.words.specs.Ors.{orOf}
 use Rattle.lists.specs.Below.{allBelow}
 use Rattle.lists.specs.Counts.{same, count}
-use Rattle.float.specs.Compare.{minOf, maxOf, unsignedZero, inBounds}
+use Rattle.float.specs.Compare.{minOf, maxOf, unsignedZero, isMinusZero, inBounds}
 use Rattle.float.specs.PowerOfTwo.{scaleOf, nextPower}
-use Rattle.ray.specs.Ray.{safeInverse, octantOf, rayOf, counts, boundedVec, acceptedRay}
+use Rattle.ray.specs.Ray.{safeInverse, octantOf, unsignedVec, plainVec, rayOf, counts, boundedVec, acceptedRay}
 use Rattle.aabb.specs.Aabb.{slabNear, slabFar, boxNear, boxFar, entryDistance, halfArea, centerOf, inOrder, acceptedBox}
 use Rattle.packed.specs.Packed.{vecIn, boxIn}
 use Rattle.quantization.specs.Exponent.{extentScale, exponentOf}
@@ -66,7 +66,7 @@ closest :
 unfolding closestOf closestWalk closestFound walked entered entryConditions recordConditions firstCause paneOf paneMet counts boxIn vecIn queryAt
     queryWords
     stepWords advanceWords reportWords
-    visitWords popWords rayOf octantOf hitMask slotHit hitBits orOf passes nearOf farOf maxOf minOf planeAt adjustedInverse adjustedOrigin nearLimit
+    visitWords popWords rayOf unsignedVec plainVec isMinusZero octantOf hitMask slotHit hitBits orOf passes nearOf farOf maxOf minOf planeAt adjustedInverse adjustedOrigin nearLimit
     scaleOf nodeFrom leAt sumOf slotFrom slotOffset nodeRule headOk childrenOk slotsOk slotOk leafTop pointOk exponentOk inBounds onesBelow field
     childIndex topOf pushed leadingZeros safeInverse boundedVec acceptedRay acceptedBox inOrder entryDistance boxNear boxFar slabNear slabFar
     unsignedZero round ofBits ofInt add sub mul div lt le eq isNan
@@ -80,7 +80,7 @@ miss :
 unfolding missOf missWalk missFound walked entered entryConditions recordConditions firstCause paneOf paneMet counts boxIn vecIn queryAt queryWords
     stepWords
     advanceWords reportWords
-    visitWords popWords rayOf octantOf hitMask slotHit hitBits orOf passes nearOf farOf maxOf minOf planeAt adjustedInverse adjustedOrigin nearLimit
+    visitWords popWords rayOf unsignedVec plainVec isMinusZero octantOf hitMask slotHit hitBits orOf passes nearOf farOf maxOf minOf planeAt adjustedInverse adjustedOrigin nearLimit
     scaleOf nodeFrom leAt sumOf slotFrom slotOffset nodeRule headOk childrenOk slotsOk slotOk leafTop pointOk exponentOk inBounds onesBelow field
     childIndex topOf pushed leadingZeros safeInverse boundedVec acceptedRay acceptedBox inOrder entryDistance boxNear boxFar slabNear slabFar
     unsignedZero round ofBits ofInt add sub mul div lt le eq isNan

@@ -9,9 +9,9 @@ use Rattle.words.specs.Le.{leAt, sumOf}
 use Rattle.words.specs.Ones.{onesBelow}
 use Rattle.words.specs.Ors.{orOf}
 use Rattle.lists.specs.Splice.{splice}
-use Rattle.float.specs.Compare.{minOf, maxOf, unsignedZero, inBounds}
+use Rattle.float.specs.Compare.{minOf, maxOf, unsignedZero, isMinusZero, inBounds}
 use Rattle.float.specs.PowerOfTwo.{scaleOf}
-use Rattle.ray.specs.Ray.{safeInverse, octantOf, rayOf, counts, boundedVec, acceptedRay}
+use Rattle.ray.specs.Ray.{safeInverse, octantOf, unsignedVec, plainVec, rayOf, counts, boundedVec, acceptedRay}
 use Rattle.aabb.specs.Aabb.{slabNear, slabFar, boxNear, boxFar, entryDistance, inOrder, acceptedBox}
 use Rattle.packed.specs.Packed.{vecIn, boxIn}
 use Rattle.causes.specs.Causes.{firstCause}
@@ -43,7 +43,7 @@ any-hits :
     × (anyHitOf bytesT 2 (aheadFrom (inf false)) 2 ≡ record { answer = listed 0; tests = 1 })
     × (anyHitOf bytesT 2 (aheadFrom nan) 2 ≡ record { answer = refused 9; tests = 0 })
 unfolding anyHitOf listAfter listFor splice entryConditions recordConditions firstCause entered walkOf walked fitted anyHitAt queryAt queryWords
-    stepWords advanceWords reportWords visitWords popWords rayOf octantOf hitMask slotHit hitBits orOf passes nearOf farOf maxOf minOf planeAt
+    stepWords advanceWords reportWords visitWords popWords rayOf unsignedVec plainVec unsignedZero isMinusZero octantOf hitMask slotHit hitBits orOf passes nearOf farOf maxOf minOf planeAt
     adjustedInverse adjustedOrigin leastLimit nearLimit scaleOf nodeFrom leAt sumOf slotFrom slotOffset nodeRule headOk childrenOk slotsOk slotOk
     leafTop pointOk exponentOk inBounds onesBelow field childIndex topOf pushed leadingZeros safeInverse boundedVec acceptedRay round ofBits ofInt
     add sub mul div lt le eq isNan
@@ -58,7 +58,7 @@ closest :
     × (closestOf bytesT indicesT panesT (withinA (number 0)) ≡ closestIs (hitAt 1 (halves 3)) 1)
     × (closestOf bytesT indicesT panesT (withinA minusOne) ≡ closestIs (hitAt 0 minusHalf) 1)
 unfolding closestOf closestWalk closestFound walked entered entryConditions recordConditions firstCause paneOf paneMet counts boxIn vecIn queryAt
-    queryWords stepWords advanceWords reportWords visitWords popWords rayOf octantOf hitMask slotHit hitBits orOf passes nearOf farOf maxOf minOf
+    queryWords stepWords advanceWords reportWords visitWords popWords rayOf unsignedVec plainVec isMinusZero octantOf hitMask slotHit hitBits orOf passes nearOf farOf maxOf minOf
     planeAt adjustedInverse adjustedOrigin leastLimit nearLimit scaleOf nodeFrom leAt sumOf slotFrom slotOffset nodeRule headOk childrenOk slotsOk
     slotOk leafTop pointOk exponentOk inBounds onesBelow field childIndex topOf pushed leadingZeros safeInverse boundedVec acceptedRay acceptedBox
     inOrder entryDistance boxNear boxFar slabNear slabFar unsignedZero round ofBits ofInt add sub mul div lt le eq isNan
@@ -69,7 +69,7 @@ miss :
     × (missOf bytesT indicesT panesT (aheadFrom (halves 7)) ≡ missIs missed 1)
     × (missOf bytesT indicesT panesT (aheadFrom nan) ≡ missIs (refusedMiss 9) 0)
 unfolding missOf missWalk missFound walked entered entryConditions recordConditions firstCause paneOf paneMet counts boxIn vecIn queryAt queryWords
-    stepWords advanceWords reportWords visitWords popWords rayOf octantOf hitMask slotHit hitBits orOf passes nearOf farOf maxOf minOf planeAt
+    stepWords advanceWords reportWords visitWords popWords rayOf unsignedVec plainVec isMinusZero octantOf hitMask slotHit hitBits orOf passes nearOf farOf maxOf minOf planeAt
     adjustedInverse adjustedOrigin leastLimit nearLimit scaleOf nodeFrom leAt sumOf slotFrom slotOffset nodeRule headOk childrenOk slotsOk slotOk
     leafTop pointOk exponentOk inBounds onesBelow field childIndex topOf pushed leadingZeros safeInverse boundedVec acceptedRay acceptedBox inOrder
     entryDistance boxNear boxFar slabNear slabFar unsignedZero round ofBits ofInt add sub mul div lt le eq isNan
@@ -79,7 +79,7 @@ told :
     (toldFrom2 (number 1 ∷ []) ≡ toldFrom2 [])
     × (reachAfter (number 3 ∷ []) ≡ number 3)
     × (reachAfter (number 2 ∷ number 3 ∷ []) ≡ number 2)
-unfolding started acceptedRay boundedVec inBounds isNan rayOf octantOf safeInverse counts ofBits ofInt round div lt le
+unfolding started acceptedRay boundedVec inBounds isNan rayOf unsignedVec unsignedZero eq octantOf safeInverse counts ofBits ofInt round div lt le
 told = (refl, refl, refl)
 
 pub near-limits : NearLimits

@@ -13,9 +13,9 @@ use Rattle.words.specs.Ors.{orOf}
 use Rattle.lists.specs.Splice.{splice}
 use Rattle.lists.specs.Below.{allBelow}
 use Rattle.lists.specs.Counts.{same, count}
-use Rattle.float.specs.Compare.{minOf, maxOf, unsignedZero, inBounds}
+use Rattle.float.specs.Compare.{minOf, maxOf, unsignedZero, isMinusZero, inBounds}
 use Rattle.float.specs.PowerOfTwo.{scaleOf, nextPower}
-use Rattle.ray.specs.Ray.{safeInverse, octantOf, rayOf, counts, boundedVec, acceptedRay}
+use Rattle.ray.specs.Ray.{safeInverse, octantOf, unsignedVec, plainVec, rayOf, counts, boundedVec, acceptedRay}
 use Rattle.aabb.specs.Aabb.{halfArea, centerOf, acceptedBox}
 use Rattle.aabb.specs.Aabb as aabb
 use Rattle.packed.specs.Packed.{vecIn, boxIn}
@@ -129,23 +129,24 @@ extent-0 = refl
 any-hits :
     (anyHitOf bytesT 2 ahead 2 ≡ record { answer = listed 2; tests = 1 })
     × (listAfter bytesT 2 ahead (7 ∷ 7 ∷ 7 ∷ []) ≡ 1 ∷ 0 ∷ 7 ∷ [])
-    × (anyHitOf bytesT 2 beside 2 ≡ record { answer = listed 0; tests = 1 })
+    × (anyHitOf bytesT 2 beside 2 ≡ record { answer = listed 2; tests = 1 })
+    × (listAfter bytesT 2 beside (7 ∷ 7 ∷ 7 ∷ []) ≡ 1 ∷ 0 ∷ 7 ∷ [])
     × (anyHitOf [] 0 ahead 0 ≡ record { answer = listed 0; tests = 0 })
 unfolding anyHitOf listAfter listFor splice entryConditions recordConditions firstCause entered walkOf walked fitted anyHitAt queryAt queryWords
     stepWords
     advanceWords reportWords
-    visitWords popWords rayOf octantOf hitMask slotHit hitBits orOf passes nearOf farOf maxOf minOf planeAt adjustedInverse adjustedOrigin nearLimit
+    visitWords popWords rayOf unsignedVec plainVec unsignedZero isMinusZero octantOf hitMask slotHit hitBits orOf passes nearOf farOf maxOf minOf planeAt adjustedInverse adjustedOrigin nearLimit
     scaleOf nodeFrom leAt sumOf slotFrom slotOffset nodeRule headOk childrenOk slotsOk slotOk leafTop pointOk exponentOk inBounds onesBelow field
     childIndex topOf pushed leadingZeros safeInverse boundedVec acceptedRay round ofBits ofInt add sub mul div lt le eq isNan
-any-hits = (refl, refl, refl, refl)
+any-hits = (refl, refl, refl, refl, refl)
 
 closest :
     (closestOf bytesT indicesT panesT ahead ≡ record { answer = hitAt 0 (number 1); tests = 1 })
-    × (closestOf bytesT indicesT panesT beside ≡ record { answer = noHit; tests = 1 })
+    × (closestOf bytesT indicesT panesT beside ≡ record { answer = hitAt 0 (number 1); tests = 1 })
     × (closestOf [] [] [] ahead ≡ record { answer = noHit; tests = 0 })
 unfolding closestOf closestWalk closestFound walked entered entryConditions recordConditions firstCause paneOf paneMet counts boxIn vecIn queryAt
     queryWords stepWords advanceWords
-    reportWords visitWords popWords rayOf octantOf hitMask slotHit hitBits orOf passes nearOf farOf maxOf minOf planeAt adjustedInverse
+    reportWords visitWords popWords rayOf unsignedVec plainVec isMinusZero octantOf hitMask slotHit hitBits orOf passes nearOf farOf maxOf minOf planeAt adjustedInverse
     adjustedOrigin nearLimit scaleOf nodeFrom leAt sumOf slotFrom slotOffset nodeRule headOk childrenOk slotsOk slotOk leafTop pointOk exponentOk
     inBounds onesBelow field childIndex topOf pushed leadingZeros safeInverse boundedVec acceptedRay acceptedBox aabb.inOrder aabb.entryDistance
     aabb.boxNear aabb.boxFar aabb.slabNear aabb.slabFar unsignedZero round ofBits ofInt add sub mul div lt le eq isNan
@@ -170,9 +171,10 @@ samples = record {
   any-hit-T-list = any-hits .1;
   closest-T = closest .0;
   any-hit-zero = any-hits .2;
+  any-hit-zero-list = any-hits .3;
   closest-zero = closest .1;
   nothing = nothing;
-  any-hit-nothing = any-hits .3;
+  any-hit-nothing = any-hits .4;
   closest-nothing = closest .2;
   limit-3 = limit-3;
   limit-4 = limit-4;

@@ -72,9 +72,10 @@ pub record Samples : Type 0 where
   pub any-hit-T : anyHitOf bytesT 2 ahead 2 ≡ record { answer = listed 2; tests = 1 }
   pub any-hit-T-list : listAfter bytesT 2 ahead (7 ∷ 7 ∷ 7 ∷ []) ≡ 1 ∷ 0 ∷ 7 ∷ []
   pub closest-T : closestOf bytesT indicesT panesT ahead ≡ record { answer = hitAt 0 (number 1); tests = 1 }
-  -- along (1, −0.0, 0) neither meets anything, by one test
-  pub any-hit-zero : anyHitOf bytesT 2 beside 2 ≡ record { answer = listed 0; tests = 1 }
-  pub closest-zero : closestOf bytesT indicesT panesT beside ≡ record { answer = noHit; tests = 1 }
+  -- along (1, −0.0, 0) both meet the same (02, [2])
+  pub any-hit-zero : anyHitOf bytesT 2 beside 2 ≡ record { answer = listed 2; tests = 1 }
+  pub any-hit-zero-list : listAfter bytesT 2 beside (7 ∷ 7 ∷ 7 ∷ []) ≡ 1 ∷ 0 ∷ 7 ∷ []
+  pub closest-zero : closestOf bytesT indicesT panesT beside ≡ record { answer = hitAt 0 (number 1); tests = 1 }
   -- without leaves there are no nodes, and neither meets anything, without a test
   pub nothing : convertSample [] [] 3 ≡ converted 0 0
   pub any-hit-nothing : anyHitOf [] 0 ahead 0 ≡ record { answer = listed 0; tests = 0 }

@@ -7,7 +7,7 @@ use lib.Dec.{eqb, ltb}
 use lib.Ieee.{Float, eq}
 use borrow.Author.Tests.{le-leb, lt-leb, lt-ltb, le-ltb, eq-eqb, ne-eqb}
 use Rattle.ray.specs.declared.Ray.{Ray}
-use Rattle.ray.specs.Ray.{safeInverse, octantOf, acceptedRay}
+use Rattle.ray.specs.Ray.{safeInverse, octantOf, plainVec, acceptedRay}
 use Rattle.walk.specs.Words as W
 use Rattle.walk_record.specs.WalkRay.{ownInverse, forgedRay}
 use Rattle.traverse.specs.Walker.{isForged, isOver}
@@ -43,17 +43,34 @@ module _ (r : Ray) (x y z : Float) (p : x ≡ safeInverse (r .direction .x)) (q 
   pub inverse-z : eq (r .inverse .x) x ≡ true → eq (r .inverse .y) y ≡ true → eq (r .inverse .z) z ≡ ownInverse r
   inverse-z e f = ez ∙ and-last _ _ _ (sym ex ∙ e) (sym ey ∙ f)
 
+-- which of five tests, made in turn, tells that a ray with an octant is forged
 module _ (r : Ray) (octant : ℕ) where
-  pub forged-nine : acceptedRay r ≡ false → true ≡ forgedRay (record { ray = r; octant = octant })
-  forged-nine e = ap not (and-first (acceptedRay r) (ownInverse r) (eqb octant (octantOf (r .direction))) e)
+  abbrev forged : Bool
+  forged = forgedRay (record { ray = r; octant = octant })
 
-  pub forged-inverse : acceptedRay r ≡ true → ownInverse r ≡ false → true ≡ forgedRay (record { ray = r; octant = octant })
-  forged-inverse e f = ap not (and-second (acceptedRay r) (ownInverse r) (eqb octant (octantOf (r .direction))) e f)
+  abbrev by : Bool → Bool → Bool → Bool → Bool → Bool
+  by a o d i turned = not (a && (o && d) && i && turned)
 
-  pub forged-octant : acceptedRay r ≡ true → ownInverse r ≡ true → (o : ℕ) → o ≡ octantOf (r .direction) → not (eqb octant o)
-      ≡ forgedRay (record { ray = r; octant = octant })
-  forged-octant e f o g = ap (λ (k : ℕ). not (eqb octant k)) g ∙ ap not
-      (and-last (acceptedRay r) (ownInverse r) (eqb octant (octantOf (r .direction))) e f)
+  abbrev turned : Bool
+  turned = eqb octant (octantOf (r .direction))
+
+  pub forged-nine : acceptedRay r ≡ false → true ≡ forged
+  forged-nine a = sym (λ i. by (a i) (plainVec (r .origin)) (plainVec (r .direction)) (ownInverse r) turned)
+
+  module _ (a : acceptedRay r ≡ true) where
+    pub forged-origin : plainVec (r .origin) ≡ false → true ≡ forged
+    forged-origin o = sym (λ i. by (a i) (o i) (plainVec (r .direction)) (ownInverse r) turned)
+
+    module _ (o : plainVec (r .origin) ≡ true) where
+      pub forged-direction : plainVec (r .direction) ≡ false → true ≡ forged
+      forged-direction d = sym (λ i. by (a i) (o i) (d i) (ownInverse r) turned)
+
+      module _ (d : plainVec (r .direction) ≡ true) where
+        pub forged-inverse : ownInverse r ≡ false → true ≡ forged
+        forged-inverse e = sym (λ i. by (a i) (o i) (d i) (e i) turned)
+
+        pub forged-octant : ownInverse r ≡ true → (k : ℕ) → k ≡ octantOf (r .direction) → not (eqb octant k) ≡ forged
+        forged-octant e k q = ap (λ (j : ℕ). not (eqb octant j)) q ∙ sym (λ i. by (a i) (o i) (d i) (e i) turned)
 
   module _ (depth tests m : ℕ) where
     pub forged-ray : forgedRay (record { ray = r; octant = octant }) ≡ true → true ≡ isForged r octant depth tests m

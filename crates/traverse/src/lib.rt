@@ -70,6 +70,12 @@ fn is_forged_ray(ray: Ray, octant: u32) -> bool
     if !ray.accepted() {
         return true;
     }
+    if !ray.origin.plain() {
+        return true;
+    }
+    if !ray.direction.plain() {
+        return true;
+    }
     if !own_inverse(ray) {
         return true;
     }
@@ -185,7 +191,7 @@ fn turn(walk: Walk, ray: Ray, octant: u32, stack: &mut [u64; 32], record: &[u8],
 }
 
 impl Walker {
-    // A walker that has the first node before it, for a ray from an origin along a direction with its range of distances.
+    // A walker that has the first node before it, for a ray from an origin along a direction, zeros as +0.0, with its range of distances.
     pub fn new(origin: Vec3, direction: Vec3, tmin: f32, tmax: f32) -> Started
         ensures { λ r. ⌜ startedOf r ≡ started (rayOf origin direction tmin tmax) ⌝ }
     {
@@ -194,7 +200,7 @@ impl Walker {
         if ray.accepted() {
             let walker = Walker {
                 ray,
-                octant: ray::octant(direction),
+                octant: ray::octant(ray.direction),
                 walk: advance::begin(),
                 stack,
             };

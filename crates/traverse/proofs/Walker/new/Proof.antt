@@ -1,7 +1,8 @@
-use mathlib.Core.Path.{sym, _∙_}
+use mathlib.Core.Path.{sym, ap, _∙_}
 use lib.Ieee.{ofBits}
 use borrow.Author.Needs.{needs}
-use Rattle.ray.specs.Ray.{rayOf}
+use Rattle.ray.specs.declared.Ray.{Ray}
+use Rattle.ray.specs.Ray.{octantOf, rayOf}
 use Rattle.traverse.proofs.Begun.{starts, refuses}
 use Rattle.traverse.proofs.Walker.new.Statement.{statement}
 use Rattle.traverse.proofs.Walker.new.Tie as tie
@@ -19,14 +20,14 @@ begin-requires : tie.Need-begin-requires
 begin-requires c κs = search needs
 
 returns : tie.Need-returns
-unfolding rayOf
 returns c =
     let at-accepted = c .before .before .before in
     let at-new = at-accepted .before in
     let at-start = at-new .before in
     let a = at-start .args in
     starts (rayOf (a .origin) (a .direction) (a .tmin) (a .tmax)) (at-new .new .result) (c .before .octant .result)
-    (c .begin .result) (at-new .new .ensures) (c .before .octant .ensures) (c .begin .ensures)
+    (c .begin .result) (at-new .new .ensures) (c .before .octant .ensures ∙ ap (λ (r : Ray). octantOf (r .direction)) (at-new .new .ensures))
+    (c .begin .ensures)
     (sym (at-accepted .accepted .ensures) ∙ c .before .before .if1 .taken)
 
 returns-2 : tie.Need-returns-2
