@@ -15,5 +15,6 @@ pub mod Walks
 pub mod Runs
 pub mod Done
 pub mod NearLimit
+pub mod MinusZero
 pub mod SoundPanes
 pub mod Panes

@@ -4,3 +4,4 @@ pub mod Refusals
 pub mod Walks
 pub mod Runs
 pub mod Panes
+pub mod MinusZero

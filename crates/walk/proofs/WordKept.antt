@@ -1,6 +1,6 @@
 -- What a step in words leaves where it goes no further: refused, the walker as it was; done, a walker with nothing left, which is done or refused on
 -- every record from then on, whatever it is told. And a walker whose hand begins with a position that is not passed over, as every one does where
--- none is, takes its turn as it stands.
+-- none is, takes its turn as it stands. Whatever a step does, it leaves the ray as it was.
 use mathlib.Core.Bool.{Bool, true, false, not, _&&_, cond}
 use mathlib.Core.Path.{_≡_, refl, sym, ap, _∙_, subst}
 use Prim.Native.Nat.{ℕ, _-_}
@@ -59,6 +59,23 @@ module _ {RayData Distance : Type 0} (m : ℕ) (N : NodeWords RayData Distance) 
       (λ i. cond-elim RestsOf (ltb 0 (waitingDepth (w .stack) (w .depth))) _ _
       (λ _. visit-rests (unpacked (topOf (w .stack) (waitingDepth (w .stack) (w .depth)))) (waitingDepth (w .stack) (w .depth) - 1))
       (λ j. (record { positions = h; current = i; stack = j }, refl))))
+
+  -- a turn leaves the ray as it was
+  abbrev SameRay : SteppedWords RayData → Type 0
+  SameRay r = r .walker .ray ≡ w .ray
+
+  visit-ray : (g : Group) (e : ℕ) → SameRay (visitWords m N n w g e)
+  unfolding visitWords
+  visit-ray g e = cond-elim SameRay (badChild m N n w g e) _ _ (λ _. refl) (λ _. refl)
+
+  turn-ray : turnWords m N n w .walker .ray ≡ w .ray
+  unfolding turnWords reportWords popWords
+  turn-ray =
+      cond-elim SameRay (ltb 0 (w .positions .bits)) _ _
+      (λ _. cond-elim SameRay (N .absent (w .ray) (firstPosition (w .positions))) _ _ (λ _. refl)
+      (λ _. cond-elim SameRay (leb n (firstPosition (w .positions))) _ _ (λ _. refl) (λ _. refl)))
+      (λ _. cond-elim SameRay (hasChild (w .current)) _ _ (λ _. visit-ray (w .current) (w .depth))
+      (λ _. cond-elim SameRay (ltb 0 (waitingDepth (w .stack) (w .depth))) _ _ (λ _. visit-ray _ _) (λ _. refl)))
 
   -- ---- with the first position in hand not passed over
 
@@ -135,6 +152,25 @@ module _ {RayData Distance : Type 0} (m : ℕ) (N : NodeWords RayData Distance) 
       (λ _. cond-elim LeavesOf (forgedWords m N w) _ _ (λ _. refl)
       (λ f. cond-elim LeavesOf (leb m 0 && onlyFirstWords m N (pastSkips N w)) _ _ (λ a. (emptied-finished (pastSkips N w) a, f))
       (λ _. advance-leaves f)))
+      (λ _. refl)
+
+  advance-ray : advanceWords m N n w .walker .ray ≡ w .ray
+  unfolding advanceWords
+  advance-ray = go (turnWords m N n (pastSkips N w) .answer) (turnWords m N n (pastSkips N w) .walker) (turn-ray m N n (pastSkips N w))
+    where
+      go : (a : Answer) (u : WalkerWords RayData) → u .ray ≡ w .ray → leaving w a u .ray ≡ w .ray
+      go (tested v) u h = h
+      go (position p) u h = h
+      go done u h = h
+      go (refused e) u h = refl
+
+  -- whatever it does, the ray
+  pub step-keeps-ray : stepWords m N n w .walker .ray ≡ w .ray
+  unfolding stepWords
+  step-keeps-ray =
+      cond-elim (SameRay m N n w) (sizesFit m n) _ _
+      (λ _. cond-elim (SameRay m N n w) (forgedWords m N w) _ _ (λ _. refl)
+      (λ _. cond-elim (SameRay m N n w) (leb m 0 && onlyFirstWords m N (pastSkips N w)) _ _ (λ _. refl) (λ _. advance-ray)))
       (λ _. refl)
 
   -- ---- a walker with nothing left
