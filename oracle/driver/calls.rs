@@ -8,11 +8,12 @@ use crate::odd::{self, forged, ladder, odd_walker};
 use crate::queries::{aimed, odd_ray, queried_tree, target_box};
 use crate::query;
 use crate::rng::Rng;
-use crate::run::{Ground, Run};
+use crate::run::{Ground, Run, held_ray_words};
 use crate::store::*;
 use crate::tree::{Tree, sample_tree};
 use crate::walk;
 use crate::walker::{Held, Step};
+use crate::zeros::entered;
 use glam::vec3a;
 use obvhs::ray::Ray;
 
@@ -41,6 +42,13 @@ pub fn agreed_steps(record: &[u8], n: usize, from: &Held, told: &[f32]) -> Vec<S
     published.0
 }
 
+/// The same from a walker just begun, which must hold the ray that the published code is handed.
+pub fn agreed_walk(record: &[u8], n: usize, r: &Ray, told: &[f32]) -> Vec<Step> {
+    let from = Held::fresh(r);
+    assert_eq!(held_ray_words(&from.ray), held_ray_words(&entered(r)));
+    agreed_steps(record, n, &from, told)
+}
+
 /// Walkers just begun, to done and two steps further.
 fn walks(rng: &mut Rng, records: usize, rays: usize) -> Group {
     let mut g = Group::new(WALKS, 0);
@@ -52,7 +60,7 @@ fn walks(rng: &mut Rng, records: usize, rays: usize) -> Group {
             let told = told(rng, &r);
             let mut run = ground.begun(&r);
             let steps = run.to_end(if told == [f32::INFINITY] { &[] } else { &told }, 2);
-            assert_eq!(steps, agreed_steps(record, ground.n, &Held::fresh(&r), &told));
+            assert_eq!(steps, agreed_walk(record, ground.n, &r, &told));
             all.push(run.words());
         }
         g.add(ground.case(&all));

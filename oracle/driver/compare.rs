@@ -4,12 +4,11 @@ use crate::checks::{damage, forward, validated};
 use crate::conversions::some_tree;
 use crate::convert::convert;
 use crate::generate::{BOXES, Shape, tree};
-use crate::calls::{agreed_steps, told};
+use crate::calls::{agreed_walk, told};
 use crate::queries::{aimed, scene};
 use crate::record::{Verdict, check};
 use crate::rng::Rng;
 use crate::tree::Tree;
-use crate::walker::Held;
 
 /// A tree of some hundred leaves.
 fn large_tree(rng: &mut Rng, k: usize) -> Tree {
@@ -62,7 +61,7 @@ pub fn run(seed: u64, trees: usize) -> bool {
             let r = aimed(rng, &t, &c.record);
             let told = told(rng, &r);
             let a = s.agreed(&r);
-            agreed_steps(&c.record, n, &Held::fresh(&r), &told);
+            agreed_walk(&c.record, n, &r, &told);
             rays += 1;
             hits += !a.closest.found.is_empty() as u32;
             tests += a.any.tests as u64;

@@ -5,6 +5,7 @@ use crate::generate::{any_box, bounded_bits, corner, ray};
 use crate::rng::Rng;
 use crate::store::*;
 use crate::tree::{BOUND, Tree, inner, leaf, unsigned_zero};
+use crate::zeros::entered;
 use glam::{Vec3A, vec3a};
 use obvhs::aabb::Aabb;
 use obvhs::ray::{Ray, safe_inverse};
@@ -69,8 +70,9 @@ fn rays(rng: &mut Rng, count: usize) -> Group {
         case.extend(words3(r.origin));
         case.extend(words3(r.direction));
         case.extend([word(r.tmin), word(r.tmax)]);
-        case.extend(words3(r.inv_direction));
-        case.extend([octant(r.direction), accepted_ray(&r) as u32]);
+        let read = entered(&r);
+        case.extend(words3(read.inv_direction));
+        case.extend([octant(read.direction), accepted_ray(&r) as u32]);
         g.add(case);
     }
     g
@@ -120,7 +122,7 @@ fn entries(rng: &mut Rng, count: usize) -> Group {
         for v in [b.min, b.max, r.origin, r.direction] {
             case.extend(words3(v));
         }
-        case.push(word(unsigned_zero(b.intersect_ray(&r))));
+        case.push(word(unsigned_zero(b.intersect_ray(&entered(&r)))));
         g.add(case);
     }
     g

@@ -10,6 +10,7 @@ use crate::scene::{Asked, Scene, through_t};
 use crate::store::*;
 use crate::tree::{Tree, aabb_words, is_leaf, sample_tree, target};
 use crate::walker::slot_span;
+use crate::zeros::entered;
 use glam::vec3a;
 use obvhs::aabb::Aabb;
 use obvhs::ray::Ray;
@@ -43,7 +44,8 @@ pub fn aimed(rng: &mut Rng, t: &Tree, record: &[u8]) -> Ray {
         return r;
     }
     let slots = (0..8 * (record.len() / 80)).map(|k| (node(record, k / 8), k % 8)).filter(|(d, slot)| d.meta(*slot) != 0);
-    let spans = slots.map(|(d, slot)| slot_span(&r, &d, slot));
+    let read = entered(&r);
+    let spans = slots.map(|(d, slot)| slot_span(&read, &d, slot));
     let met: Vec<(f32, f32)> = spans.filter(|(near, far)| near <= far && *far > 0.0).collect();
     if met.is_empty() {
         return r;
