@@ -9,7 +9,7 @@ use crate::rng::Rng;
 use crate::store::*;
 use crate::tree::BOUND;
 use crate::walker::slot_span;
-use crate::zeros::entered;
+use crate::zeros::{Share, entered};
 use glam::Vec3A;
 use obvhs::ray::Ray;
 
@@ -271,6 +271,7 @@ fn ray_about(rng: &mut Rng, d: &Bytes) -> Ray {
 /// The node, a ray's eight floats, an octant; the hit mask.
 fn masks(rng: &mut Rng, count: usize) -> Group {
     let mut g = Group::new(HIT_MASK, 30);
+    let mut share = Share::default();
     for k in 0..count {
         let d = if k % 3 == 0 { converted_node(rng, k / 3) } else { random_node(rng) };
         let r = ray_about(rng, &d);
@@ -283,8 +284,10 @@ fn masks(rng: &mut Rng, count: usize) -> Group {
         }
         let mask = nodes_of(&d)[0].intersect_ray_basic(&read, four(octant));
         case.extend([word(r.tmin), word(r.tmax), octant, mask]);
+        share.note(&r, mask != 0);
         g.add(case);
     }
+    println!("nodes: kind {HIT_MASK}, {share} pass a slot");
     g
 }
 
