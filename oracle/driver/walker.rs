@@ -49,7 +49,7 @@ pub struct Walker {
     claimed: u32,
 }
 
-pub fn safe_inverse(v: f32) -> f32 {
+fn safe_inverse(v: f32) -> f32 {
     if v.abs() <= 1.0 / 8388608.0 {
         if v.is_sign_negative() { -8388608.0 } else { 8388608.0 }
     } else {
@@ -70,7 +70,7 @@ fn begun(r: &Ray) -> Ray {
 }
 
 /// 7 less 4, 2, 1 for a negative x, y, z.
-pub fn octant(r: &Ray) -> u32 {
+fn octant(r: &Ray) -> u32 {
     let d = [r.direction.x, r.direction.y, r.direction.z];
     7 - (0..3).map(|a| if d[a] < 0.0 { 4 >> a } else { 0 }).sum::<u32>()
 }
