@@ -4,16 +4,17 @@ use crate::accept::{MOST_LEAVES, MOST_NODES};
 use crate::checks::damage;
 use crate::convert::{bvh_of, convert};
 use crate::generate::{beside, corner, ray};
-use crate::odd::{self, forged, ladder, odd_walker};
+use crate::odd::{self, forged, ladder, negative_zeros, odd_walker};
 use crate::queries::{aimed, odd_ray, queried_tree, target_box};
 use crate::query;
 use crate::rng::Rng;
-use crate::run::{Ground, Run};
+use crate::run::{Ground, Run, held_ray_words};
+use crate::scene::through_t;
 use crate::store::*;
 use crate::tree::{Tree, sample_tree};
 use crate::walk;
 use crate::walker::{Held, Step};
-use glam::vec3a;
+use crate::zeros::{Share, entered};
 use obvhs::ray::Ray;
 
 /// A distance to tell a walker with this tmin: it lowers tmax, or does nothing.
@@ -41,9 +42,17 @@ pub fn agreed_steps(record: &[u8], n: usize, from: &Held, told: &[f32]) -> Vec<S
     published.0
 }
 
+/// The same from a walker just begun, which must hold the ray that the published code is handed.
+pub fn agreed_walk(record: &[u8], n: usize, r: &Ray, told: &[f32]) -> Vec<Step> {
+    let from = Held::fresh(r);
+    assert_eq!(held_ray_words(&from.ray), held_ray_words(&entered(r)));
+    agreed_steps(record, n, &from, told)
+}
+
 /// Walkers just begun, to done and two steps further.
 fn walks(rng: &mut Rng, records: usize, rays: usize) -> Group {
     let mut g = Group::new(WALKS, 0);
+    let mut share = Share::default();
     let mut add = |rng: &mut Rng, t: &Tree, record: &[u8]| {
         let ground = Ground::new(record, t.indices.len());
         let mut all = vec![];
@@ -52,7 +61,8 @@ fn walks(rng: &mut Rng, records: usize, rays: usize) -> Group {
             let told = told(rng, &r);
             let mut run = ground.begun(&r);
             let steps = run.to_end(if told == [f32::INFINITY] { &[] } else { &told }, 2);
-            assert_eq!(steps, agreed_steps(record, ground.n, &Held::fresh(&r), &told));
+            assert_eq!(steps, agreed_walk(record, ground.n, &r, &told));
+            share.note(&r, steps.iter().any(|s| matches!(s, Step::Reported(_))));
             all.push(run.words());
         }
         g.add(ground.case(&all));
@@ -65,6 +75,7 @@ fn walks(rng: &mut Rng, records: usize, rays: usize) -> Group {
             add(rng, &t, &c.record);
         }
     }
+    println!("steps: kind {WALKS}, {share} report a position");
     g
 }
 
@@ -132,10 +143,28 @@ fn run_on(rng: &mut Rng, g: &mut Group, k: usize) {
     g.add(ground.case(&all));
 }
 
+/// Walkers just begun on T with -0.0, and those made up with +0.0 in its place: they go the same way.
+fn read_zeros(rng: &mut Rng) -> Vec<u32> {
+    let t = sample_tree();
+    let record = convert(&t, 3, false).record;
+    let ground = Ground::new(&record, 2);
+    let rays = [through_t(-1.0, 0.0), through_t(0.5, -0.0), aimed(rng, &t, &record)];
+    let mut all = vec![];
+    for r in rays.iter().flat_map(negative_zeros) {
+        let (mut begun, mut made_up) = (ground.begun(&r), ground.held(&Held::fresh(&r)));
+        let steps = begun.to_end(&[], 1);
+        assert_eq!(steps, made_up.to_end(&[], 1));
+        assert_eq!(steps, agreed_walk(&record, 2, &r, &[f32::INFINITY]));
+        all.extend([begun.words(), made_up.words()]);
+    }
+    ground.case(&all)
+}
+
 fn calls(rng: &mut Rng) -> Group {
     let mut g = Group::new(CALLS, 0);
     (0..40).for_each(|k| drawn(rng, &mut g, k));
     (0..40).for_each(|k| run_on(rng, &mut g, k));
+    g.add(read_zeros(rng));
     // a group more at each level; more tests than nodes
     for m in [3, 10, 32, 33, 34, 35, 36, 40] {
         let ground = Ground::new(&ladder(m), 1);
@@ -193,7 +222,7 @@ fn sizes(rng: &mut Rng) -> Group {
     let mut record = convert(&sample_tree(), 3, false).record;
     record.resize(most + 159, 0);
     let ground = Ground { record, bytes: most, n: MOST_LEAVES };
-    let r = Ray::new(vec3a(-1.0, 0.5, 0.5), vec3a(1.0, 0.0, 0.0), 0.0, f32::INFINITY);
+    let r = through_t(-1.0, 0.0);
     let mut all = vec![];
     for bytes in [0, 79, 80, most - 1, most, most + 1, most + 80, most + 159] {
         for n in [0, 1, 2, MOST_LEAVES - 1, MOST_LEAVES, MOST_LEAVES + 1, u32::MAX as usize] {

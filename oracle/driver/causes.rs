@@ -155,5 +155,5 @@ fn lengths() -> Group {
 }
 
 pub fn groups(seed: u64) -> Vec<Group> {
-    vec![pairs(&mut Rng::new(seed), 6), lengths()]
+    vec![pairs(&mut Rng::new(seed), 7), lengths()]
 }

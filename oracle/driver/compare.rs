@@ -2,14 +2,14 @@
 use crate::accept::{Room, conversion_refusal};
 use crate::checks::{damage, forward, validated};
 use crate::conversions::some_tree;
-use crate::convert::convert;
+use crate::convert::{Converted, convert};
 use crate::generate::{BOXES, Shape, tree};
-use crate::calls::{agreed_steps, told};
+use crate::calls::{agreed_walk, told};
 use crate::queries::{aimed, scene};
 use crate::record::{Verdict, check};
 use crate::rng::Rng;
 use crate::tree::Tree;
-use crate::walker::Held;
+use crate::zeros::Share;
 
 /// A tree of some hundred leaves.
 fn large_tree(rng: &mut Rng, k: usize) -> Tree {
@@ -17,10 +17,42 @@ fn large_tree(rng: &mut Rng, k: usize) -> Tree {
     tree(rng, n, Shape::Balanced, BOXES[k / 50 % BOXES.len()])
 }
 
+/// The rays compared, and what came of them.
+#[derive(Default)]
+struct Rays {
+    share: Share,
+    count: u32,
+    hits: u32,
+    tests: u64,
+}
+
+impl Rays {
+    /// Twenty rays over a tree's record: queries and steps by both.
+    fn compare(&mut self, rng: &mut Rng, t: &Tree, c: &Converted) {
+        let s = scene(rng, t, c);
+        for _ in 0..20 {
+            let r = aimed(rng, t, &c.record);
+            let told = told(rng, &r);
+            let a = s.agreed(&r);
+            agreed_walk(&c.record, s.list.len(), &r, &told);
+            self.share.note(&r, !a.any.found.is_empty());
+            self.count += 1;
+            self.hits += !a.closest.found.is_empty() as u32;
+            self.tests += a.any.tests as u64;
+        }
+    }
+
+    fn print(&self) {
+        let Rays { share, count, hits, tests } = self;
+        println!("rays: {count}, of which {hits} hit a pane; node tests of any-hit: {tests}");
+        println!("in all {share} pass something");
+    }
+}
+
 pub fn run(seed: u64, trees: usize) -> bool {
     let mut rng = Rng::new(seed);
     let rng = &mut rng;
-    let (mut converted, mut deep, mut rays, mut hits, mut tests) = (0, 0, 0, 0, 0u64);
+    let (mut converted, mut deep, mut rays) = (0, 0, Rays::default());
     let (mut sound, mut damaged, mut laxer, mut stricter) = (0, 0, 0, 0);
     for k in 0..trees {
         let t = if k % 50 == 0 { large_tree(rng, k) } else { some_tree(rng, k) };
@@ -57,19 +89,10 @@ pub fn run(seed: u64, trees: usize) -> bool {
         if t.indices.iter().any(|&x| x as usize >= n) {
             continue;
         }
-        let s = scene(rng, &t, &c);
-        for _ in 0..20 {
-            let r = aimed(rng, &t, &c.record);
-            let told = told(rng, &r);
-            let a = s.agreed(&r);
-            agreed_steps(&c.record, n, &Held::fresh(&r), &told);
-            rays += 1;
-            hits += !a.closest.found.is_empty() as u32;
-            tests += a.any.tests as u64;
-        }
+        rays.compare(rng, &t, &c);
     }
     println!("trees converted: {converted} (and {deep} with a level over 31); sound by both: {sound}");
     println!("damaged records: {damaged}; unsound, yet validated: {laxer}; sound, yet not validated: {stricter}");
-    println!("rays: {rays}, of which {hits} hit a pane; node tests of any-hit: {tests}");
+    rays.print();
     stricter == 0
 }

@@ -5,7 +5,7 @@ use crate::generate::{BOXES, Boxes, Shape, chain, tree};
 use crate::query;
 use crate::record::{Verdict, check};
 use crate::rng::Rng;
-use crate::scene::{Scene, through_t};
+use crate::scene::{Scene, endless, through_t};
 use crate::small::{Small, records};
 use glam::{Vec3A, power_of_two_not_below, vec3a};
 use obvhs::aabb::Aabb;
@@ -95,6 +95,16 @@ fn hidden_panes() {
     );
 }
 
+/// The published any-hit with -0.0 as it is, beside the one with it read as +0.0.
+fn negative_zero() {
+    let s = Scene::sample();
+    let r = endless([-1.0, 0.5, 0.5], [1.0, -0.0, 0.0]);
+    let mut listed: Vec<usize> = vec![];
+    bvh_of(&s.record, &s.list).ray_traverse_anyhit(r, |_, id| listed.push(id));
+    let read = s.agreed(&r).any.found;
+    println!("T, from (-1, 0.5, 0.5) along (1, -0.0, 0): published any-hit lists {listed:?}, with -0.0 read as +0.0 {read:?}");
+}
+
 fn soundness() {
     println!("the record check beside `validate` without its box comparisons:");
     for Small { what, n, record, ends } in records() {
@@ -139,6 +149,7 @@ pub fn run() -> bool {
     refusals();
     zeros();
     hidden_panes();
+    negative_zero();
     soundness();
     logarithm();
     true

@@ -245,7 +245,7 @@ pub fn corner(rng: &mut Rng) -> f32 {
         f32::from_bits((b + rng.below(5) as u32).saturating_sub(2) | (rng.bits() & 0x8000_0000))
     };
     let x = match rng.below(10) {
-        0 => rng.pick(&[0.0, -0.0]),
+        0 => zero(rng),
         1 => near(rng, 1.0 / 8388608.0),
         2 => near(rng, BOUND),
         3 => near(rng, 0.0001),
@@ -261,9 +261,14 @@ pub fn corner(rng: &mut Rng) -> f32 {
     if x.is_nan() { f32::from_bits(0x7fc0_0000) } else { x }
 }
 
+/// A zero of either sign.
+pub fn zero(rng: &mut Rng) -> f32 {
+    rng.pick(&[0.0, -0.0])
+}
+
 fn component(rng: &mut Rng) -> f32 {
     match rng.below(12) {
-        0 => rng.pick(&[0.0, -0.0]),
+        0 => zero(rng),
         1 => rng.pick(&[1.0, -1.0]),
         2 => scaled(rng, -30, 3),
         _ => rng.between(-1.0, 1.0),
@@ -278,10 +283,17 @@ fn direction(rng: &mut Rng) -> Vec3A {
             (0..3).filter(|a| *a != axis).for_each(|a| d[a] = rng.pick(&[0.0, 0.0, 0.0, -0.0]));
             d[axis] = rng.pick(&[1.0, -1.0, 0.25, -8.0]);
         }
-        4 => d = [rng.pick(&[0.0, -0.0]), rng.pick(&[0.0, -0.0]), rng.pick(&[0.0, -0.0])],
+        4 => d = [zero(rng), zero(rng), zero(rng)],
         5 => d = [bounded_bits(rng), bounded_bits(rng), bounded_bits(rng)],
         _ => {}
     }
+    Vec3A::from(d)
+}
+
+/// A direction along an axis, with zeros of either sign.
+pub fn along_axis(rng: &mut Rng) -> Vec3A {
+    let mut d = [zero(rng), zero(rng), zero(rng)];
+    d[rng.below(3)] = sign(rng);
     Vec3A::from(d)
 }
 
@@ -298,14 +310,14 @@ pub fn reach(rng: &mut Rng) -> f32 {
     }
 }
 
-/// A point of the box.
+/// A point of the box, at times with a zero where the box has one.
 fn inside(rng: &mut Rng, b: &Aabb) -> Vec3A {
-    let f = |lo: f32, hi: f32, t: f32| (lo as f64 + (hi as f64 - lo as f64) * t as f64) as f32;
-    vec3a(
-        f(b.min.x, b.max.x, rng.unit()),
-        f(b.min.y, b.max.y, rng.unit()),
-        f(b.min.z, b.max.z, rng.unit()),
-    )
+    let spans = [(b.min.x, b.max.x), (b.min.y, b.max.y), (b.min.z, b.max.z)];
+    let mut at = |lo: f32, hi: f32| match lo <= 0.0 && 0.0 <= hi && rng.once_in(4) {
+        true => zero(rng),
+        false => (lo as f64 + (hi as f64 - lo as f64) * rng.unit() as f64) as f32,
+    };
+    Vec3A::from(spans.map(|(lo, hi)| at(lo, hi)))
 }
 
 /// The float below, or this one, or the float above.
@@ -339,20 +351,17 @@ pub fn ray(rng: &mut Rng, about: &Aabb) -> Ray {
     let aim = inside(rng, about);
     let wide = (about.max - about.min).max_element();
     let back = rng.pick(&[1.0, 30.0, wide, 3.0 * wide]) * rng.unit();
-    let origin = match rng.below(16) {
+    let origin = match rng.below(18) {
         0 | 1 => aim,
         2 => rng.pick(&[about.min, about.max]),
         3 => vec3a(bounded_bits(rng), bounded_bits(rng), bounded_bits(rng)),
-        4 => Vec3A::from([rng.pick(&[0.0, -0.0]); 3]),
-        5 | 6 => {
+        4 => vec3a(zero(rng), zero(rng), zero(rng)),
+        5..9 => {
             // along an axis through the point
-            let axis = rng.below(3);
-            let mut along = [0.0, 0.0, 0.0].map(|x: f32| if rng.once_in(8) { -x } else { x });
-            along[axis] = sign(rng);
-            d = Vec3A::from(along);
+            d = along_axis(rng);
             aim - d * back
         }
-        7..12 => {
+        9..14 => {
             // from a corner of the space about the box towards the point
             let from = vec3a(rng.between(-1.0, 1.0), rng.between(-1.0, 1.0), rng.between(-1.0, 1.0)) * back + aim;
             d = aim - from;

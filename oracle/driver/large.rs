@@ -1,6 +1,6 @@
 //! Large trees, made by a rule and not stored: digests of all that the published conversion writes, and the answers of the
 //! published traversals on its records.
-use crate::calls::{agreed_steps, told};
+use crate::calls::{agreed_walk, told};
 use crate::convert::convert;
 use crate::generate::reach;
 use crate::leaves::word;
@@ -10,7 +10,7 @@ use crate::record::{Verdict, check};
 use crate::rng::Rng;
 use crate::scene::{Scene, ray_words};
 use crate::store::*;
-use crate::walker::{Held, Step};
+use crate::walker::Step;
 use glam::vec3a;
 use obvhs::ray::Ray;
 
@@ -43,7 +43,7 @@ fn walk_digest(steps: &[Step]) -> u32 {
 fn ray_case(rng: &mut Rng, s: &Scene, r: &Ray) -> Vec<u32> {
     let a = s.agreed(r);
     let told: Vec<f32> = told(rng, r).into_iter().cycle().take(3).collect();
-    let steps = agreed_steps(&s.record, s.list.len(), &Held::fresh(r), &told);
+    let steps = agreed_walk(&s.record, s.list.len(), r, &told);
     let hit = !a.closest.found.is_empty();
     let found = if hit { a.closest.found } else { vec![0, 0] };
     let mut w = ray_words(r);

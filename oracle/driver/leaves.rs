@@ -5,6 +5,7 @@ use crate::generate::{any_box, bounded_bits, corner, ray};
 use crate::rng::Rng;
 use crate::store::*;
 use crate::tree::{BOUND, Tree, inner, leaf, unsigned_zero};
+use crate::zeros::{Share, entered};
 use glam::{Vec3A, vec3a};
 use obvhs::aabb::Aabb;
 use obvhs::ray::{Ray, safe_inverse};
@@ -52,6 +53,7 @@ fn octant(direction: Vec3A) -> u32 {
 
 fn rays(rng: &mut Rng, count: usize) -> Group {
     let mut g = Group::new(RAY, 13);
+    let mut share = Share::default();
     for _ in 0..count {
         let b = any_box(rng);
         let mut r = ray(rng, &b);
@@ -69,10 +71,13 @@ fn rays(rng: &mut Rng, count: usize) -> Group {
         case.extend(words3(r.origin));
         case.extend(words3(r.direction));
         case.extend([word(r.tmin), word(r.tmax)]);
-        case.extend(words3(r.inv_direction));
-        case.extend([octant(r.direction), accepted_ray(&r) as u32]);
+        let read = entered(&r);
+        case.extend(words3(read.inv_direction));
+        case.extend([octant(read.direction), accepted_ray(&r) as u32]);
+        share.note(&r, accepted_ray(&r));
         g.add(case);
     }
+    println!("leaves: kind {RAY}, {share} are accepted");
     g
 }
 
@@ -110,6 +115,7 @@ fn unions(rng: &mut Rng, count: usize) -> Group {
 
 fn entries(rng: &mut Rng, count: usize) -> Group {
     let mut g = Group::new(ENTRY, 13);
+    let mut share = Share::default();
     for k in 0..count {
         let b = if k % 16 == 0 { box_case(rng) } else { any_box(rng) };
         let mut r = ray(rng, &b);
@@ -120,9 +126,12 @@ fn entries(rng: &mut Rng, count: usize) -> Group {
         for v in [b.min, b.max, r.origin, r.direction] {
             case.extend(words3(v));
         }
-        case.push(word(unsigned_zero(b.intersect_ray(&r))));
+        let distance = unsigned_zero(b.intersect_ray(&entered(&r)));
+        case.push(word(distance));
+        share.note(&r, distance < f32::INFINITY);
         g.add(case);
     }
+    println!("leaves: kind {ENTRY}, {share} meet the box");
     g
 }
 

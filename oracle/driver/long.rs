@@ -1,5 +1,6 @@
 //! Stored queries with long lists: as many positions as any-hit keeps aside, one less, one more, and some thousand.
 use crate::convert::convert;
+use crate::generate::zero;
 use crate::made::{MIDDLE, Made};
 use crate::record::node;
 use crate::rng::Rng;
@@ -11,11 +12,12 @@ use obvhs::ray::Ray;
 /// Panes of a row of boxes: positions share them.
 const PANES: u32 = 32;
 
-/// Along the row of boxes, either way.
+/// Along the row of boxes, either way, with zeros of either sign.
 pub fn along(rng: &mut Rng, back: bool) -> Ray {
     let (from, to) = if back { (1e6, -1.0) } else { (-1.0, 1.0) };
     let middle = MIDDLE as f32;
-    Ray::new(vec3a(from, middle, middle), vec3a(to * rng.between(0.5, 2.0), 0.0, 0.0), 0.0, f32::INFINITY)
+    let direction = vec3a(to * rng.between(0.5, 2.0), zero(rng), zero(rng));
+    Ray::new(vec3a(from, middle, middle), direction, 0.0, f32::INFINITY)
 }
 
 /// The same with tmin where it has passed about a tenth of a row of n boxes.

@@ -29,6 +29,7 @@ mod store;
 mod tree;
 mod walk;
 mod walker;
+mod zeros;
 
 use std::io::Read;
 use std::path::Path;

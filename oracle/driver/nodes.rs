@@ -9,6 +9,7 @@ use crate::rng::Rng;
 use crate::store::*;
 use crate::tree::BOUND;
 use crate::walker::slot_span;
+use crate::zeros::{Share, entered};
 use glam::Vec3A;
 use obvhs::ray::Ray;
 
@@ -222,7 +223,7 @@ fn converted_node(rng: &mut Rng, k: usize) -> Bytes {
 
 /// A tmin about where the ray comes to a slot's box or leaves it, about 0.0001, infinite or a NaN.
 fn near_end(rng: &mut Rng, d: &Bytes, slot: usize, r: &Ray) -> f32 {
-    let (near, far) = slot_span(r, &Node(d), slot);
+    let (near, far) = slot_span(&entered(r), &Node(d), slot);
     match rng.below(8) {
         0 => beside(rng, near),
         1..4 => beside(rng, far),
@@ -254,7 +255,7 @@ fn ray_about(rng: &mut Rng, d: &Bytes) -> Ray {
     loop {
         let b = node.child_aabb(slot);
         let mut r = ray(rng, &b);
-        let planes = (rng.pick(&[b.min, b.max]) - r.origin) * r.inv_direction;
+        let planes = (rng.pick(&[b.min, b.max]) - r.origin) * entered(&r).inv_direction;
         let at = rng.pick(&[planes.x, planes.y, planes.z]);
         if at > 0.0 && rng.once_in(4) {
             r.tmax = f32::from_bits(at.to_bits() + rng.below(3) as u32 - 1);
@@ -270,19 +271,23 @@ fn ray_about(rng: &mut Rng, d: &Bytes) -> Ray {
 /// The node, a ray's eight floats, an octant; the hit mask.
 fn masks(rng: &mut Rng, count: usize) -> Group {
     let mut g = Group::new(HIT_MASK, 30);
+    let mut share = Share::default();
     for k in 0..count {
         let d = if k % 3 == 0 { converted_node(rng, k / 3) } else { random_node(rng) };
         let r = ray_about(rng, &d);
-        let own = bvh_of(&[], &[]).new_traversal(r.direction).oct_inv4;
+        let read = entered(&r);
+        let own = bvh_of(&[], &[]).new_traversal(read.direction).oct_inv4;
         let octant = if rng.once_in(4) { rng.below(8) as u32 } else { own & 7 };
         let mut case = words_of(&d);
         for v in [r.origin, r.direction] {
             case.extend([word(v.x), word(v.y), word(v.z)]);
         }
-        let mask = nodes_of(&d)[0].intersect_ray_basic(&r, four(octant));
+        let mask = nodes_of(&d)[0].intersect_ray_basic(&read, four(octant));
         case.extend([word(r.tmin), word(r.tmax), octant, mask]);
+        share.note(&r, mask != 0);
         g.add(case);
     }
+    println!("nodes: kind {HIT_MASK}, {share} pass a slot");
     g
 }
 

@@ -7,8 +7,9 @@ use crate::queries::{odd_ray, target_box};
 use crate::rng::Rng;
 use crate::run::Ground;
 use crate::tree::sample_tree;
-use crate::walker::{Group, Held, Step, octant};
-use glam::vec3a;
+use crate::walker::{Group, Held, Step};
+use crate::zeros::entered;
+use glam::{Vec3A, vec3a};
 use obvhs::ray::Ray;
 
 /// Along the diagonal through the origin.
@@ -88,10 +89,40 @@ fn refused_rays(rng: &mut Rng, r: &Ray) -> Vec<Held> {
     all
 }
 
-/// Walkers that are forged on a record of m nodes, by each thing on the list.
-pub fn forged(rng: &mut Rng, r: &Ray, m: usize) -> Vec<Held> {
-    let fresh = Held::fresh(r);
-    let mut all = refused_rays(rng, r);
+/// Components of a ray that are zero together, 0 to 2 of its origin and 3 to 5 of its direction: each alone, a vector's, all.
+const ZEROS: [&[usize]; 9] = [&[0], &[1], &[2], &[3], &[4], &[5], &[0, 1, 2], &[3, 4, 5], &[0, 1, 2, 3, 4, 5]];
+
+/// The ray with +0.0 for its zeros but -0.0 in these components, and the inverse of the direction with it: once for each of ZEROS.
+pub fn negative_zeros(r: &Ray) -> Vec<Ray> {
+    let Ray { origin: o, direction: d, tmin, tmax, .. } = entered(r);
+    let with = |at: &&[usize]| {
+        let mut c = [o.x, o.y, o.z, d.x, d.y, d.z];
+        at.iter().for_each(|&k| c[k] = -0.0);
+        Ray::new(vec3a(c[0], c[1], c[2]), vec3a(c[3], c[4], c[5]), tmin, tmax)
+    };
+    ZEROS.iter().map(with).collect()
+}
+
+/// Walkers that hold -0.0: with an inverse that is their direction's, and with that of +0.0; at last one all of whose floats are
+/// -0.0.
+fn unread(r: &Ray) -> Vec<Held> {
+    let mut all = vec![];
+    for ray in negative_zeros(r) {
+        let read = Held::fresh(&ray);
+        all.push(Held { ray, ..read.clone() });
+        if ray.inv_direction != read.ray.inv_direction {
+            all.push(Held { ray: Ray { inv_direction: read.ray.inv_direction, ..ray }, ..read });
+        }
+    }
+    let none = Vec3A::splat(-0.0);
+    let ray = Ray { origin: none, direction: none, inv_direction: none, tmin: -0.0, tmax: -0.0 };
+    all.push(Held { ray, ..Held::fresh(&ray) });
+    all
+}
+
+/// Walkers whose inverse is not their direction's on an axis.
+fn other_inverses(fresh: &Held) -> Vec<Held> {
+    let mut all = vec![];
     for axis in 0..3 {
         let turned = |x: f32, k: usize| match k {
             0 => -x,
@@ -110,7 +141,14 @@ pub fn forged(rng: &mut Rng, r: &Ray, m: usize) -> Vec<Held> {
             all.push(h);
         }
     }
-    let own = octant(r);
+    all
+}
+
+/// Walkers that are forged on a record of m nodes, by each thing on the list.
+pub fn forged(rng: &mut Rng, r: &Ray, m: usize) -> Vec<Held> {
+    let fresh = Held::fresh(r);
+    let mut all = [refused_rays(rng, r), unread(r), other_inverses(&fresh)].concat();
+    let own = fresh.octant;
     for octant in (0..10).chain([own | 8, own | 0x0101_0100, own * 0x0101_0101, u32::MAX]).filter(|&x| x != own) {
         all.push(Held { octant, ..fresh.clone() });
     }
@@ -132,7 +170,8 @@ pub fn without_nodes(rng: &mut Rng) -> Vec<Vec<u32>> {
     let record = convert(&t, 3, false).record;
     let ground = Ground { bytes: 0, ..Ground::new(&record, 2) };
     let about = target_box(rng, &t);
-    let fresh = Held::fresh(&ray(rng, &about));
+    let r = ray(rng, &about);
+    let fresh = Held::fresh(&r);
     let child = |base: u32, bits: u32| Group { base, bits };
     let low = 24 + fresh.octant;
     let groups = [
@@ -162,22 +201,26 @@ pub fn without_nodes(rng: &mut Rng) -> Vec<Vec<u32>> {
             }
         }
     }
-    // done without a test, and then done on a record with nodes
-    let mut run = ground.begun(&fresh.ray);
-    assert_eq!(run.to_end(&[], 1), [Step::Done]);
-    run.lend(record.len());
-    assert_eq!(run.to_end(&[], 1), [Step::Done]);
-    walks.push(run.words());
-    // a test, after which a walker counts more tests than there are nodes
-    let mut run = ground.begun(&fresh.ray);
-    run.lend(record.len());
-    assert_eq!(run.step(), Step::Tested);
-    run.lend(0);
-    assert_eq!(run.to_end(&[], 1), [Step::Refused(10)]);
-    run.lend(record.len());
-    run.to_end(&[], 1);
-    walks.push(run.words());
+    walks.extend(begun_without_nodes(&ground, &r, record.len()));
     vec![ground.case(&walks)]
+}
+
+/// Walkers just begun, which are lent no node at first or later, and so many bytes else.
+fn begun_without_nodes(ground: &Ground, r: &Ray, bytes: usize) -> [Vec<u32>; 2] {
+    // done without a test, and then done on a record with nodes
+    let mut first = ground.begun(r);
+    assert_eq!(first.to_end(&[], 1), [Step::Done]);
+    first.lend(bytes);
+    assert_eq!(first.to_end(&[], 1), [Step::Done]);
+    // a test, after which a walker counts more tests than there are nodes
+    let mut later = ground.begun(r);
+    later.lend(bytes);
+    assert_eq!(later.step(), Step::Tested);
+    later.lend(0);
+    assert_eq!(later.to_end(&[], 1), [Step::Refused(10)]);
+    later.lend(bytes);
+    later.to_end(&[], 1);
+    [first.words(), later.words()]
 }
 
 /// Walkers whose nodes and positions are near the largest that there may be, and past all words.

@@ -1,7 +1,9 @@
-//! The published traversals, with node tests counted, zero distances given as +0, and distances below tmin hidden.
+//! The published traversals, handed rays without -0.0, with node tests counted, zero distances given as +0, and distances below
+//! tmin hidden.
 use crate::tree::{aabb, unsigned_zero};
 use crate::walk::Answer;
 use crate::walker::{Group, Held, Step};
+use crate::zeros::entered;
 use glam::uvec2;
 use obvhs::aabb::Aabb;
 use obvhs::cwbvh::{CwBvh, RayTraversal, simd::NODE_TESTS};
@@ -21,7 +23,7 @@ fn counted<T>(run: impl FnOnce() -> T) -> (T, u32) {
 pub fn any_hit(bvh: &CwBvh, ray: Ray) -> Answer {
     let (found, tests) = counted(|| {
         let mut found = vec![];
-        bvh.ray_traverse_anyhit(ray, |_, id| found.push(id as u32));
+        bvh.ray_traverse_anyhit(entered(&ray), |_, id| found.push(id as u32));
         found
     });
     Answer { refusal: 0, tests, found }
@@ -43,7 +45,7 @@ fn distance(bvh: &CwBvh, panes: &[Aabb], ray: &Ray, id: usize) -> f32 {
 pub fn closest(bvh: &CwBvh, panes: &[Aabb], ray: Ray) -> Answer {
     let (found, tests) = counted(|| {
         let mut hit = RayHit::none();
-        if bvh.ray_traverse(ray, &mut hit, |r, id| distance(bvh, panes, r, id)) {
+        if bvh.ray_traverse(entered(&ray), &mut hit, |r, id| distance(bvh, panes, r, id)) {
             vec![hit.primitive_id, hit.t.to_bits()]
         } else {
             vec![]
@@ -53,7 +55,7 @@ pub fn closest(bvh: &CwBvh, panes: &[Aabb], ray: Ray) -> Answer {
 }
 
 pub fn miss(bvh: &CwBvh, panes: &[Aabb], ray: Ray) -> Answer {
-    let (missed, tests) = counted(|| bvh.ray_traverse_miss(ray, |r, id| distance(bvh, panes, r, id)));
+    let (missed, tests) = counted(|| bvh.ray_traverse_miss(entered(&ray), |r, id| distance(bvh, panes, r, id)));
     Answer { refusal: 0, tests, found: vec![missed as u32] }
 }
 
@@ -61,7 +63,7 @@ pub fn miss(bvh: &CwBvh, panes: &[Aabb], ray: Ray) -> Answer {
 pub fn closest_dynamic(bvh: &CwBvh, panes: &[Aabb], ray: Ray) -> Answer {
     let (found, tests) = counted(|| {
         let mut hit = RayHit::none();
-        let mut state = bvh.new_ray_traversal(ray);
+        let mut state = bvh.new_ray_traversal(entered(&ray));
         let mut found = vec![];
         while bvh.ray_traverse_dynamic(&mut state, &mut hit, |r, id| distance(bvh, panes, r, id)) {
             found = vec![hit.primitive_id, hit.t.to_bits()];
@@ -73,7 +75,7 @@ pub fn closest_dynamic(bvh: &CwBvh, panes: &[Aabb], ray: Ray) -> Answer {
 
 /// The published traversal in the state that a walker's words say.
 fn traversal(bvh: &CwBvh, from: &Held) -> RayTraversal {
-    let mut state = bvh.new_ray_traversal(from.ray);
+    let mut state = bvh.new_ray_traversal(entered(&from.ray));
     let group = |g: &Group| uvec2(g.base, g.bits);
     state.primitive_group = group(&from.positions);
     if !bvh.nodes.is_empty() {

@@ -27,16 +27,20 @@ fn step_word(s: Step) -> u32 {
 /// The walker beside a refusal 9: all zero, so that its inverse is not its direction's.
 fn no_walker() -> Held {
     let ray = Ray { origin: Vec3A::ZERO, direction: Vec3A::ZERO, inv_direction: Vec3A::ZERO, tmin: 0.0, tmax: 0.0 };
-    Held { octant: 0, current: Group::default(), ..Held::fresh(&ray) }
+    Held { ray, octant: 0, current: Group::default(), ..Held::fresh(&ray) }
+}
+
+/// A ray's eleven floats: origin, direction, inverse, tmin, tmax.
+pub fn held_ray_words(r: &Ray) -> Vec<u32> {
+    let vectors = [r.origin, r.direction, r.inv_direction].into_iter().flat_map(bits);
+    vectors.map(f32::from_bits).chain([r.tmin, r.tmax]).map(word).collect()
 }
 
 /// 0; ray 11, octant, tests, positions and group in hand (base and bits of each), depth, groups given, and these.
 fn held_words(h: &Held) -> Vec<u32> {
     let mut w = vec![0];
-    for v in [h.ray.origin, h.ray.direction, h.ray.inv_direction] {
-        w.extend(bits(v).map(|x| word(f32::from_bits(x))));
-    }
-    w.extend([word(h.ray.tmin), word(h.ray.tmax), h.octant, h.tests]);
+    w.extend(held_ray_words(&h.ray));
+    w.extend([h.octant, h.tests]);
     w.extend([h.positions.base, h.positions.bits, h.current.base, h.current.bits, h.depth, h.stack.len() as u32]);
     h.stack.iter().for_each(|g| w.extend([g.base, g.bits]));
     w

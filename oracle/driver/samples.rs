@@ -1,14 +1,14 @@
 //! The samples that the Rust can say something of, and the record line of T.
 use crate::accept::{Room, accepted_box, conversion_refusal};
-use crate::calls::agreed_steps;
+use crate::calls::agreed_walk;
 use crate::convert::{Converted, bvh_of, convert};
 use crate::generate::{Boxes, chain};
 use crate::query;
-use crate::scene::{Asked, Scene, through_t};
+use crate::scene::{Asked, Scene, endless, through_t};
 use crate::show::{input_of, shown, showrecord};
-use crate::tree::{BOUND, Tree, leaf, sample_tree};
+use crate::tree::{BOUND, Tree, bits, leaf, sample_tree};
 use crate::walk;
-use crate::walker::Held;
+use crate::walker::{Held, Step};
 use glam::{Vec3A, vec3a};
 use obvhs::aabb::Aabb;
 use obvhs::ray::Ray;
@@ -35,10 +35,10 @@ impl Tally {
     }
 }
 
-/// What T answers to the ray from x with this tmin, by the published code and by the rules, each by one test: any-hit's list, and
-/// the closest hit, without which miss has missed.
-fn answers(x: f32, tmin: f32, listed: &[u32], hit: Option<(u32, f32)>) -> bool {
-    let (s, ray) = (Scene::sample(), through_t(x, tmin));
+/// What T answers to the ray, by the published code and by the rules, each by one test: any-hit's list, and the closest hit,
+/// without which miss has missed.
+fn answers_ray(ray: Ray, listed: &[u32], hit: Option<(u32, f32)>) -> bool {
+    let s = Scene::sample();
     let a = s.published(&ray);
     let found = hit.map_or(vec![], |(p, t)| vec![p, t.to_bits()]);
     let tests = [a.any.tests, a.closest.tests, a.miss.tests];
@@ -46,11 +46,16 @@ fn answers(x: f32, tmin: f32, listed: &[u32], hit: Option<(u32, f32)>) -> bool {
     same && tests == [1; 3] && a.any.found == listed && a.closest.found == found && a.miss.found == [hit.is_none() as u32]
 }
 
+/// The same to the ray through T's boxes from x with this tmin.
+fn answers(x: f32, tmin: f32, listed: &[u32], hit: Option<(u32, f32)>) -> bool {
+    answers_ray(through_t(x, tmin), listed, hit)
+}
+
 /// Where tmax comes to on T with this tmin, by the published code and by the rules, if its two positions are told these.
 fn reach(tmin: f32, told: [f32; 2]) -> f32 {
-    let (s, from) = (Scene::sample(), Held::fresh(&through_t(-1.0, tmin)));
-    agreed_steps(&s.record, 2, &from, &told);
-    f32::from_bits(walk::steps(&s.record, 2, &from, &told).1)
+    let (s, ray) = (Scene::sample(), through_t(-1.0, tmin));
+    agreed_walk(&s.record, 2, &ray, &told);
+    f32::from_bits(walk::steps(&s.record, 2, &Held::fresh(&ray), &told).1)
 }
 
 /// The near limit by tmin.
@@ -68,6 +73,20 @@ fn near_limits(all: &mut Tally) {
     all.holds("tmin NaN: refused 9 (by the rules)", Scene::sample().by_rules(&nan).numbers() == [9; 3]);
     let told = [[1.0, 1.0], [3.0, 1.0], [3.0, 2.0]].map(|told| reach(2.0, told));
     all.holds("tmin 2: told 1 does nothing, told 3 then 2 lowers to 3, then to 2", told == [f32::INFINITY, 3.0, 2.0]);
+}
+
+/// -0.0 read as +0.0.
+fn negative_zeros(all: &mut Tally) {
+    let same = |origin: [f32; 3], direction: [f32; 3]| answers_ray(endless(origin, direction), &[1, 0], Some((0, 1.0)));
+    let at = [-1.0, 0.5, 0.5];
+    all.holds("S7 the same with -0.0 in y: any-hit 1 and 0, closest 0 at 1.0", same(at, [1.0, -0.0, 0.0]));
+    all.holds("S7 with -0.0 in z, in both", same(at, [1.0, 0.0, -0.0]) && same(at, [1.0, -0.0, -0.0]));
+    all.holds("S7 with -0.0 in the origin's y", same([-1.0, -0.0, 0.5], [1.0, 0.0, 0.0]));
+    let ray = endless(at, [1.0, -0.0, 0.0]);
+    let by_hand = Held { ray, ..Held::fresh(&ray) };
+    let agrees = bits(ray.inv_direction) == [1.0f32, -8388608.0, 8388608.0].map(f32::to_bits) && by_hand.octant == 7;
+    let steps = walk::steps(&Scene::sample().record, 2, &by_hand, &[f32::INFINITY]).0;
+    all.holds("S7 a walker with -0.0 in y, inverse -2^23, octant 7: refused 10 (by the rules)", agrees && steps == [Step::Refused(10)]);
 }
 
 const T_LINES: &str = "0 0000000000000000000000007978780001000000000000002021000000000000008000000000000040c00000000000000000000000000000808000000000000000000000000000008080000000000000\nindices 0 1\n";
@@ -95,19 +114,13 @@ pub fn run() -> bool {
     let c = convert(&t, 3, false);
     print!("{}", shown(&c));
     conversions(&mut all, &t, &c);
-    let bvh = bvh_of(&c.record, &c.list);
-    let panes: Vec<Aabb> = vec![t.aabb(1), t.aabb(2)];
-    let ray = |y: f32| Ray::new(vec3a(-1.0, 0.5, 0.5), vec3a(1.0, y, 0.0), 0.0, f32::INFINITY);
-    let any = query::any_hit(&bvh, ray(0.0));
-    let near = query::closest(&bvh, &panes, ray(0.0));
     all.holds(
         "S6 any-hit lists 1 and 0 after one test, closest answers position 0 at 1.0",
-        any.found == [1, 0] && any.tests == 1 && near.found == [0, 1.0f32.to_bits()] && near.tests == 1,
+        answers(-1.0, 0.0, &[1, 0], Some((0, 1.0))),
     );
-    let turned = query::any_hit(&bvh, ray(-0.0));
-    all.holds("S7 the same with -0.0 in y: nothing, one test", turned.found.is_empty() && turned.tests == 1);
+    negative_zeros(&mut all);
     let empty = convert(&Tree::default(), 3, false);
-    let none = query::any_hit(&bvh_of(&empty.record, &empty.list), ray(0.0));
+    let none = query::any_hit(&bvh_of(&empty.record, &empty.list), through_t(-1.0, 0.0));
     all.holds("S8 n = 0: no nodes, nothing, no test", empty.record.is_empty() && none == Default::default());
     let room = Room::needed(2);
     all.holds(

@@ -5,7 +5,7 @@ use crate::query;
 use crate::store::words_of;
 use crate::tree::{aabb_words, sample_tree};
 use crate::walk::{self, Answer};
-use glam::vec3a;
+use glam::Vec3A;
 use obvhs::ray::Ray;
 
 #[derive(Clone, Default)]
@@ -50,10 +50,15 @@ fn answer_words(a: &Answer) -> Vec<u32> {
     w
 }
 
+/// A ray without an end, and with tmin 0.
+pub fn endless(origin: [f32; 3], direction: [f32; 3]) -> Ray {
+    Ray::new(Vec3A::from(origin), Vec3A::from(direction), 0.0, f32::INFINITY)
+}
+
 /// A ray along x through the middle of T's boxes, from this x on and with this tmin: from -1 on it comes to them at 1 and 3, and
 /// leaves them at 2 and 4.
 pub fn through_t(x: f32, tmin: f32) -> Ray {
-    Ray::new(vec3a(x, 0.5, 0.5), vec3a(1.0, 0.0, 0.0), tmin, f32::INFINITY)
+    Ray { tmin, ..endless([x, 0.5, 0.5], [1.0, 0.0, 0.0]) }
 }
 
 /// A ray's eight floats.

@@ -74,7 +74,7 @@ pub fn nearest(record: &[u8], list: &[u32], panes: &[u32], ray: &Ray, first: boo
     loop {
         match w.step(record, list.len()) {
             Step::Tested => {}
-            Step::Reported(p) => match distance(panes, list, p, ray) {
+            Step::Reported(p) => match distance(panes, list, p, &w.ray) {
                 Err(number) => return refused(number),
                 Ok(d) if counts(&w.ray, d) => {
                     hit = vec![p, d.to_bits()];

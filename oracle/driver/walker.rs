@@ -2,6 +2,7 @@
 //! No code is shared with the published traversals.
 use crate::accept::{MOST_LEAVES, MOST_NODES, accepted_ray};
 use crate::record::{Node, node, rule};
+use glam::Vec3A;
 use obvhs::ray::Ray;
 
 /// The most groups that wait.
@@ -48,7 +49,7 @@ pub struct Walker {
     claimed: u32,
 }
 
-pub fn safe_inverse(v: f32) -> f32 {
+fn safe_inverse(v: f32) -> f32 {
     if v.abs() <= 1.0 / 8388608.0 {
         if v.is_sign_negative() { -8388608.0 } else { 8388608.0 }
     } else {
@@ -56,8 +57,20 @@ pub fn safe_inverse(v: f32) -> f32 {
     }
 }
 
+fn negative_zero(v: f32) -> bool {
+    v.to_bits() == 0x8000_0000
+}
+
+/// The ray that a walker begins with: -0.0 in origin or direction is read as +0.0, and the inverse is that of the direction so read.
+fn begun(r: &Ray) -> Ray {
+    let read = |v: Vec3A| [v.x, v.y, v.z].map(|x| if negative_zero(x) { 0.0 } else { x });
+    let (origin, direction) = (read(r.origin), read(r.direction));
+    let inv_direction = Vec3A::from(direction.map(safe_inverse));
+    Ray { origin: Vec3A::from(origin), direction: Vec3A::from(direction), inv_direction, ..*r }
+}
+
 /// 7 less 4, 2, 1 for a negative x, y, z.
-pub fn octant(r: &Ray) -> u32 {
+fn octant(r: &Ray) -> u32 {
     let d = [r.direction.x, r.direction.y, r.direction.z];
     7 - (0..3).map(|a| if d[a] < 0.0 { 4 >> a } else { 0 }).sum::<u32>()
 }
@@ -91,9 +104,10 @@ pub fn slot_span(r: &Ray, n: &Node, slot: usize) -> (f32, f32) {
 impl Held {
     /// A walker just begun: the first node is in hand.
     pub fn fresh(r: &Ray) -> Held {
+        let ray = begun(r);
         Held {
-            ray: *r,
-            octant: octant(r),
+            ray,
+            octant: octant(&ray),
             tests: 0,
             positions: Group::default(),
             current: Group { base: 0, bits: 0x8000_0000 },
@@ -152,12 +166,14 @@ impl Walker {
         }
     }
 
-    /// Exactly what is on the list: the ray fails 9, inverse or octant is not its direction's, over 32 groups, more tests
-    /// than nodes.
+    /// Exactly what is on the list: the ray fails 9, -0.0 in origin or direction, inverse or octant is not its direction's, over
+    /// 32 groups, more tests than nodes.
     fn forged(&self, m: usize) -> bool {
-        let (d, i) = (self.ray.direction, self.ray.inv_direction);
+        let (o, d, i) = (self.ray.origin, self.ray.direction, self.ray.inv_direction);
+        let unread = [o.x, o.y, o.z, d.x, d.y, d.z].into_iter().any(negative_zero);
         let own = [(d.x, i.x), (d.y, i.y), (d.z, i.z)].iter().all(|&(d, i)| i == safe_inverse(d));
-        !accepted_ray(&self.ray) || !own || self.octant != octant(&self.ray) || self.claimed > 0 || self.tests as usize > m
+        let turned = !own || self.octant != octant(&self.ray);
+        !accepted_ray(&self.ray) || unread || turned || self.claimed > 0 || self.tests as usize > m
     }
 
     /// Whether the ray passes a slot's box.

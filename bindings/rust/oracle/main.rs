@@ -56,6 +56,9 @@ mod walk;
 #[allow(dead_code)]
 #[path = "../../../oracle/driver/walker.rs"]
 mod walker;
+#[allow(dead_code)]
+#[path = "../../../oracle/driver/zeros.rs"]
+mod zeros;
 
 use calls::{agreed_steps, told};
 use checks::damage;
