@@ -21,11 +21,11 @@ use Rattle.walk.specs.Calls.{Op}
 use Rattle.walk.specs.WordStep.{WalkerWords, SteppedWords, stayWords}
 use Rattle.walk.proofs.Cases.{and-false}
 use Rattle.walk.proofs.WordKept.{step-keeps-ray}
-use Rattle.walk_record.specs.WalkRay.{WalkRay, walkRay, plainRay, forgedRay, byBoxes}
+use Rattle.walk_record.specs.WalkRay.{WalkRay, plainRay, forgedRay, byBoxes}
 use Rattle.walk_record.specs.Record.{nodeWordsAt}
 use Rattle.walk_record.specs.Walk.{stepIn, stepAt}
 use Rattle.walk_record.proofs.WalkRay.{unforged}
-use Rattle.traverse.specs.Walker.{Begun, noWalker, started, toldWalker, stepBytes}
+use Rattle.traverse.specs.Walker.{Begun, started, toldWalker, stepBytes}
 use Rattle.traverse.specs.Calls.{RecordOp, stepOn, tells, onRecord, runEach, runBytes}
 use Rattle.traverse.proofs.Begun.{starts-fresh, refuses}
 use Rattle.traverse.proofs.Steps.{step-forged}

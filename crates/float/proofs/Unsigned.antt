@@ -1,8 +1,8 @@
 -- A value with its zero unsigned: it is no -0, is otherwise the value itself, and lies within the bounds exactly if that does. And of a number that
 -- is no -0, to be below zero and to have the sign bit are the same.
-use mathlib.Core.Path.{_≡_, refl, sym, _∙_, subst}
-use mathlib.Core.Bool.{Bool, true, false, not, _&&_, cond}
-use Prim.Native.Nat.{ℕ, zero, suc, _+_, _*_, _^_}
+use mathlib.Core.Path.{_≡_, refl, sym, subst}
+use mathlib.Core.Bool.{Bool, true, false, not, cond}
+use Prim.Native.Nat.{zero, suc, _+_, _*_, _^_}
 use native.Mathlib.Nat.{zero-lt-suc, mul-pos}
 use native.Mathlib.Omega.{arith}
 use lib.IntN.{ℤ, pos}

@@ -1,3 +1,4 @@
 pub mod Samples
 pub mod Further
 pub mod NearLimit
+pub mod MinusZero
