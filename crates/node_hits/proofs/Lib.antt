@@ -1,5 +1,6 @@
 pub mod Limit
 pub mod Terms
+pub mod Signs
 pub mod Passing
 pub mod Reach
 pub mod HitBits
