@@ -1,17 +1,19 @@
--- Sums, differences and products of finite floats of either sign keep the order, rounded; an overflow is an infinity of that sign.
+-- Sums, differences and products of finite floats of either sign keep the order, rounded, and a factor that is not positive turns it;
+-- an overflow is an infinity of that sign.
 use mathlib.Core.Path.{_≡_, refl, ap}
 use Prim.Native.Nat.{ℕ, _+_, _*_, _≤_}
 use native.Mathlib.Nat.{add-mul, mul-assoc, mul-comm, mul-left-comm, mul-pos, mul-le-mul-right}
 use native.Mathlib.Omega.{arith}
-use mathlib.Core.Bool.{Bool, true, false}
-use lib.IntN.{ℤ}
-use lib.Dec.{T}
-use lib.Ieee.{Float, fin, Format, up, down, round, neg, add, sub, mul, le}
+use mathlib.Core.Bool.{Bool, true, false, not}
+use lib.IntN.{ℤ, pos}
+use lib.Dec.{T, lit<}
+use lib.Ieee.{Float, fin, Format, up, down, unlike, round, neg, add, sub, mul, ofInt, le}
 use lib.Ieee.Fits.{down-pos}
+use lib.Ieee.Order.{round-mono}
 use lib.Ieee.Positive.{den, den-pos}
 use lib.Ieee.Scale.{finite}
 use Rattle.float.proofs.Order.{le-neg}
-use Rattle.float.proofs.Rounding.{round-le}
+use Rattle.float.proofs.Rounding.{round-not, round-le}
 use Rattle.float.proofs.Signed.{posPart, negPart, posNum, negNum, finite-pair, le-cross, finite-neg, add-is}
 
 -- ---- sums
@@ -72,3 +74,27 @@ mul-mono-left f x x' n d = finite-pair (λ x x'. T (le x x') → T (le (mul f x 
         (round-le f s (m * up e * (n * up d)) (down e * down d) t (k * up g * (n * up d)) (down g * down d)
         (mul-pos (down-pos e) (down-pos d)) (mul-pos (down-pos g) (down-pos d))
         (products-le s t (m * up e) (down e) (k * up g) (down g) (n * up d) (down d) (le-cross (fin s m e) (fin t k g) tt tt .0 h)))
+
+-- ---- products with one that is not positive, which turn the order
+unlike-not : (s t : Bool) → unlike s (not t) ≡ not (unlike s t)
+unlike-not true true = refl
+unlike-not true false = refl
+unlike-not false true = refl
+unlike-not false false = refl
+
+-- a factor's other sign gives the product its other sign
+pub mul-neg : (f : Format) (x y : Float) → T (finite x) → T (finite y) → mul f x (neg y) ≡ neg (mul f x y)
+unfolding mul neg
+mul-neg f = finite-pair (λ x y. mul f x (neg y) ≡ neg (mul f x y)) (λ s m e t n d. rw (unlike-not s t) (round-not f (unlike s t) _ _))
+
+pub mul-mono-neg : (f : Format) (x x' : Float) (n : ℕ) (d : ℤ) → T (finite x) → T (finite x') → T (le x x')
+    → T (le (mul f x' (fin true n d)) (mul f x (fin true n d)))
+unfolding neg
+mul-mono-neg f x x' n d p q h =
+    rw (mul-neg f x (fin false n d) p tt, mul-neg f x' (fin false n d) q tt)
+    (le-neg (mul f x (fin false n d)) (mul f x' (fin false n d)) (mul-mono-left f x x' n d p q h))
+
+-- ---- a greater number has no lower float
+pub of-nat-mono : (f : Format) (m n : ℕ) → m ≤ n → T (le (ofInt f (pos m)) (ofInt f (pos n)))
+unfolding ofInt
+of-nat-mono f m n h = round-mono f m 1 n 1 (lit< tt) (lit< tt) (omega arith)

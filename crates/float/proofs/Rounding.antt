@@ -17,17 +17,18 @@ use Rattle.float.specs.Magnitude.{AtMost, Upto, Held}
 use Rattle.float.specs.Sign.{signBit}
 use Rattle.float.proofs.Held.{held-zero}
 use Rattle.float.proofs.Order.{le-transitive, le-neg}
+use Rattle.float.proofs.Sign.{round-sign}
 use Rattle.float.proofs.Signed.{posPart, negPart, le-cross}
 
 -- ---- the sign
--- F takes its sign from its argument, and nothing else
+-- F of the other sign differs in its sign, and in nothing else
 abbrev BySign : (Bool → Float) → Type 0
-BySign F = (s : Bool) → (signBit (F s) ≡ s) × (F (not s) ≡ neg (F s))
+BySign F = (s : Bool) → F (not s) ≡ neg (F s)
 
 odd-by-sign : (d q k l : ℕ) → BySign (λ s. odd d s q k l)
 unfolding odd neg
-odd-by-sign d zero k l s = (refl, refl)
-odd-by-sign d (suc q) k l s = (refl, refl)
+odd-by-sign d zero k l s = refl
+odd-by-sign d (suc q) k l s = refl
 
 units-by-sign : (f : Format) (q k : ℕ) → BySign (λ s. units f s q k)
 unfolding units neg
@@ -35,16 +36,10 @@ units-by-sign f q k = go (ltb (q * 2 ^ k) (overflow f))
   where
     go : (fine : Bool) → BySign (λ s. cond fine (odd (suc (prec f)) s q k (low f)) (inf s))
     go true = odd-by-sign (suc (prec f)) q k (low f)
-    go false = λ s. (refl, refl)
+    go false = λ s. refl
 
-round-by-sign : (f : Format) (n d : ℕ) → BySign (λ s. round f s n d)
-round-by-sign f n d s = rw (round-is f s n d, round-is f (not s) n d) (units-by-sign f _ _ s)
-
-round-sign : (f : Format) (s : Bool) (n d : ℕ) → signBit (round f s n d) ≡ s
-round-sign f s n d = round-by-sign f n d s .0
-
-round-not : (f : Format) (s : Bool) (n d : ℕ) → round f (not s) n d ≡ neg (round f s n d)
-round-not f s n d = round-by-sign f n d s .1
+pub round-not : (f : Format) (s : Bool) (n d : ℕ) → round f (not s) n d ≡ neg (round f s n d)
+round-not f s n d = rw (round-is f s n d, round-is f (not s) n d) (units-by-sign f _ _ s)
 
 -- ---- the order
 zero-rounded : (f : Format) → round f false 0 1 ≡ plusZero

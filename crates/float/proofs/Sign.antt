@@ -6,7 +6,7 @@ use mathlib.Core.Bool.{Bool, true, false, not, _&&_, cond}
 use lib.Dec.{T, leb, ltb, eqb}
 use lib.IntN.{ℤ}
 use lib.Ieee.{Float, nan, inf, fin, Format, prec, low, ones, hid, top, odd, units, round, div, ofFields, ofBits, toBits, fits, isNan, lt, le, eq}
-use lib.Ieee.{emax, level, unlike, up, down}
+use lib.Ieee.{emax, level, unlike, up, down, mul}
 use borrow.Author.Tests.{eq-eqb, ne-eqb}
 use lib.Ieee.Bits.{ofBits-toBits}
 use Rattle.float.specs.Sign.{signBit}
@@ -38,7 +38,7 @@ pub sign-of-bits : (f : Format) (v : Float) → T (fits f v) → T (not (isNan v
 sign-of-bits f v h k =
     ap signBit (sym (ofBits-toBits f v h)) ∙ bits-sign f (toBits f v) (subst (λ (z : Float). T (not (isNan z))) (sym (ofBits-toBits f v h)) k)
 
--- ---- what is rounded keeps its sign, and a quotient of a positive number has the divisor's
+-- ---- what is rounded keeps its sign; a product with a positive number has the other factor's, and a quotient of one the divisor's
 units-sign : (f : Format) (s : Bool) (q k : ℕ) → signBit (units f s q k) ≡ s
 unfolding units
 units-sign f s q k = go (ltb (q * 2 ^ k) (2 ^ (low f + suc (emax f))))
@@ -47,13 +47,19 @@ units-sign f s q k = go (ltb (q * 2 ^ k) (2 ^ (low f + suc (emax f))))
     go true = odd-sign-bit (suc (prec f)) s q k (low f)
     go false = refl
 
-round-sign : (f : Format) (s : Bool) (n d : ℕ) → signBit (round f s n d) ≡ s
+pub round-sign : (f : Format) (s : Bool) (n d : ℕ) → signBit (round f s n d) ≡ s
 unfolding round
 round-sign f s n d = units-sign f s _ _
 
 of-positive : (s : Bool) → unlike false s ≡ s
 of-positive true = refl
 of-positive false = refl
+
+pub mul-sign : (f : Format) (m : ℕ) (e : ℤ) (x : Float) → T (not (isNan x)) → signBit (mul f (fin false (suc m) e) x) ≡ signBit x
+unfolding mul isNan
+mul-sign f m e nan p = absurd p
+mul-sign f m e (inf s) p = rw (ne-eqb (suc m) 0 (λ z. omega (arith, z))) (of-positive s)
+mul-sign f m e (fin s n d) p = round-sign f (unlike false s) (suc m * up e * (n * up d)) (down e * down d) ∙ of-positive s
 
 pub div-sign : (f : Format) (m : ℕ) (e : ℤ) (x : Float) → T (not (isNan x)) → signBit (div f (fin false (suc m) e) x) ≡ signBit x
 unfolding div isNan

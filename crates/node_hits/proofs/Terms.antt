@@ -55,7 +55,7 @@ unfolding scaleOf pointOk
 scale-within e h =
     in-bounds-within (ofBits binary32 (e * 8388608)) (subst T (point-bits (e * 8388608)) (le→leb (e * 8388608 % 2147483648) 1400897536 (omega arith)))
 
-byte-within : (q : ℕ) → q < 256 → Within 8 (ofInt binary32 (pos q))
+pub byte-within : (q : ℕ) → q < 256 → Within 8 (ofInt binary32 (pos q))
 unfolding ofInt
 byte-within q h = round-atmost binary32 false q 1 (2 ^ 8) 1 (lit< tt) (lit< tt) (held-pow binary32 8 (lit≤ tt)) (omega arith)
 

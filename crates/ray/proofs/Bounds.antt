@@ -1,5 +1,5 @@
 -- What holds of rays within the bounds: an octant is below 8, a safe inverse at most 2 ^ 23 in size, an accepted ray's components finite.
-use mathlib.Core.Path.{_≡_, refl, sym, subst}
+use mathlib.Core.Path.{_≡_, refl, sym, _∙_, subst}
 use mathlib.Core.Bool.{Bool, true, false, not, _&&_, cond}
 use Prim.Native.Nat.{ℕ, _^_, _≤_, _<_}
 use native.Mathlib.Omega.{arith}
@@ -8,15 +8,16 @@ use lib.Dec.{T, lit<, lit≤}
 use lib.Ieee.{Float, nan, fin, binary32, div, le, isNan}
 use lib.Ieee.Bits.{is-true}
 use lib.Ieee.Fits.{and-l, and-r}
-use Rattle.float.specs.Compare.{inBounds}
+use Rattle.float.specs.Compare.{isMinusZero, inBounds}
 use Rattle.float.specs.Magnitude.{Within}
 use Rattle.float.specs.Sign.{signBit}
 use Rattle.float.proofs.Held.{held-pow}
 use Rattle.float.proofs.Sign.{div-sign}
 use Rattle.float.proofs.Magnitude.{div-atmost, atmost-of-tests, atleast-of-test, atmost-no-nan}
+use Rattle.float.proofs.Unsigned.{below-zero-sign}
 use Rattle.ray.specs.declared.Vec3.{Vec3}
 use Rattle.ray.specs.declared.Ray.{Ray}
-use Rattle.ray.specs.Ray.{tiny, safeInverse, octantOf, reaching, boundedVec, acceptedRay}
+use Rattle.ray.specs.Ray.{tiny, safeInverse, belowZero, octantOf, reaching, boundedVec, acceptedRay}
 
 pub weight-le : (b : Bool) (w : ℕ) → cond b w 0 ≤ w
 weight-le true w = omega arith
@@ -68,6 +69,10 @@ inverse-sign v p = go (tiny v)
     go : (t : Bool) → signBit (cond t (fin (signBit v) 1 (pos 23)) (div binary32 (fin false 1 (pos 0)) v)) ≡ signBit v
     go true = refl
     go false = div-sign binary32 0 (pos 0) v p
+
+-- so the inverse of a number that is no -0 has the sign bit exactly if the number is below zero
+pub inverse-below : (v : Float) → T (not (isNan v)) → isMinusZero v ≡ false → belowZero v ≡ signBit (safeInverse v)
+inverse-below v p h = below-zero-sign v p h ∙ sym (inverse-sign v p)
 
 -- ---- accepted rays
 pub record Accepted (r : Ray) : Type 0 where
