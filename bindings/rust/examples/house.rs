@@ -35,11 +35,10 @@ fn read(path: &str) -> Result<Vec<Part>, Box<dyn Error>> {
     Ok(lines.map(part).collect::<Result<Vec<Part>, String>>()?)
 }
 
-/// Where the sun stands at 52 degrees north on the day of the equinox: x east, y north, z up. At noon x would be −0.0,
-/// and the sum makes it +0.0: the library takes a direction's −0.0 as it is, and such a ray passes between the boxes.
+/// Where the sun stands at 52 degrees north on the day of the equinox: x east, y north, z up.
 fn sun(hour: f32) -> [f32; 3] {
     let (turn, latitude) = ((hour - 12.0) * 15f32.to_radians(), 52f32.to_radians());
-    [0.0 - turn.sin(), -latitude.sin() * turn.cos(), latitude.cos() * turn.cos()]
+    [-turn.sin(), -latitude.sin() * turn.cos(), latitude.cos() * turn.cos()]
 }
 
 /// The parts that a ray meets, nearest first, with their distances.

@@ -1,6 +1,7 @@
 //! Rays.
 
 /// A ray: where it begins, its direction, and from which to which distance it reaches, in lengths of the direction.
+/// Zeros of its origin and its direction have no sign: whatever is asked reads −0.0 there as +0.0.
 ///
 /// ```
 /// let sun = funnelcress::Ray::new([1.0, 2.0, 0.8], [0.3, -0.4, 0.5]).starting(1.5).reaching(50.0);

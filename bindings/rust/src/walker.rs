@@ -4,8 +4,8 @@ use crate::record::Record;
 use crate::refusal::Refusal;
 use crate::sys::{self, Number};
 
-/// The words that hold a walker. They are opaque: any words hold some walker, and one that no walk leads to is refused 10
-/// as it steps.
+/// The words that hold a walker. They are opaque: any words hold some walker, and one that no walk leads to, as one with
+/// −0.0 in its ray's origin or direction, is refused 10 as it steps.
 #[derive(Clone, Debug, PartialEq, Eq)]
 pub struct State {
     /// All but the stack.

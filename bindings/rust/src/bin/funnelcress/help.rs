@@ -45,7 +45,7 @@ pub const ANY_HIT: &str = "\
 usage: funnelcress any-hit RECORD RAYS [--json] [--threads N]
 
 A line a ray: its number, the node tests, and the positions that it passes. RAYS has eight floats a line (origin,
-direction, tmin, tmax; `inf` is a number), or packed ones where its name ends in .f32.
+direction, tmin, tmax; `inf` is a number, and -0 in origin or direction is 0), or packed ones where its name ends in .f32.
 
 example: funnelcress any-hit house.record rays.txt
 ";
