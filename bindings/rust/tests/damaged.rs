@@ -82,27 +82,85 @@ fn a_short_list_says_what_it_needs_and_stays() {
     assert_eq!(met.positions.len(), 2000);
 }
 
+/// The words of a walker just begun.
+fn begun() -> State {
+    record().walk(&along()).unwrap().state().clone()
+}
+
+/// The same with one word of its head changed.
+fn altered(at: usize, word: u32) -> State {
+    let mut state = begun();
+    state.head[at] = word.into();
+    state
+}
+
+/// The walker is refused at each step, and its words stay.
+fn forged(state: State) {
+    let record = record();
+    let mut walker = Walker::resume(&record, state.clone());
+    assert_eq!(walker.step(), Err(Refusal::Record));
+    assert_eq!(walker.state(), &state);
+    assert_eq!(walker.next(), Some(Err(Refusal::Record)));
+    assert_eq!(walker.next(), None);
+}
+
+/// The walker tests the first node.
+fn walks(state: State) {
+    assert_eq!(Walker::resume(&record(), state).step(), Ok(Step::Tested(0)));
+}
+
 /// A state with one word of its head changed is some walker, and mostly a forged one.
 #[test]
 fn forged_states() {
-    let record = record();
-    let begun = record.walk(&along()).unwrap().state().clone();
-    let alter = |at: usize, word: u64| {
-        let mut state = begun.clone();
-        state.head[at] = word;
-        state
-    };
-    let nan = f32::NAN.to_bits().into();
-    let forged = [alter(0, nan), alter(3, nan), alter(6, 0), alter(10, nan), alter(11, 3), alter(12, 2), alter(17, 33)];
-    for state in forged.into_iter().chain([State { head: [0; 18], stack: [0; 32] }]) {
-        let mut walker = Walker::resume(&record, state.clone());
-        assert_eq!(walker.step(), Err(Refusal::Record));
-        assert_eq!(walker.state(), &state);
-        assert_eq!(walker.next(), Some(Err(Refusal::Record)));
-        assert_eq!(walker.next(), None);
+    let nan = f32::NAN.to_bits();
+    for (at, word) in [(0, nan), (3, nan), (6, 0), (10, nan), (11, 3), (12, 2), (17, 33)] {
+        forged(altered(at, word));
     }
-    let mut walker = Walker::resume(&record, begun);
-    assert_eq!(walker.step(), Ok(Step::Tested(0)));
+    forged(State { head: [0; 18], stack: [0; 32] });
+    walks(begun());
+}
+
+/// The inverse of +0.0.
+const INVERSE: f32 = 8_388_608.0;
+
+/// A state with a zero in its ray's origin or direction, there with an inverse beside it.
+fn with_zero(at: usize, zero: f32, inverse: f32) -> State {
+    let mut state = altered(at, zero.to_bits());
+    if at >= 3 {
+        state.head[at + 3] = inverse.to_bits().into();
+    }
+    state
+}
+
+/// A walker that holds −0.0 in its ray's origin or direction is forged, whatever its inverse; telling works all the same.
+#[test]
+fn forged_zeros() {
+    let record = record();
+    for at in 0..6 {
+        walks(with_zero(at, 0.0, INVERSE));
+        for inverse in [INVERSE, -INVERSE] {
+            let mut state = with_zero(at, -0.0, inverse);
+            forged(state.clone());
+            let mut walker = Walker::resume(&record, state.clone());
+            walker.tell(2.0);
+            state.head[10] = 2f32.to_bits().into();
+            assert_eq!(walker.state(), &state);
+            forged(state);
+        }
+    }
+}
+
+/// A walker begins without signs of zeros in origin and direction; its start, its reach and what it is told keep theirs.
+#[test]
+fn begun_zeros() {
+    let record = record();
+    let zeros = Ray::new([-0.0; 3], [-0.0; 3]).starting(-0.0);
+    let mut told = record.walk(&zeros).unwrap();
+    told.tell(-0.0);
+    let floats = [0.0, 0.0, 0.0, 0.0, 0.0, 0.0, INVERSE, INVERSE, INVERSE, -0.0, -0.0];
+    for walker in [told, record.walk(&zeros.reaching(-0.0)).unwrap()] {
+        assert_eq!(walker.state().head[..11], floats.map(|x: f32| x.to_bits().into()));
+    }
 }
 
 #[test]

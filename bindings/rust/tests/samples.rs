@@ -1,5 +1,5 @@
 //! The samples of the requirements, through the safe types.
-use funnelcress::{Hit, Link, Node, Options, Pane, Ray, Record, Refusal, Tree, Verdict};
+use funnelcress::{Hit, Link, Node, Options, Pane, Ray, Record, Refusal, State, Step, Tree, Verdict, entry_distances};
 
 const PANES: [Pane; 2] = [[0.0, 0.0, 0.0, 1.0, 1.0, 1.0], [2.0, 0.0, 0.0, 3.0, 1.0, 1.0]];
 
@@ -15,6 +15,11 @@ fn sample() -> Tree {
         node([2.0, 0.0, 0.0], [3.0, 1.0, 1.0], Link::Leaf(1)),
     ];
     Tree::from_nodes(&nodes, vec![0, 1]).unwrap()
+}
+
+/// Its record, the children as gathered.
+fn unordered() -> Record {
+    sample().convert(Options { limit: 3, ordered: false }).unwrap()
 }
 
 /// One leaf with a box from 0 to an extent on x.
@@ -52,7 +57,7 @@ fn exponents() {
 
 #[test]
 fn the_record() {
-    let record = sample().convert(Options { limit: 3, ordered: false }).unwrap();
+    let record = unordered();
     let hex: String = record.bytes().iter().map(|b| format!("{b:02x}")).collect();
     let head = "0000000000000000000000007978780001000000000000002021000000000000";
     let ends = "008000000000000040c00000000000000000000000000000808000000000000000000000000000008080000000000000";
@@ -67,23 +72,26 @@ fn ordering_seats_the_second_leaf_in_slot_4() {
     assert_eq!(record.bytes()[24..32], [0x20, 0, 0, 0, 0x21, 0, 0, 0]);
 }
 
+/// The ray meets both panes by one test, the first at 1.
+fn meets_both(record: &Record, ray: &Ray) {
+    let met = record.any_hit(ray).unwrap();
+    assert_eq!((met.positions, met.tests), (vec![1, 0], 1));
+    let closest = record.closest(&PANES, ray).unwrap();
+    assert_eq!((closest.hit, closest.tests), (Some(Hit { position: 0, distance: 1.0 }), 1));
+    assert!(!record.miss(&PANES, ray).unwrap().missed);
+    let positions: Vec<u32> = record.walk(ray).unwrap().map(Result::unwrap).collect();
+    assert_eq!(positions, [1, 0]);
+}
+
 #[test]
 fn queries() {
-    let record = sample().convert(Options { limit: 3, ordered: false }).unwrap();
-    let ray = Ray::new([-1.0, 0.5, 0.5], [1.0, 0.0, 0.0]);
-    let met = record.any_hit(&ray).unwrap();
-    assert_eq!((met.positions, met.tests), (vec![1, 0], 1));
-    let closest = record.closest(&PANES, &ray).unwrap();
-    assert_eq!((closest.hit, closest.tests), (Some(Hit { position: 0, distance: 1.0 }), 1));
-    assert!(!record.miss(&PANES, &ray).unwrap().missed);
-    let positions: Vec<u32> = record.walk(&ray).unwrap().map(Result::unwrap).collect();
-    assert_eq!(positions, [1, 0]);
+    meets_both(&unordered(), &Ray::new([-1.0, 0.5, 0.5], [1.0, 0.0, 0.0]));
 }
 
 /// The start: slots that end before it are not passed, panes entered before it are no hits.
 #[test]
 fn starts() {
-    let record = sample().convert(Options { limit: 3, ordered: false }).unwrap();
+    let record = unordered();
     let ray = Ray::new([-1.0, 0.5, 0.5], [1.0, 0.0, 0.0]);
     let hit = |ray: &Ray| record.closest(&PANES, ray).unwrap().hit.map(|h| (h.position, h.distance));
     for (tmin, listed, nearest) in [
@@ -104,12 +112,50 @@ fn starts() {
     assert_eq!((hit(&within), hit(&within.starting(-1.0))), (Some((1, 1.5)), Some((0, -0.5))));
 }
 
-/// A direction with −0.0 misses today; a later request reads it as +0.0.
+/// The ray with +0.0 for each −0.0 of its origin and its direction.
+fn neighbour(ray: &Ray) -> Ray {
+    let read = |v: [f32; 3]| v.map(|x| x + 0.0);
+    Ray { origin: read(ray.origin), direction: read(ray.direction), ..*ray }
+}
+
+/// The words of a walker just begun; the steps to the end, with the words after each; and the bits of the entry distances.
+fn walked_and_entered(record: &Record, ray: &Ray) -> (State, Vec<(Step, State)>, Vec<u32>) {
+    let mut walker = record.walk(ray).unwrap();
+    let begun = walker.state().clone();
+    let mut steps = vec![];
+    while steps.last().is_none_or(|(step, _)| *step != Step::Done) {
+        steps.push((walker.step().unwrap(), walker.state().clone()));
+    }
+    (begun, steps, entry_distances(&PANES, ray).unwrap().into_iter().map(f32::to_bits).collect())
+}
+
+/// −0.0 in a direction or an origin is read as +0.0.
 #[test]
-fn a_negative_zero() {
-    let record = sample().convert(Options { limit: 3, ordered: false }).unwrap();
-    let met = record.any_hit(&Ray::new([-1.0, 0.5, 0.5], [1.0, -0.0, 0.0])).unwrap();
-    assert_eq!((met.positions, met.tests), (vec![], 1));
+fn negative_zeros() {
+    let record = unordered();
+    for (origin, direction) in [
+        ([-1.0, 0.5, 0.5], [1.0, -0.0, 0.0]),
+        ([-1.0, 0.5, 0.5], [1.0, 0.0, -0.0]),
+        ([-1.0, 0.5, 0.5], [1.0, -0.0, -0.0]),
+        ([-1.0, -0.0, 0.5], [1.0, 0.0, 0.0]),
+    ] {
+        let ray = Ray::new(origin, direction);
+        meets_both(&record, &ray);
+        assert_eq!(walked_and_entered(&record, &ray), walked_and_entered(&record, &neighbour(&ray)));
+    }
+}
+
+/// A direction of zeros alone is not refused, whatever their signs.
+#[test]
+fn no_direction() {
+    let record = unordered();
+    let ray = Ray::new([0.5; 3], [-0.0; 3]).starting(f32::NEG_INFINITY);
+    let met = record.any_hit(&ray).unwrap();
+    assert_eq!((met.positions, met.tests), (vec![0], 1));
+    let inside = Hit { position: 0, distance: -0.5 * 2f32.powi(23) };
+    assert_eq!(record.closest(&PANES, &ray).unwrap().hit, Some(inside));
+    assert!(!record.miss(&PANES, &ray).unwrap().missed);
+    assert_eq!(walked_and_entered(&record, &ray), walked_and_entered(&record, &neighbour(&ray)));
 }
 
 #[test]
