@@ -114,6 +114,39 @@ static void walkers(const uint8_t *good) {
     expect("step, too many positions", 2, funnelcress_step(w.head, w.stack, good, 80, 65537), memcmp(&w, &before, sizeof w) == 0);
 }
 
+/* A walker just begun, with -0.0 in one of the words 0 to 5, its ray's origin and direction, and with this inverse of a direction
+ * that is zero there (words 6 to 8): forged, and what it is told becomes its reach (word 10) all the same. */
+static void forged(const uint8_t *good, int at, const char *named, uint64_t inverse) {
+    char call[64];
+    funnelcress_walker w, before;
+    failures += funnelcress_begin(along, 8, w.head, w.stack) != 0;
+    w.head[at] = 0x80000000;
+    if (at >= 3) {
+        w.head[at + 3] = inverse;
+    }
+    before = w;
+    uint64_t number = funnelcress_step(w.head, w.stack, good, 80, 2);
+    int stayed = memcmp(&w, &before, sizeof w) == 0;
+    funnelcress_tell(w.head, w.stack, 2.0f);
+    before.head[10] = 0x40000000;
+    snprintf(call, sizeof call, "step, -0.0 in %s %c%s", at < 3 ? "origin" : "direction", "xyz"[at % 3], named);
+    expect(call, 10, number, stayed && memcmp(&w, &before, sizeof w) == 0);
+}
+
+/* -0.0 in origin and direction: read as +0.0 where a ray is asked, forged where a walker's words hold it. */
+static void zeros(const uint8_t *good) {
+    const float ray[8] = {-1, -0.0f, 0.5f, 1, -0.0f, -0.0f, 0, INFINITY};
+    uint32_t met[2];
+    uint64_t number = funnelcress_any_hit(good, 80, 2, ray, 8, met, 2);
+    expect("any-hit, -0.0 in origin and direction", 0, number, funnelcress_value(number) == 2 && met[0] == 1 && met[1] == 0);
+    for (int at = 0; at < 6; at++) {
+        forged(good, at, "", 0x4b000000);
+    }
+    for (int at = 3; at < 6; at++) {
+        forged(good, at, ", inverse -2^23", 0xcb000000);
+    }
+}
+
 int main(void) {
     uint8_t good[80];
     uint32_t good_list[2];
@@ -125,6 +158,7 @@ int main(void) {
     fresh();
     queries(good, good_list);
     walkers(good);
+    zeros(good);
     printf("%d wrong\n", failures);
     return failures != 0;
 }

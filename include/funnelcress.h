@@ -21,6 +21,7 @@
  *    10  a damaged record, an index that names no pane, or a forged walker
  *    11  any-hit meets more positions than its list has room for
  *   Causes are looked at in rising number; those of a walk come where the walk meets them.
+ * - Zeros of a ray's origin and direction have no sign: -0.0 there is read as +0.0. tmin and tmax are read as they are.
  * - Unless said otherwise a refused call leaves all slices as they were, and no call writes past what it says.
  *
  * docs/API.md names the definition that each function is proved to meet. */
@@ -121,7 +122,7 @@ uint64_t funnelcress_begin(const float *ray, size_t ray_len, uint64_t head[FUNNE
 
 /* One step on a record of n positions: kind 0 (a node was tested, with its number), kind 1 (a position, with its number),
  * kind 3 (done, now and later), or kind 2 with the words as they were. Any words hold some walker; one that no walk leads
- * to is forged, refused 10. Refusals: 1, 2, 10. */
+ * to is forged, refused 10, as is one with -0.0 in its ray's origin or direction. Refusals: 1, 2, 10. */
 uint64_t funnelcress_step(uint64_t head[FUNNELCRESS_WALKER_HEAD], uint64_t stack[FUNNELCRESS_WALKER_STACK],
                           const uint8_t *record, size_t record_len, size_t n);
 
@@ -132,8 +133,8 @@ void funnelcress_tell(uint64_t head[FUNNELCRESS_WALKER_HEAD], uint64_t stack[FUN
 /* The half area of each box of six floats, at the front of out. Returns 0 or the cause. Refusals: 1, 4. */
 uint32_t funnelcress_half_areas(const float *boxes, size_t boxes_len, float *out, size_t out_len);
 
-/* The distance at which a ray enters each box, negative from inside, infinity for a miss, at the front of out. Returns 0
- * or the cause. Refusals: 1, 4. */
+/* The distance at which a ray enters each box, negative from inside, infinity for a miss, at the front of out. The ray's
+ * zeros are read as by every function, its tmin and tmax not at all. Returns 0 or the cause. Refusals: 1, 4. */
 uint32_t funnelcress_entry_distances(const float *boxes, size_t boxes_len, const float *ray, size_t ray_len, float *out,
                                      size_t out_len);
 
