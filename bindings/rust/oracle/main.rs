@@ -60,26 +60,28 @@ mod walker;
 #[path = "../../../oracle/driver/zeros.rs"]
 mod zeros;
 
-use calls::{agreed_steps, told};
+use calls::{agreed_walk, told};
 use checks::damage;
 use conversions::some_tree;
 use convert::{Converted, convert};
-use funnelcress::{ObvhsNode, Pane, Record, Refusal, State, TreeError, Verdict, Walker as Walk};
+use funnelcress::{ObvhsNode, Pane, Record, Refusal, State, TreeError, Verdict, Walker as Walk, entry_distances};
 use obvhs::ray::Ray;
+use odd::negative_zeros;
 use queries::{aimed, odd_ray, scene};
 use record::check;
 use rng::Rng;
 use scene::{Answers, Asked, Scene};
-use tree::Tree;
+use tree::{Tree, unsigned_zero};
 use walk::Answer;
 use walker::{Held, Step};
+use zeros::{Share, entered};
 
 #[derive(Default)]
 struct Counts {
     trees: usize,
     deep: usize,
     damaged: usize,
-    rays: usize,
+    rays: Share,
     refused: usize,
     steps: usize,
 }
@@ -101,9 +103,13 @@ fn answer<T>(asked: Result<T, Refusal>, found: impl Fn(&T) -> (u32, Vec<u32>)) -
     }
 }
 
+fn panes(s: &Scene) -> Vec<Pane> {
+    s.panes.chunks(6).map(|p| [0, 1, 2, 3, 4, 5].map(|k| f32::from_bits(p[k]))).collect()
+}
+
 fn asked(s: &Scene, r: &Ray) -> Answers {
     let record = Record::from_parts(s.record.clone(), s.list.clone());
-    let panes: Vec<Pane> = s.panes.chunks(6).map(|p| [0, 1, 2, 3, 4, 5].map(|k| f32::from_bits(p[k]))).collect();
+    let panes = panes(s);
     let ray = ours(r);
     let mut list = vec![0; s.list.len()];
     let any = record.any_hit_into(&ray, &mut list);
@@ -114,6 +120,13 @@ fn asked(s: &Scene, r: &Ray) -> Answers {
         }),
         miss: answer(record.miss(&panes, &ray), |m| (m.tests, vec![m.missed as u32])),
     }
+}
+
+/// The published distances at which the ray enters the panes.
+fn same_distances(s: &Scene, r: &Ray) {
+    let got = entry_distances(&panes(s), &ours(r)).expect("whole boxes and a ray");
+    let expected = query::panes_of(&s.panes).into_iter().map(|b| unsigned_zero(b.intersect_ray(&entered(r))));
+    assert!(got.into_iter().map(f32::to_bits).eq(expected.map(f32::to_bits)));
 }
 
 /// The words that hold a walker of the oracle's.
@@ -190,16 +203,25 @@ fn same_verdict(record: &[u8], n: usize) {
     assert_eq!(got, expected);
 }
 
+/// A walker with −0.0 in origin or direction, and the inverse of that direction or of the one with +0.0.
+fn unread(rng: &mut Rng, r: &Ray) -> Held {
+    let ray = rng.pick(&negative_zeros(r));
+    let read = Held::fresh(&ray);
+    let inv_direction = rng.pick(&[ray.inv_direction, read.ray.inv_direction]);
+    Held { ray: Ray { inv_direction, ..ray }, ..read }
+}
+
 /// A walker with one thing forged.
 fn forged(rng: &mut Rng, r: &Ray, m: usize) -> Held {
     let mut h = Held::fresh(r);
-    match rng.below(7) {
+    match rng.below(10) {
         0 => h.octant = (h.octant + 1 + rng.below(7) as u32) % 8,
         1 => h.ray.inv_direction.y = rng.between(-9.0, 9.0),
         2 => h.depth = 33 + rng.below(9) as u32,
         3 => h.tests = m as u32 + 1 + rng.below(9) as u32,
         4 => h.ray.tmax = f32::NAN,
         5 => h.ray.tmin = f32::NAN,
+        6..9 => h = unread(rng, r),
         _ => h.current.bits = rng.bits(),
     }
     h
@@ -209,11 +231,14 @@ fn forged(rng: &mut Rng, r: &Ray, m: usize) -> Held {
 fn one_ray(rng: &mut Rng, t: &Tree, s: &Scene, hurt: &Scene, n: usize, counts: &mut Counts) {
     let r = aimed(rng, t, &s.record);
     let told = told(rng, &r);
-    assert!(asked(s, &r) == s.agreed(&r));
-    let held = Held::fresh(&r);
+    let answers = asked(s, &r);
+    assert!(answers == s.agreed(&r));
+    same_distances(s, &r);
     let sound = Record::from_parts(s.record.clone(), s.list.clone());
-    let walked = steps(sound.walk(&ours(&r)).unwrap(), &told);
-    assert_eq!(walked, agreed_steps(&s.record, n, &held, &told));
+    let begun = sound.walk(&ours(&r)).unwrap();
+    assert_eq!(begun.state(), &state(&Held::fresh(&r)));
+    let walked = steps(begun, &told);
+    assert_eq!(walked, agreed_walk(&s.record, n, &r, &told));
     counts.steps += walked.len();
     let odd = if rng.once_in(4) { odd_ray(rng, &r) } else { r };
     let q = Asked { ray: odd, n: hurt.list.len(), room: hurt.list.len() };
@@ -223,7 +248,7 @@ fn one_ray(rng: &mut Rng, t: &Tree, s: &Scene, hurt: &Scene, n: usize, counts: &
     let hurt_record = Record::from_parts(hurt.record.clone(), hurt.list.clone());
     let h = forged(rng, &r, hurt.record.len() / 80);
     assert_eq!(steps(Walk::resume(&hurt_record, state(&h)), &told), walk::steps(&hurt.record, hurt.list.len(), &h, &told).0);
-    counts.rays += 1;
+    counts.rays.note(&r, !answers.any.found.is_empty());
 }
 
 fn one_tree(rng: &mut Rng, k: usize, counts: &mut Counts) {
@@ -258,6 +283,7 @@ fn main() {
         one_tree(&mut rng, k, &mut counts);
     }
     let Counts { trees, deep, damaged, rays, refused, steps } = counts;
-    println!("{trees} trees ({deep} refused 8), {damaged} damaged records, {rays} rays: records, lists, verdicts, answers and");
-    println!("{steps} steps are the published Rust's, or the rules' where it has none ({refused} refusals of queries)");
+    println!("{trees} trees ({deep} refused 8), {damaged} damaged records, {rays} pass something: records, lists, verdicts,");
+    println!("answers, distances and {steps} steps are the published Rust's, or the rules' where it has none ({refused} refusals of queries)");
+    assert!(rays.one_in(10));
 }
