@@ -19,7 +19,7 @@ use Rattle.closest.specs.Panes.{closestOf, missOf}
 abbrev pub HasMinusZero : Vec3 → Type 0
 HasMinusZero v = (isMinusZero (v .x) ≡ true) ⊎ (isMinusZero (v .y) ≡ true) ⊎ (isMinusZero (v .z) ≡ true)
 
--- Whatever is asked of two rays has one answer: the walker that begins, the distance of a box, any-hit with the list that it leaves, closest and miss.
+-- whatever is asked of two rays has one answer: the walker that begins, a box's distance, any-hit with the list that it leaves, closest and miss
 pub record AnsweredAlike (r s : Ray) : Type 0 where
   pub begins : started r ≡ started s
   pub distance : (b : Aabb) → entryDistance b r ≡ entryDistance b s

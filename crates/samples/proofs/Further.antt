@@ -64,12 +64,10 @@ closest :
     × (closestOf bytesT indicesT (replicate 9 (number 0)) ahead ≡ closestIs (refusedClosest 1) 0)
     × (closestOf bytesT indicesT panesT (rayAlong (number 0) nan) ≡ closestIs (refusedClosest 9) 0)
 unfolding closestOf closestWalk closestFound walked entered entryConditions recordConditions firstCause paneOf paneMet counts boxIn vecIn queryAt
-    queryWords
-    stepWords advanceWords reportWords
-    visitWords popWords rayOf unsignedVec plainVec isMinusZero octantOf hitMask slotHit hitBits orOf passes nearOf farOf maxOf minOf planeAt adjustedInverse adjustedOrigin nearLimit
-    scaleOf nodeFrom leAt sumOf slotFrom slotOffset nodeRule headOk childrenOk slotsOk slotOk leafTop pointOk exponentOk inBounds onesBelow field
-    childIndex topOf pushed leadingZeros safeInverse boundedVec acceptedRay acceptedBox inOrder entryDistance boxNear boxFar slabNear slabFar
-    unsignedZero round ofBits ofInt add sub mul div lt le eq isNan
+    queryWords stepWords advanceWords reportWords visitWords popWords rayOf unsignedVec plainVec isMinusZero octantOf hitMask slotHit hitBits orOf
+    passes nearOf farOf maxOf minOf planeAt adjustedInverse adjustedOrigin nearLimit scaleOf nodeFrom leAt sumOf slotFrom slotOffset nodeRule headOk
+    childrenOk slotsOk slotOk leafTop pointOk exponentOk inBounds onesBelow field childIndex topOf pushed leadingZeros safeInverse boundedVec
+    acceptedRay acceptedBox inOrder entryDistance boxNear boxFar slabNear slabFar unsignedZero round ofBits ofInt add sub mul div lt le eq isNan
 closest = (refl, refl, refl, refl, refl, refl, refl)
 
 miss :
@@ -78,12 +76,10 @@ miss :
     × (missOf [] [] [] ahead ≡ missIs missed 0)
     × (missOf bytesT (0 ∷ 2 ∷ []) panesT ahead ≡ missIs (refusedMiss 10) 0)
 unfolding missOf missWalk missFound walked entered entryConditions recordConditions firstCause paneOf paneMet counts boxIn vecIn queryAt queryWords
-    stepWords
-    advanceWords reportWords
-    visitWords popWords rayOf unsignedVec plainVec isMinusZero octantOf hitMask slotHit hitBits orOf passes nearOf farOf maxOf minOf planeAt adjustedInverse adjustedOrigin nearLimit
-    scaleOf nodeFrom leAt sumOf slotFrom slotOffset nodeRule headOk childrenOk slotsOk slotOk leafTop pointOk exponentOk inBounds onesBelow field
-    childIndex topOf pushed leadingZeros safeInverse boundedVec acceptedRay acceptedBox inOrder entryDistance boxNear boxFar slabNear slabFar
-    unsignedZero round ofBits ofInt add sub mul div lt le eq isNan
+    stepWords advanceWords reportWords visitWords popWords rayOf unsignedVec plainVec isMinusZero octantOf hitMask slotHit hitBits orOf passes nearOf
+    farOf maxOf minOf planeAt adjustedInverse adjustedOrigin nearLimit scaleOf nodeFrom leAt sumOf slotFrom slotOffset nodeRule headOk childrenOk
+    slotsOk slotOk leafTop pointOk exponentOk inBounds onesBelow field childIndex topOf pushed leadingZeros safeInverse boundedVec acceptedRay
+    acceptedBox inOrder entryDistance boxNear boxFar slabNear slabFar unsignedZero round ofBits ofInt add sub mul div lt le eq isNan
 miss = (refl, refl, refl, refl)
 
 printed : (showText (inputT 0) ≡ textT) × (showText (inputT 1) ≡ orderedTextT)

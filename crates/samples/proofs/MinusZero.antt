@@ -32,10 +32,10 @@ use Rattle.samples.specs.MinusZero.{MinusZeros}
 pub minus-zeros : MinusZeros
 unfolding anyHitOf listAfter listFor splice entryConditions recordConditions firstCause entered walkOf walked fitted anyHitAt queryAt queryWords
     stepBytes stepAt stepWords advanceWords reportWords visitWords popWords started rayOf unsignedVec plainVec unsignedZero isMinusZero octantOf
-    hitMask slotHit hitBits orOf passes nearOf farOf maxOf minOf planeAt adjustedInverse adjustedOrigin nearLimit scaleOf nodeFrom leAt sumOf
-    slotFrom slotOffset nodeRule headOk childrenOk slotsOk slotOk leafTop pointOk exponentOk inBounds onesBelow field childIndex topOf pushed
-    leadingZeros safeInverse boundedVec acceptedRay closestOf closestWalk closestFound missOf missWalk missFound paneOf paneMet counts boxIn vecIn
-    acceptedBox inOrder entryDistance boxNear boxFar slabNear slabFar round neg ofBits ofInt add sub mul div lt le eq isNan
+    hitMask slotHit hitBits orOf passes nearOf farOf maxOf minOf planeAt adjustedInverse adjustedOrigin nearLimit scaleOf nodeFrom leAt sumOf slotFrom
+    slotOffset nodeRule headOk childrenOk slotsOk slotOk leafTop pointOk exponentOk inBounds onesBelow field childIndex topOf pushed leadingZeros
+    safeInverse boundedVec acceptedRay closestOf closestWalk closestFound missOf missWalk missFound paneOf paneMet counts boxIn vecIn acceptedBox
+    inOrder entryDistance boxNear boxFar slabNear slabFar round neg ofBits ofInt add sub mul div lt le eq isNan
 minus-zeros = record {
   turned-z-any-hit = refl;
   turned-z-listed = refl;

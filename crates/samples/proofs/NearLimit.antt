@@ -43,10 +43,10 @@ any-hits :
     × (anyHitOf bytesT 2 (aheadFrom (inf false)) 2 ≡ record { answer = listed 0; tests = 1 })
     × (anyHitOf bytesT 2 (aheadFrom nan) 2 ≡ record { answer = refused 9; tests = 0 })
 unfolding anyHitOf listAfter listFor splice entryConditions recordConditions firstCause entered walkOf walked fitted anyHitAt queryAt queryWords
-    stepWords advanceWords reportWords visitWords popWords rayOf unsignedVec plainVec unsignedZero isMinusZero octantOf hitMask slotHit hitBits orOf passes nearOf farOf maxOf minOf planeAt
-    adjustedInverse adjustedOrigin leastLimit nearLimit scaleOf nodeFrom leAt sumOf slotFrom slotOffset nodeRule headOk childrenOk slotsOk slotOk
-    leafTop pointOk exponentOk inBounds onesBelow field childIndex topOf pushed leadingZeros safeInverse boundedVec acceptedRay round ofBits ofInt
-    add sub mul div lt le eq isNan
+    stepWords advanceWords reportWords visitWords popWords rayOf unsignedVec plainVec unsignedZero isMinusZero octantOf hitMask slotHit hitBits orOf
+    passes nearOf farOf maxOf minOf planeAt adjustedInverse adjustedOrigin leastLimit nearLimit scaleOf nodeFrom leAt sumOf slotFrom slotOffset
+    nodeRule headOk childrenOk slotsOk slotOk leafTop pointOk exponentOk inBounds onesBelow field childIndex topOf pushed leadingZeros safeInverse
+    boundedVec acceptedRay round ofBits ofInt add sub mul div lt le eq isNan
 any-hits = (refl, refl, refl, refl, refl, refl, refl)
 
 closest :
@@ -58,10 +58,11 @@ closest :
     × (closestOf bytesT indicesT panesT (withinA (number 0)) ≡ closestIs (hitAt 1 (halves 3)) 1)
     × (closestOf bytesT indicesT panesT (withinA minusOne) ≡ closestIs (hitAt 0 minusHalf) 1)
 unfolding closestOf closestWalk closestFound walked entered entryConditions recordConditions firstCause paneOf paneMet counts boxIn vecIn queryAt
-    queryWords stepWords advanceWords reportWords visitWords popWords rayOf unsignedVec plainVec isMinusZero octantOf hitMask slotHit hitBits orOf passes nearOf farOf maxOf minOf
-    planeAt adjustedInverse adjustedOrigin leastLimit nearLimit scaleOf nodeFrom leAt sumOf slotFrom slotOffset nodeRule headOk childrenOk slotsOk
-    slotOk leafTop pointOk exponentOk inBounds onesBelow field childIndex topOf pushed leadingZeros safeInverse boundedVec acceptedRay acceptedBox
-    inOrder entryDistance boxNear boxFar slabNear slabFar unsignedZero round ofBits ofInt add sub mul div lt le eq isNan
+    queryWords stepWords advanceWords reportWords visitWords popWords rayOf unsignedVec plainVec isMinusZero octantOf hitMask slotHit hitBits orOf
+    passes nearOf farOf maxOf minOf planeAt adjustedInverse adjustedOrigin leastLimit nearLimit scaleOf nodeFrom leAt sumOf slotFrom slotOffset
+    nodeRule headOk childrenOk slotsOk slotOk leafTop pointOk exponentOk inBounds onesBelow field childIndex topOf pushed leadingZeros safeInverse
+    boundedVec acceptedRay acceptedBox inOrder entryDistance boxNear boxFar slabNear slabFar unsignedZero round ofBits ofInt add sub mul div lt le eq
+    isNan
 closest = (refl, refl, refl, refl, refl, refl, refl)
 
 miss :
@@ -69,10 +70,10 @@ miss :
     × (missOf bytesT indicesT panesT (aheadFrom (halves 7)) ≡ missIs missed 1)
     × (missOf bytesT indicesT panesT (aheadFrom nan) ≡ missIs (refusedMiss 9) 0)
 unfolding missOf missWalk missFound walked entered entryConditions recordConditions firstCause paneOf paneMet counts boxIn vecIn queryAt queryWords
-    stepWords advanceWords reportWords visitWords popWords rayOf unsignedVec plainVec isMinusZero octantOf hitMask slotHit hitBits orOf passes nearOf farOf maxOf minOf planeAt
-    adjustedInverse adjustedOrigin leastLimit nearLimit scaleOf nodeFrom leAt sumOf slotFrom slotOffset nodeRule headOk childrenOk slotsOk slotOk
-    leafTop pointOk exponentOk inBounds onesBelow field childIndex topOf pushed leadingZeros safeInverse boundedVec acceptedRay acceptedBox inOrder
-    entryDistance boxNear boxFar slabNear slabFar unsignedZero round ofBits ofInt add sub mul div lt le eq isNan
+    stepWords advanceWords reportWords visitWords popWords rayOf unsignedVec plainVec isMinusZero octantOf hitMask slotHit hitBits orOf passes nearOf
+    farOf maxOf minOf planeAt adjustedInverse adjustedOrigin leastLimit nearLimit scaleOf nodeFrom leAt sumOf slotFrom slotOffset nodeRule headOk
+    childrenOk slotsOk slotOk leafTop pointOk exponentOk inBounds onesBelow field childIndex topOf pushed leadingZeros safeInverse boundedVec
+    acceptedRay acceptedBox inOrder entryDistance boxNear boxFar slabNear slabFar unsignedZero round ofBits ofInt add sub mul div lt le eq isNan
 miss = (refl, refl, refl)
 
 told :

@@ -133,11 +133,10 @@ any-hits :
     × (listAfter bytesT 2 beside (7 ∷ 7 ∷ 7 ∷ []) ≡ 1 ∷ 0 ∷ 7 ∷ [])
     × (anyHitOf [] 0 ahead 0 ≡ record { answer = listed 0; tests = 0 })
 unfolding anyHitOf listAfter listFor splice entryConditions recordConditions firstCause entered walkOf walked fitted anyHitAt queryAt queryWords
-    stepWords
-    advanceWords reportWords
-    visitWords popWords rayOf unsignedVec plainVec unsignedZero isMinusZero octantOf hitMask slotHit hitBits orOf passes nearOf farOf maxOf minOf planeAt adjustedInverse adjustedOrigin nearLimit
-    scaleOf nodeFrom leAt sumOf slotFrom slotOffset nodeRule headOk childrenOk slotsOk slotOk leafTop pointOk exponentOk inBounds onesBelow field
-    childIndex topOf pushed leadingZeros safeInverse boundedVec acceptedRay round ofBits ofInt add sub mul div lt le eq isNan
+    stepWords advanceWords reportWords visitWords popWords rayOf unsignedVec plainVec unsignedZero isMinusZero octantOf hitMask slotHit hitBits orOf
+    passes nearOf farOf maxOf minOf planeAt adjustedInverse adjustedOrigin nearLimit scaleOf nodeFrom leAt sumOf slotFrom slotOffset nodeRule headOk
+    childrenOk slotsOk slotOk leafTop pointOk exponentOk inBounds onesBelow field childIndex topOf pushed leadingZeros safeInverse boundedVec
+    acceptedRay round ofBits ofInt add sub mul div lt le eq isNan
 any-hits = (refl, refl, refl, refl, refl)
 
 closest :
@@ -145,11 +144,11 @@ closest :
     × (closestOf bytesT indicesT panesT beside ≡ record { answer = hitAt 0 (number 1); tests = 1 })
     × (closestOf [] [] [] ahead ≡ record { answer = noHit; tests = 0 })
 unfolding closestOf closestWalk closestFound walked entered entryConditions recordConditions firstCause paneOf paneMet counts boxIn vecIn queryAt
-    queryWords stepWords advanceWords
-    reportWords visitWords popWords rayOf unsignedVec plainVec isMinusZero octantOf hitMask slotHit hitBits orOf passes nearOf farOf maxOf minOf planeAt adjustedInverse
-    adjustedOrigin nearLimit scaleOf nodeFrom leAt sumOf slotFrom slotOffset nodeRule headOk childrenOk slotsOk slotOk leafTop pointOk exponentOk
-    inBounds onesBelow field childIndex topOf pushed leadingZeros safeInverse boundedVec acceptedRay acceptedBox aabb.inOrder aabb.entryDistance
-    aabb.boxNear aabb.boxFar aabb.slabNear aabb.slabFar unsignedZero round ofBits ofInt add sub mul div lt le eq isNan
+    queryWords stepWords advanceWords reportWords visitWords popWords rayOf unsignedVec plainVec isMinusZero octantOf hitMask slotHit hitBits orOf
+    passes nearOf farOf maxOf minOf planeAt adjustedInverse adjustedOrigin nearLimit scaleOf nodeFrom leAt sumOf slotFrom slotOffset nodeRule headOk
+    childrenOk slotsOk slotOk leafTop pointOk exponentOk inBounds onesBelow field childIndex topOf pushed leadingZeros safeInverse boundedVec
+    acceptedRay acceptedBox aabb.inOrder aabb.entryDistance aabb.boxNear aabb.boxFar aabb.slabNear aabb.slabFar unsignedZero round ofBits ofInt add
+    sub mul div lt le eq isNan
 closest = (refl, refl, refl)
 
 costs : ((rootWord 3 ≡ 0x0000_0006) × (rootCost 3 ≡ 0x4086_6667)) × ((rootWord 1 ≡ 0x4000_0006) × (rootCost 1 ≡ 0x410c_cccd))

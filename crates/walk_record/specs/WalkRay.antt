@@ -1,4 +1,5 @@
--- The ray that a walker holds, with its octant beside it, what telling does to it, and when it is forged (01, "Walking"; "Causes of refusal"; 02, [2]).
+-- The ray that a walker holds, with its octant beside it, what telling does to it, and when it is forged (01, "Walking"; "Causes of refusal";
+-- 02, [2]).
 use mathlib.Core.Bool.{Bool, true, false, not, _&&_, cond}
 use Prim.Native.Nat.{ℕ}
 use lib.Dec.{eqb}
