@@ -4,10 +4,10 @@ use mathlib.Core.Bool.{Bool, true, false, cond}
 use mathlib.Core.List.{List, [], _∷_}
 use mathlib.Core.Logic.{_⊎_, inl, inr}
 use mathlib.Core.Path.{_≡_, refl, sym, ap, _∙_}
-use Prim.Native.Nat.{ℕ, _%_}
+use Prim.Native.Nat.{ℕ, _+_, _*_, _%_}
 use lib.Dec.{eqb}
-use lib.ListN.{length}
-use lib.Ieee.{Float, eq}
+use lib.ListN.{length, getD}
+use lib.Ieee.{Float, nan, eq}
 use Rattle.lists.proofs.Tells.{clash}
 use Rattle.causes.proofs.Sizes.{Fit}
 use Rattle.float.specs.Compare.{isMinusZero}
@@ -15,6 +15,7 @@ use Rattle.ray.specs.declared.Vec3.{Vec3}
 use Rattle.ray.specs.declared.Ray.{Ray}
 use Rattle.ray.specs.Ray.{unsignedVec, plainVec, rayOf, reaching, counts, acceptedRay}
 use Rattle.ray.proofs.Entered.{plain, signs-alike, unsigned-vec-again, entered-plain}
+use Rattle.packed.specs.Packed.{vecIn, rayIn}
 use Rattle.record_shape.specs.Record.{nodeCount}
 use Rattle.walk.specs.Step as S
 use Rattle.walk.specs.Calls.{Op}
@@ -52,6 +53,13 @@ signs-change-nothing o o' d d' near far e f = alike _ _ (signs-alike o o' d d' n
 pub as-its-neighbour : (o d : Vec3) (near far : Float) → AnsweredAlike (rayOf o d near far) (rayOf (unsignedVec o) (unsignedVec d) near far)
 as-its-neighbour o d near far =
     signs-change-nothing o (unsignedVec o) d (unsignedVec d) near far (sym (unsigned-vec-again o)) (sym (unsigned-vec-again d))
+
+-- likewise rays packed one behind the other
+pub packed-signs-change-nothing : (s t : List Float) (k : ℕ)
+    → unsignedVec (vecIn s (k * 8)) ≡ unsignedVec (vecIn t (k * 8)) → unsignedVec (vecIn s (k * 8 + 3)) ≡ unsignedVec (vecIn t (k * 8 + 3))
+    → getD s (k * 8 + 6) nan ≡ getD t (k * 8 + 6) nan → getD s (k * 8 + 7) nan ≡ getD t (k * 8 + 7) nan → AnsweredAlike (rayIn s k) (rayIn t k)
+unfolding rayIn
+packed-signs-change-nothing s t k o d near far = rw (near, far) (signs-change-nothing _ _ _ _ _ _ o d)
 
 -- ---- runs
 

@@ -94,11 +94,11 @@ accepted r t =
     }
 
 -- another reach that is no NaN leaves it accepted
-pub reaching-accepted : (r : Ray) (t : Float) → acceptedRay r ≡ true → isNan t ≡ false → acceptedRay (reaching t r) ≡ true
+pub reaching-accepted : (r : Ray) (t : Float) → acceptedRay r ≡ true → T (not (isNan t)) → acceptedRay (reaching t r) ≡ true
 unfolding acceptedRay
 reaching-accepted r t h n =
     let start = boundedVec (r .origin) && boundedVec (r .direction) && not (isNan (r .tmin)) in
-    rw (is-true start (and-l start (not (isNan (r .tmax))) (subst T (sym h) tt)), n)
+    rw (is-true start (and-l start (not (isNan (r .tmax))) (subst T (sym h) tt)), is-true (not (isNan t)) n)
 
 -- with a NaN as its start a ray is not accepted
 pub nan-start-refused : (r : Ray) → r .tmin ≡ nan → acceptedRay r ≡ false

@@ -1,12 +1,12 @@
 -- The ray of a walker: when it is not forged, that its octant is one of eight then, and that telling leaves octant and acceptance as they were.
 use mathlib.Core.Bool.{Bool, true, false, not, _&&_, cond}
-use mathlib.Core.Path.{_≡_, refl, sym, subst}
-use Prim.Native.Nat.{ℕ, _*_, _^_, _<_}
+use mathlib.Core.Path.{_≡_, refl, sym, _∙_, subst}
+use Prim.Native.Nat.{ℕ, _^_, _<_}
 use native.Mathlib.Omega.{arith}
 use lib.Dec.{T, eqb}
-use lib.Ieee.{Float, nan, inf, fin, up, down, lt, eq, isNan}
+use lib.Ieee.{Float, eq, isNan}
+use lib.Ieee.Bits.{is-true}
 use borrow.Author.Tests.{eqb-true, eq-eqb}
-use Rattle.lists.proofs.Tells.{clash}
 use Rattle.ray.specs.declared.Vec3.{Vec3}
 use Rattle.ray.specs.Ray.{safeInverse, octantOf, unsignedVec, rayOf, reaching, acceptedRay}
 use Rattle.ray.proofs.Bounds.{accepted, reaching-accepted, inverse-within}
@@ -15,16 +15,10 @@ use Rattle.ray.proofs.Counts.{counts-below}
 use Rattle.ray.proofs.Entered.{entered-plain}
 use Rattle.float.specs.Magnitude.{Within}
 use Rattle.float.proofs.Magnitude.{atmost-no-nan}
+use Rattle.float.proofs.Sign.{no-nan-lt-l, self-equal}
 use Rattle.walk.proofs.Cases.{and-true, not-false-true}
 use Rattle.walk_record.specs.Record.{RayLaws, AllPresent}
 use Rattle.walk_record.specs.WalkRay.{WalkRay, walkRay, plainRay, ownInverse, forgedRay, toldWalkRay, byBoxes}
-
--- what is below something is no NaN
-below-no-nan : (x y : Float) → lt x y ≡ true → isNan x ≡ false
-unfolding lt isNan
-below-no-nan nan y e = clash e
-below-no-nan (inf s) y e = refl
-below-no-nan (fin s m z) y e = refl
 
 -- what a ray must have that is not forged
 pub record Unforged (b : WalkRay) : Type 0 where
@@ -55,7 +49,7 @@ octant-lt : (b : WalkRay) → forgedRay b ≡ false → b .octant < 8
 octant-lt b f = omega (arith, unforged b f .octant, Bounds.octant-lt (b .ray .direction))
 
 -- a ray that is not forged stays so with another reach, if that is no NaN
-reach-accepted : (t : Float) (b : WalkRay) (c : Bool) → (c ≡ true → isNan t ≡ false) → forgedRay b ≡ false
+reach-accepted : (t : Float) (b : WalkRay) (c : Bool) → (c ≡ true → T (not (isNan t))) → forgedRay b ≡ false
     → forgedRay (record { ray = cond c (reaching t (b .ray)) (b .ray); octant = b .octant }) ≡ false
 reach-accepted t b false n f = f
 reach-accepted t b true n f =
@@ -68,7 +62,7 @@ reach-accepted t b true n f =
     })
 
 told-accepted : (t : Float) (b : WalkRay) → forgedRay b ≡ false → forgedRay (toldWalkRay t b) ≡ false
-told-accepted t b = reach-accepted t b _ (λ e. below-no-nan t (b .ray .tmax) (counts-below (b .ray) t e))
+told-accepted t b = reach-accepted t b _ (λ e. no-nan-lt-l t (b .ray .tmax) (counts-below (b .ray) t e))
 
 pub walk-ray-laws : RayLaws byBoxes
 walk-ray-laws = record { octant-lt = octant-lt; octant-told = λ t b. refl; admits-told = λ t b. refl; told-accepted = told-accepted }
@@ -78,16 +72,8 @@ by-boxes-present n b p h = refl
 
 -- ---- a walker just begun
 
-eq-self : (x : Float) → T (not (isNan x)) → eq x x ≡ true
-unfolding eq isNan
-eq-self nan h = absurd h
-eq-self (inf true) h = refl
-eq-self (inf false) h = refl
-eq-self (fin true m e) h = rw (eq-eqb (m * up e * down e) (m * up e * down e) refl)
-eq-self (fin false m e) h = rw (eq-eqb (m * up e * down e) (m * up e * down e) refl)
-
 inverse-self : (v : Float) → Within 40 v → eq (safeInverse v) (safeInverse v) ≡ true
-inverse-self v h = eq-self (safeInverse v) (atmost-no-nan (safeInverse v) (2 ^ 23) 1 (inverse-within v h))
+inverse-self v h = let i = safeInverse v in self-equal i ∙ is-true (not (isNan i)) (atmost-no-nan i (2 ^ 23) 1 (inverse-within v h))
 
 -- its ray is not forged, if no cause of refusal holds of it
 pub begun-accepted : (o d : Vec3) (near far : Float) → acceptedRay (rayOf o d near far) ≡ true → forgedRay (walkRay (rayOf o d near far)) ≡ false
