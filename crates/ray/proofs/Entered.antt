@@ -10,7 +10,7 @@ use Rattle.float.specs.Compare.{isMinusZero}
 use Rattle.float.proofs.Unsigned.{unsigned-plain, unsigned-again, unsigned-other, unsigned-bounds}
 use Rattle.ray.specs.declared.Vec3.{Vec3}
 use Rattle.ray.specs.declared.Ray.{Ray}
-use Rattle.ray.specs.Ray.{unsignedVec, plainVec, rayOf, boundedVec, acceptedRay}
+use Rattle.ray.specs.Ray.{unsignedVec, plainVec, inverseOf, rayOf, boundedVec, acceptedRay}
 
 -- ---- vectors
 
@@ -78,6 +78,12 @@ module _ (o d : Vec3) (near far : Float) where
   pub zeros-read : rayOf o d near far ≡ rayOf (unsignedVec o) (unsignedVec d) near far
   zeros-read =
       signs-alike o (unsignedVec o) d (unsignedVec d) near far (sym (unsigned-vec-again o)) (sym (unsigned-vec-again d))
+
+  -- one without a -0 enters as it was given
+  pub plain-as-given : FitsVec o → FitsVec d → plainVec o ≡ true → plainVec d ≡ true
+      → rayOf o d near far ≡ record { origin = o; direction = d; inverse = inverseOf d; tmin = near; tmax = far }
+  unfolding rayOf
+  plain-as-given f g p q = rw (unsigned-vec-plain-same o f p, unsigned-vec-plain-same d g q)
 
   -- one that has entered, entering again, stays as it is
   pub entered-again : (r : Ray) → r ≡ rayOf o d near far → rayOf (r .origin) (r .direction) (r .tmin) (r .tmax) ≡ rayOf o d near far
