@@ -47,7 +47,7 @@ returns c =
     let l = c .before .before .before .before in
     let t = l .before .before .args .s .now in
     let e : accepts t (l .loop .k) ≡ false =
-        ap acceptedRay (sym (c .before .before .ray-at .ensures)) ∙ sym (c .before .accepted .ensures) ∙ not-true _ (c .if1 .taken) in
+    ap acceptedRay (sym (c .before .before .ray-at .ensures)) ∙ sym (c .before .accepted .ensures) ∙ not-true _ (c .if1 .taken) in
     sym (one-fails (accepts t) (rayCount t) (l .loop .k) (c .before .before .before .loop-test .taken) e)
 
 add-k : tie.Need-add-k Inv-loop μ-loop
@@ -61,7 +61,7 @@ loop-again c =
     let l = c .before .before .before .before in
     let t = l .before .before .args .s .now in
     let e : accepts t (l .loop .k) ≡ true =
-        ap acceptedRay (sym (c .before .before .ray-at .ensures)) ∙ sym (c .before .accepted .ensures) ∙ not-false _ (c .if1 .left) in
+    ap acceptedRay (sym (c .before .before .ray-at .ensures)) ∙ sym (c .before .accepted .ensures) ∙ not-false _ (c .if1 .left) in
     (omega (arith, c .before .before .before .loop-test .taken), accepted-next t (l .loop .k) (l .loop .inv .1) e)
 
 returns-2 : tie.Need-returns-2 Inv-loop μ-loop
