@@ -1,45 +1,46 @@
+use native.Mathlib.Omega.{arith}
+use borrow.Author.Needs.{needs}
+use mathlib.Core.Path.{_≡_, refl}
+use Prim.Native.Nat.{_≤_, _-_}
+use lib.ListN.{length, take, replicate, length-set}
+use Rattle.words.proofs.Cleared.{clear-more, clear-all}
 use Rattle.loss.proofs.clear.Statement.{statement}
 use Rattle.loss.proofs.clear.Tie as tie
-use Rattle.loss.proofs.clear.Reads as reads
-use Rattle.loss.proofs.clear.Lts as lts
 
 abbrev Inv-loop : tie.InvT-loop
-Inv-loop totals₀ k₀ totals k = ?
+Inv-loop totals₀ k₀ totals k = (k ≤ length totals) × (length totals ≡ length totals₀) × (take k totals ≡ replicate k 0)
 
 abbrev μ-loop : tie.MeasureT-loop
-μ-loop totals₀ k₀ totals k = ?
+μ-loop totals₀ k₀ totals k = length totals - k
 
--- src/lib.rt:258:5
 loop-holds : tie.Need-loop-holds Inv-loop μ-loop
-loop-holds c = ?
+loop-holds c = (omega arith, refl, refl)
 
--- src/lib.rt:259:9
 mul-totals : tie.Need-mul-totals Inv-loop μ-loop
-mul-totals c = ?
+mul-totals c = search needs
 
--- src/lib.rt:259:9
 slice-write-totals : tie.Need-slice-write-totals Inv-loop μ-loop
-slice-write-totals c = ?
+slice-write-totals c = search needs
 
--- src/lib.rt:260:9
 add-k : tie.Need-add-k Inv-loop μ-loop
-add-k c = ?
+add-k c = search needs
 
--- src/lib.rt:258:5
 loop-less : tie.Need-loop-less Inv-loop μ-loop
-loop-less c = ?
+loop-less c = simp length-set (omega arith)
 
--- src/lib.rt:258:5
 loop-again : tie.Need-loop-again Inv-loop μ-loop
-loop-again c = ?
+loop-again c = (
+  simp length-set (omega arith),
+  simp length-set (c .before .loop .inv .1),
+  clear-more _ _ (c .loop-test .taken)
+      (c .before .loop .inv .2),
+)
 
--- src/lib.rt:254:1
 same-length : tie.Need-same-length Inv-loop μ-loop
-same-length c = ?
+same-length c = c .before .loop .inv .1
 
--- src/lib.rt:254:1
 returns : tie.Need-returns Inv-loop μ-loop
-returns c = ?
+returns c = clear-all _ _ _ (c .before .loop .inv .0) (c .loop-test .left) (c .before .loop .inv .1) (c .before .loop .inv .2)
 
 pub clear-spec : {M : Type 1} → statement M
 clear-spec =

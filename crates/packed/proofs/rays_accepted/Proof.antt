@@ -1,13 +1,13 @@
 use mathlib.Core.Bool.{Bool, true, false}
 use mathlib.Core.List.{List}
-use mathlib.Core.Path.{_≡_, sym, ap, _∙_, subst}
-use Prim.Native.Nat.{ℕ, _+_, _-_, _≤_, _<_}
-use native.Mathlib.Decide.{decLt}
+use mathlib.Core.Path.{_≡_, refl, sym, ap, _∙_}
+use Prim.Native.Nat.{ℕ, _-_, _≤_}
 use native.Mathlib.Omega.{arith}
 use borrow.Author.Needs.{needs}
 use borrow.Author.Tests.{not-true, not-false}
 use lib.Ieee.{Float}
-use Rattle.lists.proofs.Tells.{all-pass, one-fails}
+use Rattle.lists.specs.Below.{allBelow}
+use Rattle.lists.proofs.Tells.{all-next, all-reached, one-fails}
 use Rattle.ray.specs.Ray.{acceptedRay}
 use Rattle.packed.specs.Packed.{rayIn, rayCount, raysAccepted}
 use Rattle.packed.proofs.rays_accepted.Statement.{statement}
@@ -18,22 +18,14 @@ abbrev accepts : List Float → ℕ → Bool
 accepts s i = acceptedRay (rayIn s i)
 
 abbrev Inv-loop : tie.InvT-loop
-Inv-loop s k₀ k = (k ≤ rayCount s) × ((i : ℕ) → i < k → accepts s i ≡ true)
+Inv-loop s k₀ k = (k ≤ rayCount s) × (allBelow (accepts s) k ≡ true)
 
 abbrev μ-loop : tie.MeasureT-loop
 μ-loop s k₀ k = rayCount s - k
 
--- one more
-accepted-next : (s : List Float) (k : ℕ) → ((i : ℕ) → i < k → accepts s i ≡ true) → accepts s k ≡ true
-    → (i : ℕ) → i < k + 1 → accepts s i ≡ true
-accepted-next s k h e i l = pick (decLt i k)
-  where
-    pick : Dec (i < k) → accepts s i ≡ true
-    pick (yes j) = h i j
-    pick (no j) = subst (λ (x : ℕ). accepts s x ≡ true) (omega arith) e
-
 loop-holds : tie.Need-loop-holds Inv-loop μ-loop
-loop-holds c = (omega arith, λ i h. absurd (omega arith))
+unfolding allBelow
+loop-holds c = (omega arith, refl)
 
 ray-at-requires : tie.Need-ray-at-requires Inv-loop μ-loop
 ray-at-requires c κs = search needs
@@ -62,14 +54,14 @@ loop-again c =
     let t = l .before .before .args .s .now in
     let e : accepts t (l .loop .k) ≡ true =
     ap acceptedRay (sym (c .before .before .ray-at .ensures)) ∙ sym (c .before .accepted .ensures) ∙ not-false _ (c .if1 .left) in
-    (omega (arith, c .before .before .before .loop-test .taken), accepted-next t (l .loop .k) (l .loop .inv .1) e)
+    (omega (arith, c .before .before .before .loop-test .taken), all-next (accepts t) (l .loop .k) (l .loop .inv .1) e)
 
 returns-2 : tie.Need-returns-2 Inv-loop μ-loop
 unfolding raysAccepted
 returns-2 c =
     let l = c .before in
     let t = l .before .before .args .s .now in
-    sym (all-pass (accepts t) (rayCount t) (λ i h. l .loop .inv .1 i (omega (arith, h, c .loop-test .left))))
+    sym (all-reached (accepts t) (l .loop .k) (rayCount t) (l .loop .inv .1) (c .loop-test .left))
 
 pub rays-accepted-spec : {M : Type 1} → statement M
 rays-accepted-spec =
