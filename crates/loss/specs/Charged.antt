@@ -24,9 +24,9 @@ charged losses totals (k ∷ l) = charged losses (set totals k (getD totals k 0 
 unfoldable pub paneAt : List ℕ → (panes p : ℕ) → ℕ
 paneAt indices panes p = cond (ltb p (length indices)) (getD indices p 0) panes
 
--- a walk may add to each total: it meets at most 25 × 65,535 + 1 positions
+-- a walk may add to each total: it meets less than 2,000,000 positions
 abbrev pub Spare : List ℕ → Type 0
-Spare totals = (k : ℕ) → getD totals k 0 + 1638376000000 ≤ 18446744073709551615
+Spare totals = (k : ℕ) → getD totals k 0 + 2000000000000 ≤ 18446744073709551615
 
 -- nothing but the record's sizes keeps a ray from its walk
 pub record Ready (panes : ℕ) (losses : List ℕ) (ray : Ray) (totals : List ℕ) : Type 0 where
