@@ -32,7 +32,7 @@ use Rattle.advance.specs.Turn.{stepAnswer, walkerOf, begun}
 use Rattle.query.specs.Met.{walkMet, panesMet}
 use Rattle.query.specs.Result.{Result, unanswered, walked}
 use Rattle.query.specs.Walk.{RecordSized}
-use Rattle.query.proofs.Begins.{steady, leads-begun}
+use Rattle.query.proofs.Begins.{steady, leads-begun, query-empty}
 use Rattle.query.proofs.Gathers.{noted-few, leads-front}
 use Rattle.query.proofs.Leads.{Steady, Leads, Sought, leads-past, leads-on, seek-sought}
 use Rattle.loss.specs.Loss.{LossAnswer, summed, refused, lossesFit, lossAt, allThere, lossWalked}
@@ -107,6 +107,20 @@ module _ (bytes indices : List ℕ) (panes : ℕ) (losses : List ℕ) (ray : Ray
       ∙ ap (λ (b : Bool). allThere panes (panesMet indices noted) && (b && allThere panes (panesMet indices later)))
       (le-ltb (getD indices p 0) panes h)
       ∙ and-false (allThere panes (panesMet indices noted)))
+
+  -- without nodes nothing is met
+  pub walk-empty : FieldsFit bytes → forgedRay (walkRay ray) ≡ false → nodeCount bytes ≡ 0 → n ≤ 65536 → (totals : List ℕ)
+      → (record { answer = summed 0; tests = 0 } ≡ lossWalked bytes indices panes losses ray)
+      × (totals ≡ charged losses totals (panesMet indices (goal .accumulator)))
+  unfolding anyHitAt allThere sumOver charged
+  walk-empty fit accepted none few totals =
+      let q = query-empty bytes n fit append [] ray accepted none few in
+      let w = goal .walker in
+      let e : ended w [] S.done ≡ goal =
+      ap (λ (l : List ℕ). ended w l S.done) (sym (q .accumulator)) ∙ ap (ended w (goal .accumulator)) (sym (q .ended)) in (
+        ap (λ (t : ℕ). record { answer = summed 0; tests = t }) (sym (q .tests)) ∙ walk-done w [] refl e,
+        ap (λ (l : List ℕ). charged losses totals (panesMet indices l)) (sym (q .accumulator)),
+      )
 
   -- ---- its state
 

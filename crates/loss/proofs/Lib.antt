@@ -1,2 +1,3 @@
 pub mod Charged
 pub mod Adding
+pub mod Causes

@@ -57,8 +57,7 @@ loop-less c = omega (arith, c .before .before .loop-test .taken)
 loop-again : tie.Need-loop-again Inv-loop μ-loop
 loop-again c =
     let l = c .before .before .before in
-    let s = l .before .before .args .losses .now in
-    (
+    let s = l .before .before .args .losses .now in (
       omega (arith, c .before .before .loop-test .taken),
       all-next (fits s) (l .loop .k) (l .loop .inv .1) (le-leb (getD s (l .loop .k) 0) 1000000 (c .if2 .left)),
     )

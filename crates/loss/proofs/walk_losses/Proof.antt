@@ -179,8 +179,7 @@ unfolding lossResult
 returns c =
     let q = c .before in
     let j = head q in
-    let f = first q in
-    (
+    let f = first q in (
       adding-fault (sized (j .before)) (fit (j .before)) (within j) (f .before .before .if1 .taken) (f .first-position .result)
           (f .first-position .ensures) (q .pane-at .result) (q .pane-at .ensures) (c .if2 .taken),
       tt,
