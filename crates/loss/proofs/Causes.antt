@@ -8,14 +8,19 @@ use borrow.Author.Tests.{eq-eqb, ne-eqb, le-leb, lt-leb, leb-true, eqb-true}
 use lib.Dec.{eqb, leb}
 use lib.Ieee.{Float}
 use lib.ListN.{length}
-use Rattle.causes.specs.Causes.{Condition, _unless_, firstCause, placeOf}
+use Rattle.causes.specs.Causes.{Condition, _unless_, firstCause, order, placeIn, placeOf}
 use Rattle.causes.specs.Sizes.{recordConditions, recordCause}
 use Rattle.causes.proofs.Causes.{first-here, first-later, append-first, append-later, Passed, passed-none, passed-parts, none-passed, sorted}
 use Rattle.causes.proofs.Sizes.{Fit, record-passed, record-fit}
 use Rattle.packed.specs.Packed.{rayCount, raysAccepted}
 use Rattle.walk.proofs.Cases.{and-true, and-false}
-use Rattle.loss.specs.Loss.{lossesFit, reportConditions}
+use Rattle.loss.specs.Loss.{lossesFit, lossCause, reportConditions}
 use Rattle.loss.specs.Charged.{Entered}
+
+-- losses of which cause 12 does not hold fit
+pub cause-fits : (panes : ℕ) (losses : List ℕ) → lossCause panes losses ≡ 0 → lossesFit panes losses ≡ true
+unfolding sorted placeOf order placeIn
+cause-fits panes losses e = none-passed 0 (12 unless lossesFit panes losses ∷ []) tt e .0
 
 module _ (bytes indices : List ℕ) (panes : ℕ) (losses : List ℕ) (rays : List Float) (rayRoom paneRoom : ℕ) where
   abbrev cause : ℕ
