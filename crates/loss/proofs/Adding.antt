@@ -1,8 +1,8 @@
 -- A walk that adds losses: what holds whenever its loops come round, from node to node and from position to position, and how it ends.
 use mathlib.Core.Bool.{Bool, true, false, _&&_, cond}
-use mathlib.Core.List.{List, [], _∷_, _++_, append-nil, append-assoc, map-append}
+use mathlib.Core.List.{List, [], _∷_, _++_, append-assoc, map-append}
 use mathlib.Core.Path.{_≡_, refl, sym, ap, subst, _∙_}
-use Prim.Native.Nat.{ℕ, zero, suc, _+_, _*_, _≤_, _<_}
+use Prim.Native.Nat.{ℕ, suc, _+_, _*_, _≤_, _<_}
 use native.Mathlib.Decide.{decLt}
 use native.Mathlib.Omega.{arith}
 use borrow.Author.Tests.{lt-ltb, le-ltb}
@@ -14,7 +14,7 @@ use Rattle.lists.proofs.Sums.{over-append, over-most}
 use Rattle.faststack.specs.Stack.{capacity}
 use Rattle.ray.specs.declared.Ray.{Ray}
 use Rattle.ray.specs.Ray.{octantOf}
-use Rattle.record_shape.specs.Record.{nodeCount, nodesAt}
+use Rattle.record_shape.specs.Record.{nodeCount}
 use Rattle.walk.specs.Step as S
 use Rattle.walk.specs.Queries.{append}
 use Rattle.walk.specs.Words as W
@@ -36,7 +36,7 @@ use Rattle.query.proofs.Begins.{steady, leads-begun, query-empty}
 use Rattle.query.proofs.Gathers.{noted-few, leads-front}
 use Rattle.query.proofs.Leads.{Steady, Leads, Sought, leads-past, leads-on, seek-sought}
 use Rattle.loss.specs.Loss.{LossAnswer, summed, refused, lossesFit, lossAt, allThere, lossWalked}
-use Rattle.loss.specs.Charged.{charged, paneAt, Spare}
+use Rattle.loss.specs.Charged.{charged, paneAt}
 use Rattle.loss.proofs.Charged.{fit-most, charged-next, charged-most}
 
 -- ---- panes that are there

@@ -1,20 +1,22 @@
 -- What refuses a report on entry, by the tests that the code makes in turn, and what holds where nothing does.
 use mathlib.Core.Bool.{Bool, true, false, _&&_}
-use mathlib.Core.List.{List, [], _∷_}
+use mathlib.Core.List.{List, [], _∷_, _++_}
 use mathlib.Core.Path.{_≡_, refl, sym, ap, _∙_}
-use Prim.Native.Nat.{ℕ, _%_, _≤_, _<_}
+use Prim.Native.Nat.{ℕ, zero, suc, _%_, _≤_, _<_}
 use native.Mathlib.Omega.{arith}
 use borrow.Author.Tests.{eq-eqb, ne-eqb, le-leb, lt-leb, leb-true, eqb-true}
-use lib.Dec.{eqb, leb}
+use lib.Dec.{leb}
 use lib.Ieee.{Float}
 use lib.ListN.{length}
+use Rattle.lists.specs.Below.{allBelow}
 use Rattle.causes.specs.Causes.{Condition, _unless_, firstCause, order, placeIn, placeOf}
 use Rattle.causes.specs.Sizes.{recordConditions, recordCause}
 use Rattle.causes.proofs.Causes.{first-here, first-later, append-first, append-later, Passed, passed-none, passed-parts, none-passed, sorted}
 use Rattle.causes.proofs.Sizes.{Fit, record-passed, record-fit}
 use Rattle.packed.specs.Packed.{rayCount, raysAccepted}
 use Rattle.walk.proofs.Cases.{and-true, and-false}
-use Rattle.loss.specs.Loss.{lossesFit, lossCause, reportConditions}
+use Rattle.loss.specs.Loss.{lossesFit, lossCause, walksBy, refusedReport, Report, reportConditions, walkConditions, totalsIn, reportBy}
+use Rattle.loss.specs.Loss.{reportOf}
 use Rattle.loss.specs.Charged.{Entered}
 
 -- losses of which cause 12 does not hold fit
@@ -87,10 +89,14 @@ module _ (bytes indices : List ℕ) (panes : ℕ) (losses : List ℕ) (rays : Li
     pub ray-room : rayCount rays ≤ rayRoom
     pub pane-room : panes ≤ paneRoom
 
-  pub none-entering : cause ≡ 0 → Entering
+  all-passed : cause ≡ 0 → Passed (reportConditions bytes indices panes losses rays rayRoom paneRoom)
   unfolding reportConditions recordConditions sorted placeOf
+  all-passed e = none-passed 0 (reportConditions bytes indices panes losses rays rayRoom paneRoom) tt e
+
+  pub none-entering : cause ≡ 0 → Entering
+  unfolding reportConditions
   none-entering e =
-      let p = none-passed 0 (reportConditions bytes indices panes losses rays rayRoom paneRoom) tt e in
+      let p = all-passed e in
       let q = passed-parts (recordConditions (length bytes) (length indices)) own (p .1) in
       let r = and-true (leb (rayCount rays) rayRoom) (leb panes paneRoom) (q .1 .1 .0) in
       record {
@@ -104,3 +110,48 @@ module _ (bytes indices : List ℕ) (panes : ℕ) (losses : List ℕ) (rays : Li
         ray-room = leb-true (rayCount rays) rayRoom (r .0);
         pane-room = leb-true panes paneRoom (r .1);
       }
+
+-- ---- the report, by what refuses it
+
+module _ (bytes indices : List ℕ) (panes : ℕ) (losses : List ℕ) (rays : List Float) (rayTotals paneTotals : List ℕ) where
+  abbrev entry : List Condition
+  entry = reportConditions bytes indices panes losses rays (length rayTotals) (length paneTotals)
+
+  abbrev walks : ℕ → Bool
+  walks = walksBy bytes indices panes losses rays
+
+  -- refused with a number, both slices as they were
+  abbrev refusing : ℕ → Report
+  refusing k = record { answer = refusedReport k; rayTotals = rayTotals; paneTotals = paneTotals }
+
+  by-number : (k : ℕ) → (k ≡ 0 → ⊥) → refusing k ≡ reportBy bytes indices panes losses rays k rayTotals paneTotals
+  unfolding reportBy
+  by-number zero h = absurd (h refl)
+  by-number (suc k) h = refl
+
+  -- on entry
+  pub report-entry : (k : ℕ) → k ≡ firstCause entry → (k ≡ 0 → ⊥) → refusing k ≡ reportOf bytes indices panes losses rays rayTotals paneTotals
+  unfolding reportOf
+  report-entry k e h =
+      by-number k h
+      ∙ ap (λ (j : ℕ). reportBy bytes indices panes losses rays j rayTotals paneTotals)
+      (e ∙ sym (append-first entry (walkConditions bytes indices panes losses rays) (λ z. h (e ∙ z))))
+
+  module _ (none : firstCause entry ≡ 0) where
+    -- by the walks alone
+    behind-entry : firstCause (entry ++ walkConditions bytes indices panes losses rays) ≡ firstCause (walkConditions bytes indices panes losses rays)
+    behind-entry =
+        append-later entry (walkConditions bytes indices panes losses rays)
+        (all-passed bytes indices panes losses rays (length rayTotals) (length paneTotals) none)
+
+    pub report-fault : allBelow walks (rayCount rays) ≡ false → refusing 10 ≡ reportOf bytes indices panes losses rays rayTotals paneTotals
+    unfolding reportOf walkConditions
+    report-fault h =
+        by-number 10 (λ z. omega arith)
+        ∙ ap (λ (j : ℕ). reportBy bytes indices panes losses rays j rayTotals paneTotals) (sym (behind-entry ∙ first-here [] h))
+
+    pub report-totals : allBelow walks (rayCount rays) ≡ true
+        → totalsIn bytes indices panes losses rays rayTotals paneTotals ≡ reportOf bytes indices panes losses rays rayTotals paneTotals
+    unfolding reportOf reportBy walkConditions
+    report-totals h =
+        ap (λ (j : ℕ). reportBy bytes indices panes losses rays j rayTotals paneTotals) (sym (behind-entry ∙ passed-none (walkConditions bytes indices panes losses rays) (h, tt)))

@@ -1,3 +1,5 @@
 pub mod Charged
 pub mod Adding
 pub mod Causes
+pub mod Reports
+pub mod Written

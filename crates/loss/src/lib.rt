@@ -1,17 +1,20 @@
 // A ray's loss as a sum over the positions that it meets, and a report over many rays. The published code has neither: it lists the positions.
 ghost use mathlib.Core.Path.{_≡_};
 ghost use mathlib.Core.Bool.{true, false};
-ghost use Prim.Native.Nat.{_+_, _≤_};
+ghost use Prim.Native.Nat.{_+_, _≤_, _<_};
 ghost use lib.ListN.{length, getD, set, replicate};
 ghost use Rattle.lists.specs.Below.{allBelow};
+ghost use Rattle.lists.specs.Sums.{sumOver};
 ghost use Rattle.causes.specs.Causes.{firstCause};
 ghost use Rattle.causes.proofs.Sizes.{Fit};
 ghost use Rattle.ray.specs.Ray.{rayOf};
 ghost use Rattle.packed.specs.Packed.{rayCount};
 ghost use Rattle.walk_record.specs.WalkRay.{walkRay, forgedRay};
+ghost use Rattle.query.specs.Met.{positionsMet, testsMade, panesMet};
 ghost use Rattle.query.specs.Walk.{RecordSized};
-ghost use Rattle.loss.specs.Loss.{lossesFit, lossCause, lossWalked, lossOf, lossResult, walksBy, reportConditions, totalsIn, reportOf, totalled, totalsAnswer};
-ghost use Rattle.loss.specs.Charged.{paneAt, Spare, Charges, Entered, Ready};
+ghost use Rattle.loss.specs.Loss.{lossesFit, lossCause, lossAt, isSummed, lossWalked, lossOf, lossResult};
+ghost use Rattle.loss.specs.Loss.{walksBy, reportConditions, totalled, totalsIn, reportOf, totalsAnswer};
+ghost use Rattle.loss.specs.Charged.{charged, paneAt, Ready, Charges, Entered};
 use advance::Answer;
 use advance::Walk;
 use ray::Ray;
@@ -261,6 +264,35 @@ fn clear(totals: &mut [u64])
     }
 }
 
+// Writes the totals of ray i, whose walk has no fault; its node tests.
+fn total_ray(
+    record: &[u8],
+    indices: &[u32],
+    panes: usize,
+    losses: &[u32],
+    ray: Ray,
+    i: usize,
+    ray_totals: &mut [u64],
+    pane_totals: &mut [u64],
+) -> u32
+    requires { ⌜ Fit (length (now «record»)) (length (now indices)) × Ready panes (now losses) ray (now «pane_totals»)
+        × (isSummed (lossWalked (now «record») (now indices) panes (now losses) ray .answer) ≡ true) × (i < length (now «ray_totals»)) ⌝ }
+    ensures { λ r. ⌜ r ≡ testsMade (now («record» .entry)) (length (now (indices .entry))) ray ⌝ }
+    ensures { λ _. ⌜ now («ray_totals» .exit) ≡ set (now («ray_totals» .entry)) i
+        (sumOver (lossAt (now (indices .entry)) (now (losses .entry))) (positionsMet (now («record» .entry)) (length (now (indices .entry))) ray)) ⌝ }
+    ensures { λ _. ⌜ now («pane_totals» .exit) ≡ charged (now (losses .entry)) (now («pane_totals» .entry))
+        (panesMet (now (indices .entry)) (positionsMet (now («record» .entry)) (length (now (indices .entry))) ray)) ⌝ }
+{
+    let answer = ray_loss(record, indices, panes, losses, ray, pane_totals);
+    match answer {
+        RayLoss::Summed(loss, tests) => {
+            ray_totals[i] = loss;
+            return tests;
+        }
+        _ => return 0,
+    }
+}
+
 // Writes the totals of rays whose walks have no fault; the node tests of all.
 fn total(
     record: &[u8],
@@ -283,14 +315,17 @@ fn total(
     let mut i = 0;
     while i < rays.len() / packed::RAY {
         let ray = packed::ray_at(rays, i);
-        let answer = ray_loss(record, indices, panes, losses, ray, pane_totals);
-        match answer {
-            RayLoss::Summed(loss, made) => {
-                ray_totals[i] = loss;
-                tests += made as u64;
-            }
-            _ => {}
-        }
+        let made = total_ray(
+            record,
+            indices,
+            panes,
+            losses,
+            ray,
+            i,
+            ray_totals,
+            pane_totals,
+        );
+        tests += made as u64;
         i += 1;
     }
     tests

@@ -72,7 +72,7 @@ ray-loss-requires c κs =
         accepted = subst (λ (r : Ray). forgedRay (walkRay r) ≡ false) (sym (e .before .before .new .ensures))
             (begun-accepted (a .origin) (a .direction) (a .tmin) (a .tmax) (h .accepted));
         fitting = cause-fits (a .panes) (a .losses .now) (h .none);
-        spare = λ k. omega arith;
+        spare = λ k l. omega arith;
       },
     )
 

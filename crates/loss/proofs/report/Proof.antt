@@ -1,43 +1,60 @@
+use mathlib.Core.Path.{_≡_, sym, _∙_}
+use borrow.Author.Tests.{not-true, not-false}
+use lib.ListN.{length}
+use Rattle.loss.specs.Loss.{totalsAnswer}
+use Rattle.loss.proofs.Causes.{Entering, none-entering, report-entry, report-fault, report-totals}
 use borrow.Author.Needs.{needs}
 use Rattle.loss.proofs.report.Statement.{statement}
 use Rattle.loss.proofs.report.Tie as tie
-use Rattle.loss.proofs.report.Reads as reads
-use Rattle.loss.proofs.report.Lts as lts
-use Rattle.loss.proofs.all_walk.Reads as all-walk-reads
-use Rattle.loss.proofs.report_cause.Reads as report-cause-reads
-use Rattle.loss.proofs.total.Reads as total-reads
 
--- src/lib.rt:314:9
+module _ (c : tie.After-report-cause) where
+  abbrev start : tie.Start
+  start = let b = c .before .before .before in b .before .before .before .before
+
+  entering : c .report-cause .result ≡ 0 → let a = start .args in
+      Entering (a .«record» .now) (a .indices .now) (a .panes) (a .losses .now) (a .rays .now) (length (a .ray-totals .now))
+      (length (a .pane-totals .now))
+  entering z = none-entering _ _ _ _ _ _ _ (sym (c .report-cause .ensures) ∙ z)
+
 report-cause-requires : tie.Need-report-cause-requires
 report-cause-requires c κs = search needs
 
--- src/lib.rt:324:9
 returns : tie.Need-returns
-returns c = ?
+unfolding totalsAnswer
+returns c = let e = c .before in report-entry _ _ _ _ _ _ _ (e .report-cause .result) (e .report-cause .ensures) (c .if1 .taken)
 
--- src/lib.rt:326:9
 all-walk-requires : tie.Need-all-walk-requires
-all-walk-requires c κs = ?
+all-walk-requires c κs = entering (c .before) (c .if1 .left) .entered
 
--- src/lib.rt:327:9
 returns-2 : tie.Need-returns-2
-returns-2 c = ?
+unfolding totalsAnswer
+returns-2 c =
+    let w = c .before in
+    let e = w .before .before in
+    report-fault _ _ _ _ _ _ _ (sym (e .report-cause .ensures) ∙ w .before .if1 .left) (sym (w .all-walk .ensures) ∙ not-true _ (c .if2 .taken))
 
--- src/lib.rt:329:9
 total-requires : tie.Need-total-requires
-total-requires c κs = ?
+total-requires c κs =
+    let k = c .before .before in
+    let w = k .before in
+    let h = entering (w .before .before) (w .before .if1 .left) in
+    (h .entered, (h .ray-room, h .pane-room, sym (w .all-walk .ensures) ∙ not-false _ (k .if2 .left)))
 
--- src/lib.rt:301:1
 same-length : tie.Need-same-length
 same-length c = search needs
 
--- src/lib.rt:301:1
 same-length-2 : tie.Need-same-length-2
 same-length-2 c = search needs
 
--- src/lib.rt:301:1
 returns-3 : tie.Need-returns-3
-returns-3 c = ?
+unfolding totalsAnswer
+returns-3 c =
+    let t = c .before .before .before .before in
+    let k = t .before .before .before in
+    let w = k .before in
+    let e = w .before .before in
+    t .total .ensures
+    ∙ report-totals _ _ _ _ _ _ _ (sym (e .report-cause .ensures) ∙ w .before .if1 .left) (sym (w .all-walk .ensures) ∙ not-false _ (k .if2 .left))
 
 pub report-spec : {M : Type 1} → statement M
 report-spec =

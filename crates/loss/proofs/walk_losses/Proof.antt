@@ -1,5 +1,5 @@
 use mathlib.Core.List.{List}
-use mathlib.Core.Path.{_≡_, refl, sym, ap, _∙_, subst}
+use mathlib.Core.Path.{_≡_, refl, ap, _∙_, subst}
 use Prim.Native.Nat.{ℕ, _+_, _≤_, _<_}
 use native.Mathlib.Omega.{arith}
 use borrow.Author.Needs.{needs, scaled-fits}
@@ -215,7 +215,7 @@ charge-requires c κs =
     let t = totals-most (a .bytes .now) (a .indices .now) (a .panes) (a .losses .now) (a .ray) (within j) f (q .pane-at .result) in
     let k = fit-most (a .panes) (a .losses .now) f (q .pane-at .result) in
     let z = sized (j .before) .nodes in
-    let y = entry j .pre .1 .spare (q .pane-at .result) in
+    let y = entry j .pre .1 .spare (q .pane-at .result) (c .before .before .if2 .left) in
     omega (arith, t, k, z, y)
 
 rest-of-requires : tie.Need-rest-of-requires Inv-loop2 μ-loop2 Inv-loop μ-loop
