@@ -69,13 +69,13 @@ module _ (bytes indices : List ℕ) (panes : ℕ) (losses : List ℕ) (ray : Ray
 
   -- ---- what the walk gives
 
-  abbrev given : Bool → OutcomeWords WalkRay (List ℕ) → Result LossAnswer
+  abbrev pub given : Bool → OutcomeWords WalkRay (List ℕ) → Result LossAnswer
   given b o =
       cond b (walked refused (λ met tests. record { answer = summed (sumOver (lossAt indices losses) met); tests = tests }) o (o .ended))
       (unanswered (refused 10))
 
   -- where it ended like this, with panes that are there
-  abbrev ended : WalkerWords WalkRay → List ℕ → S.Answer → OutcomeWords WalkRay (List ℕ)
+  abbrev pub ended : WalkerWords WalkRay → List ℕ → S.Answer → OutcomeWords WalkRay (List ℕ)
   ended w noted a = record { walker = w; accumulator = noted; ended = a }
 
   gives : (w : WalkerWords WalkRay) (noted : List ℕ) (a : S.Answer) → allThere panes (panesMet indices noted) ≡ true → ended w noted a ≡ goal
@@ -267,8 +267,7 @@ module _ {bytes indices : List ℕ} {panes : ℕ} {losses : List ℕ} {ray : Ray
       Seeks : S.Answer → WalkerWords WalkRay → Type 0
       Seeks b v = Sought (nodeCount bytes) (nodeWordsAt bytes byBoxes) (length indices) append (walkMet bytes (length indices) ray) w (K .noted) b v
 
-      go : (b : Answer) → Sought (nodeCount bytes) (nodeWordsAt bytes byBoxes) (length indices) append (walkMet bytes (length indices) ray) w (K .noted)
-          (stepAnswer b) u → After b u
+      go : (b : Answer) → Seeks (stepAnswer b) u → After b u
       go (A.Tested v) g =
           (record { noted = K .noted; leads = g .leads; there = K .there; sums = K .sums; charges = K .charges }, g .less)
       go (A.Position p) g = g

@@ -64,7 +64,8 @@ module _ (bytes indices : List ℕ) (panes : ℕ) (losses : List ℕ) (rays : Li
 
         pub cause-pane-room : paneRoom < panes → 4 ≡ cause
         cause-pane-room h =
-            sym (after-rays ∙ first-here _ (ap (λ (b : Bool). leb (rayCount rays) rayRoom && b) (lt-leb panes paneRoom h) ∙ and-false (leb (rayCount rays) rayRoom)))
+            sym (after-rays
+            ∙ first-here _ (ap (λ (b : Bool). leb (rayCount rays) rayRoom && b) (lt-leb panes paneRoom h) ∙ and-false (leb (rayCount rays) rayRoom)))
 
         module _ (ray-room : rayCount rays ≤ rayRoom) (pane-room : panes ≤ paneRoom) where
           after-room : cause ≡ firstCause (12 unless lossesFit panes losses ∷ 9 unless raysAccepted rays ∷ [])
@@ -154,4 +155,5 @@ module _ (bytes indices : List ℕ) (panes : ℕ) (losses : List ℕ) (rays : Li
         → totalsIn bytes indices panes losses rays rayTotals paneTotals ≡ reportOf bytes indices panes losses rays rayTotals paneTotals
     unfolding reportOf reportBy walkConditions
     report-totals h =
-        ap (λ (j : ℕ). reportBy bytes indices panes losses rays j rayTotals paneTotals) (sym (behind-entry ∙ passed-none (walkConditions bytes indices panes losses rays) (h, tt)))
+        ap (λ (j : ℕ). reportBy bytes indices panes losses rays j rayTotals paneTotals)
+        (sym (behind-entry ∙ passed-none (walkConditions bytes indices panes losses rays) (h, tt)))

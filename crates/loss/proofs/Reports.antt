@@ -1,6 +1,6 @@
 -- The rays of a report, one after the other: each may walk where nothing refuses the report on entry, and what a walk found tells whether it had a
 -- fault.
-use mathlib.Core.Bool.{Bool, true, false, cond}
+use mathlib.Core.Bool.{Bool, true, false}
 use mathlib.Core.List.{List}
 use mathlib.Core.Path.{_≡_, refl, sym, ap}
 use Prim.Native.Nat.{ℕ, _+_, _*_, _<_}
@@ -22,6 +22,7 @@ use Rattle.loss.specs.declared.RayLoss.{RayLoss}
 use Rattle.loss.specs.declared.RayLoss.the-variants.{Summed, Refused}
 use Rattle.loss.specs.Loss.{LossAnswer, summed, refused, lossAt, allThere, isSummed, lossWalked, lossResult, walksBy}
 use Rattle.loss.specs.Charged.{Spare, Ready, Entered}
+use Rattle.loss.proofs.Adding.{given, ended}
 
 module _ (bytes indices : List ℕ) (panes : ℕ) (losses : List ℕ) (rays : List Float) where
   module _ (E : Entered bytes indices panes losses rays) (i : ℕ) (there : i < rayCount rays) where
@@ -57,10 +58,10 @@ module _ (bytes indices : List ℕ) (panes : ℕ) (losses : List ℕ) (r : Ray) 
   abbrev outcome : OutcomeWords WalkRay (List ℕ)
   outcome = walkMet bytes (length indices) r
 
-  abbrev given : Bool → S.Answer → Result LossAnswer
-  given b a =
-      cond b (walked refused (λ met tests. record { answer = summed (sumOver (lossAt indices losses) met); tests = tests }) outcome a)
-      (unanswered (refused 10))
+  -- what it gives, ended like this
+  abbrev givenBy : Bool → S.Answer → Result LossAnswer
+  givenBy b a =
+      given bytes indices panes losses r b (ended bytes indices panes losses r (outcome .walker) (outcome .accumulator) a)
 
   abbrev summing : (loss tests : ℕ) → Result LossAnswer
   summing loss tests = record { answer = summed loss; tests = tests }
@@ -75,7 +76,8 @@ module _ (bytes indices : List ℕ) (panes : ℕ) (losses : List ℕ) (r : Ray) 
   unfolding lossWalked walked
   summed-sums loss tests e = go (allThere panes (panesMet indices (outcome .accumulator))) refl (outcome .ended) e
     where
-      same : summing (sumOver (lossAt indices losses) (outcome .accumulator)) (outcome .walker .tests) ≡ summing loss tests → allThere panes (panesMet indices (outcome .accumulator)) ≡ true → Sums loss tests
+      same : summing (sumOver (lossAt indices losses) (outcome .accumulator)) (outcome .walker .tests) ≡ summing loss tests
+          → allThere panes (panesMet indices (outcome .accumulator)) ≡ true → Sums loss tests
       same q h =
           let d : summed (sumOver (lossAt indices losses) (outcome .accumulator)) ≡ summed loss = ap (λ (x : Result LossAnswer). x .answer) q in
           record { over = cc; tested = sym (ap (λ (x : Result LossAnswer). x .tests) q); there = h }
@@ -87,7 +89,7 @@ module _ (bytes indices : List ℕ) (panes : ℕ) (losses : List ℕ) (r : Ray) 
           absurd (omega arith)
 
       go : (b : Bool) → allThere panes (panesMet indices (outcome .accumulator)) ≡ b → (a : S.Answer)
-          → given b a ≡ summing loss tests → Sums loss tests
+          → givenBy b a ≡ summing loss tests → Sums loss tests
       go false h a q = no 10 q
       go true h (S.tested v) q = no 10 q
       go true h (S.position p) q = same q h
@@ -95,11 +97,12 @@ module _ (bytes indices : List ℕ) (panes : ℕ) (losses : List ℕ) (r : Ray) 
       go true h (S.refused k) q = no k q
 
   -- so they are where the walk had no fault
-  pub walked-there : isSummed (lossWalked bytes indices panes losses r .answer) ≡ true → allThere panes (panesMet indices (outcome .accumulator)) ≡ true
+  pub walked-there : isSummed (lossWalked bytes indices panes losses r .answer) ≡ true
+      → allThere panes (panesMet indices (outcome .accumulator)) ≡ true
   unfolding lossWalked isSummed
   walked-there e = go (allThere panes (panesMet indices (outcome .accumulator))) refl e
     where
-      go : (b : Bool) → allThere panes (panesMet indices (outcome .accumulator)) ≡ b → isSummed (given b (outcome .ended) .answer) ≡ true
+      go : (b : Bool) → allThere panes (panesMet indices (outcome .accumulator)) ≡ b → isSummed (givenBy b (outcome .ended) .answer) ≡ true
           → allThere panes (panesMet indices (outcome .accumulator)) ≡ true
       go true h q = h
       go false h q = clash q

@@ -83,7 +83,8 @@ module _ (bytes indices : List ℕ) (panes : ℕ) (losses : List ℕ) (rays : Li
   unfolding sum splice upto
   totals-begin rayBefore paneBefore cleared e h =
       let z : length cleared ≡ panes = ap length e ∙ length-replicate panes 0 in
-      let v : 0 + length (values (paneTotal indices losses met 0) panes) ≡ panes = omega (arith, values-length (paneTotal indices losses met 0) panes) in
+      let v : 0 + length (values (paneTotal indices losses met 0) panes) ≡ panes =
+      omega (arith, values-length (paneTotal indices losses met 0) panes) in
       record {
         tested = refl;
         of-rays = refl;

@@ -1,5 +1,5 @@
--- Any-hit's walk position after position: what it has noted stays in front, and it notes at most one a step. And the number that refuses a walk over a
--- record of fitting sizes is 10, whatever the query.
+-- Any-hit's walk, position after position: what it has noted stays in front, and it notes at most one a step. And the number that refuses a walk
+-- over a record of fitting sizes is 10, whatever the query.
 use mathlib.Core.Bool.{true, _&&_}
 use mathlib.Core.List.{List, [], _∷_, _++_, append-assoc, append-nil}
 use mathlib.Core.Path.{_≡_, refl, sym, ap, _∙_, subst}

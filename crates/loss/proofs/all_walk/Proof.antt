@@ -57,7 +57,8 @@ ray-loss-requires c κs =
     let e = start l .pre in (
       e .sizes,
       subst (λ (r : Ray). Ready (a .panes) (a .losses .now) r []) (sym (c .before .ray-at .ensures))
-          (ray-ready (a .«record» .now) (a .indices .now) (a .panes) (a .losses .now) (a .rays .now) e (l .loop .i) (c .before .before .loop-test .taken)
+          (ray-ready (a .«record» .now) (a .indices .now) (a .panes) (a .losses .now) (a .rays .now) e (l .loop .i)
+          (c .before .before .loop-test .taken)
           [] (λ k h. omega arith)),
     )
 

@@ -81,8 +81,10 @@ unfolding lossOf
 returns-2 c =
     let e = c .before .before .before .before in
     let a = start e .args in
-    c .before .ray-loss .ensures .0 ∙ ap (lossWalked (a .«record» .now) (a .indices .now) (a .panes) (a .losses .now)) (e .before .before .new .ensures)
-    ∙ without-cause refused (e .entry-cause .result) _ (lossWalked (a .«record» .now) (a .indices .now) (a .panes) (a .losses .now) (made e)) (found e)
+    c .before .ray-loss .ensures .0
+    ∙ ap (lossWalked (a .«record» .now) (a .indices .now) (a .panes) (a .losses .now)) (e .before .before .new .ensures)
+    ∙ without-cause refused (e .entry-cause .result) _ (lossWalked (a .«record» .now) (a .indices .now) (a .panes) (a .losses .now) (made e))
+    (found e)
     (omega (arith, c .before .before .before .if1 .left))
 
 pub loss-spec : {M : Type 1} → statement M

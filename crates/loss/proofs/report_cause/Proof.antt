@@ -3,7 +3,8 @@ use Prim.Native.Nat.{_%_}
 use borrow.Author.Tests.{not-true, not-false}
 use lib.ListN.{length}
 use Rattle.causes.proofs.Sizes.{Fit, none-record}
-use Rattle.loss.proofs.Causes.{cause-lengths, cause-sizes, cause-rays, cause-ray-room, cause-pane-room, cause-losses, cause-accepted, cause-none}
+use Rattle.loss.proofs.Causes.{cause-lengths, cause-sizes, cause-rays, cause-ray-room, cause-pane-room, cause-losses, cause-accepted}
+use Rattle.loss.proofs.Causes.{cause-none}
 use borrow.Author.Needs.{needs}
 use Rattle.loss.proofs.report_cause.Statement.{statement}
 use Rattle.loss.proofs.report_cause.Tie as tie

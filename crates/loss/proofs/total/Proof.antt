@@ -134,10 +134,12 @@ loop-again c =
     let m : Ray → List ℕ = λ r. positionsMet (a .«record» .now) (length (a .indices .now)) r in (
       omega (arith, h),
       omega (arith, l .loop .inv .1),
-      totals-next (a .«record» .now) (a .indices .now) (a .panes) (a .losses .now) (a .rays .now) (l .loop .inv .2) (room l) (omega (arith, h, s .pre .1 .0)) y _ _
+      totals-next (a .«record» .now) (a .indices .now) (a .panes) (a .losses .now) (a .rays .now) (l .loop .inv .2) (room l)
+          (omega (arith, h, s .pre .1 .0)) y _ _
           (w .total-ray .result)
           (w .total-ray .ensures .0 ∙ ap (testsMade (a .«record» .now) (length (a .indices .now))) e)
-          (w .total-ray .ensures .1 .0 ∙ ap (λ (r : Ray). set (l .loop .ray-totals) (l .loop .i) (sumOver (lossAt (a .indices .now) (a .losses .now)) (m r))) e)
+          (w .total-ray .ensures .1 .0
+          ∙ ap (λ (r : Ray). set (l .loop .ray-totals) (l .loop .i) (sumOver (lossAt (a .indices .now) (a .losses .now)) (m r))) e)
           (w .total-ray .ensures .1 .1 ∙ ap (λ (r : Ray). charged (a .losses .now) (l .loop .pane-totals) (panesMet (a .indices .now) (m r))) e),
     )
 

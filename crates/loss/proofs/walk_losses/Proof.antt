@@ -70,7 +70,8 @@ module _ (j : tie.At-loop2 Inv-loop2 μ-loop2 Inv-loop μ-loop) where
 
   -- with the totals that the call was lent
   within : AddingBy (entry .args .bytes .now) (entry .args .indices .now) (entry .args .panes) (entry .args .losses .now) (entry .args .ray)
-      (j .before .before .before .before .octant .result) (j .loop2 .walk) (j .before .loop .stack) (j .loop2 .sum) (entry .args .totals .now) (j .loop2 .totals)
+      (j .before .before .before .before .octant .result) (j .loop2 .walk) (j .before .loop .stack) (j .loop2 .sum)
+      (entry .args .totals .now) (j .loop2 .totals)
   within = j .loop2 .inv .2 (entry .args .totals .now) (j .before .loop .inv .3)
 
   -- the totals are as many
@@ -93,7 +94,8 @@ module _ (c : tie.After-pane-at Inv-loop2 μ-loop2 Inv-loop μ-loop) where
 
     -- after it, whatever the totals began with
     next : (before : List ℕ)
-        → (K : AddingBy (entry head .args .bytes .now) (entry head .args .indices .now) (entry head .args .panes) (entry head .args .losses .now) (entry head .args .ray)
+        → (K : AddingBy (entry head .args .bytes .now) (entry head .args .indices .now) (entry head .args .panes) (entry head .args .losses .now)
+        (entry head .args .ray)
         (head .before .before .before .before .octant .result) (head .loop2 .walk) (head .before .loop .stack) (head .loop2 .sum) before
         (head .loop2 .totals))
         → (g : W.Group) → g ≡ W.restOf (groupOf (head .loop2 .walk .positions)) → (totals : List ℕ)
