@@ -7,6 +7,7 @@ use crate::generate::{Boxes, Shape, tree};
 use crate::long::{along, row};
 use crate::loss::{Call, MOST_LOSS};
 use crate::loss_sizes;
+use crate::odd::{diagonal, ladder};
 use crate::queries::{aimed, odd_ray, queried_tree};
 use crate::rng::Rng;
 use crate::scene::{Scene, endless, ray_words, through_t};
@@ -29,6 +30,15 @@ pub fn sample(rays: &[Ray]) -> Call {
 pub fn sample_rays() -> [Ray; 2] {
     let r = through_t(-1.0, 0.0);
     [r, Ray { tmax: 2.5, ..r }]
+}
+
+/// T with three losses for its two panes; with a NaN tmax as well; and with a record of 79 bytes as well. Each with its number.
+pub fn refused_samples() -> [(Call, u32); 3] {
+    let [ray, _] = sample_rays();
+    let three = Call { losses: vec![3000, 500, 7], ..sample(&[ray]) };
+    let unending = Call { losses: three.losses.clone(), ..sample(&[Ray { tmax: f32::NAN, ..ray }]) };
+    let cut = Call { record: three.record[..79].to_vec(), ..unending.clone() };
+    [(three, 12), (unending, 12), (cut, 1)]
 }
 
 /// A ray that passes T by.
@@ -188,6 +198,16 @@ fn spoil(rng: &mut Rng, c: &mut Call, met: &[u32], cause: u32, way: usize) {
     }
 }
 
+/// Walks that meet a position, and go on until they make more tests than there are nodes or more groups wait than there is room for.
+fn long_walks(g: &mut Group) {
+    for m in [3, 10, 36] {
+        let call = Call { record: ladder(m), list: vec![0], panes: 1, losses: vec![9], ..Default::default() };
+        let call = call.with_rays(&[past_t(), diagonal()]);
+        assert_eq!(call.singles().iter().map(|s| s.refusal).collect::<Vec<_>>(), [0, 10]);
+        g.add(call.case());
+    }
+}
+
 /// Each cause alone, in each way.
 fn alone(rng: &mut Rng, g: &mut Group) {
     for (cause, ways) in CAUSES {
@@ -294,11 +314,16 @@ pub fn groups(seed: u64) -> Vec<Group> {
     drawn(rng, &mut sums, share, 80);
     sums.add(over_32_bits(rng));
     (0..4).for_each(|_| sums.add(met_again(rng)));
+    for (call, number) in refused_samples() {
+        assert_eq!(call.report().refusal, number);
+        refused.add(call.case());
+    }
     none_of_something(&mut refused);
     loss_limits(&mut refused);
     alone(rng, &mut refused);
     pairs(rng, &mut refused);
     last_ray_alone(rng, &mut hurt);
+    long_walks(&mut hurt);
     damaged(rng, &mut hurt, 60);
     println!("losses: kind {LOSSES}, {share} meet something");
     assert!(share.one_in(10));

@@ -4,7 +4,7 @@ use crate::calls::agreed_walk;
 use crate::convert::{Converted, bvh_of, convert};
 use crate::generate::{Boxes, chain};
 use crate::loss::{Call, RayLoss, Report};
-use crate::losses::{sample, sample_rays};
+use crate::losses::{refused_samples, sample, sample_rays};
 use crate::query;
 use crate::scene::{Asked, Scene, endless, through_t};
 use crate::show::{input_of, shown, showrecord};
@@ -91,7 +91,7 @@ fn negative_zeros(all: &mut Tally) {
     all.holds("S7 a walker with -0.0 in y, inverse -2^23, octant 7: refused 10 (by the rules)", agrees && steps == [Step::Refused(10)]);
 }
 
-/// Losses of T's panes, by the published positions and by the rules; refusals by the rules alone.
+/// Losses of T's panes, by the published positions and by the rules.
 fn losses(all: &mut Tally) {
     let [ray, short] = sample_rays();
     let (one, two) = (sample(&[ray]), sample(&[ray, short]));
@@ -100,15 +100,12 @@ fn losses(all: &mut Tally) {
     all.holds("the same with indices 1 and 1: 1000", single(&Call { list: vec![1, 1], ..one.clone() }) == [1000, 1000, 1]);
     let totals = Report { refusal: 0, tests: 2, rays: vec![3500, 3000], panes: vec![6000, 500] };
     all.holds("a report of that ray and of one to 2.5: rays 3500 and 3000, panes 6000 and 500", two.agreed() == totals);
-    let refused = |c: &Call, refusal: u32| {
+    let refused = refused_samples().map(|(c, refusal)| {
         let single = RayLoss { refusal, ..Default::default() };
         c.report() == Report { refusal, ..Default::default() } && c.singles() == [single]
-    };
-    let three = Call { losses: vec![3000, 500, 7], ..one.clone() };
-    let unending = Call { rays: sample(&[Ray { tmax: f32::NAN, ..ray }]).rays, ..three.clone() };
-    let cut = Call { record: one.record[..79].to_vec(), ..unending.clone() };
-    all.holds("three losses for two panes: 12, with tmax NaN too", refused(&three, 12) && refused(&unending, 12));
-    all.holds("the same with a record of 79 bytes: 1", refused(&cut, 1));
+    });
+    all.holds("three losses for two panes: 12, with tmax NaN too (by the rules)", refused[0] && refused[1]);
+    all.holds("the same with a record of 79 bytes: 1 (by the rules)", refused[2]);
 }
 
 const T_LINES: &str = "0 0000000000000000000000007978780001000000000000002021000000000000008000000000000040c00000000000000000000000000000808000000000000000000000000000008080000000000000\nindices 0 1\n";
