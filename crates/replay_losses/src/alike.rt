@@ -274,8 +274,8 @@ fn many_nodes(case: &[u8], bytes: usize, positions: usize, taken: usize, floats:
     )
 }
 
-// Bytes of the record, index words, panes, losses, floats of rays, words lent for the totals of rays, and of panes; the index word, the loss, the ray;
-// the report's number, its node tests, the total of a ray and of the pane that the index word names; the single call's answer; the first node.
+// Bytes of the record, index words, panes, losses, floats of rays, words lent for the totals of rays, and of panes; the index word, the loss, the
+// ray; the report's number, its node tests, the total of a ray and of the pane that the index word names; the single call's answer; the first node.
 pub fn sized(case: &[u8]) -> bool {
     let bytes = word(case, 0) as usize;
     let positions = word(case, 1) as usize;

@@ -32,8 +32,8 @@ fn same_head(case: &[u8], number: u32, tests: u64) -> bool {
     wide(case, 8) == tests
 }
 
-// Whether this is the stored answer of a report, and leaves in the words, those past the lent ones too, what it should: the totals of so many rays and
-// of so many panes, stored from word `at` on, or beside a refusal all as it was.
+// Whether this is the stored answer of a report, and leaves in the words, those past the lent ones too, what it should: the totals of so many rays
+// and of so many panes, stored from word `at` on, or beside a refusal all as it was.
 fn same_answer(
     case: &[u8],
     at: usize,
