@@ -106,14 +106,16 @@ impl Refusal {
             }
             Refusal::TooMany => "split the house, and convert its parts; split the list of rays",
             Refusal::Limit => "use a leaf limit from 0 to 3, and order 0 or 1",
-            Refusal::Room => "lend slices of the lengths that `Lengths` gives",
+            Refusal::Room => {
+                "lend slices of the lengths that `Lengths` gives, and for a report a word for each ray and each pane"
+            }
             Refusal::Link => "export the tree again: the words are damaged, or of another format",
             Refusal::Box => "look for the box in the model, and mend or leave out what it stands for",
             Refusal::Structure => "build the tree anew, with one primitive a leaf and every position once",
             Refusal::Level => "build a tree that is less one-sided; many boxes at one point make a long chain",
             Refusal::Ray => "look for a division by zero where the ray is made",
             Refusal::Record => {
-                "run the record check, and convert the tree again if it is not sound; give the panes that the index list was made for"
+                "run the record check, and convert the tree again if it is not sound; give the panes or losses that the index list was made for"
             }
             Refusal::List { .. } => "lend a list of the length needed",
             Refusal::Losses => "give each pane its loss in thousandths of a decibel, a whole number to 1,000,000",
