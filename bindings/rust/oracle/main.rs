@@ -21,6 +21,9 @@ mod generate;
 #[path = "../../../oracle/driver/leaves.rs"]
 mod leaves;
 #[allow(dead_code)]
+#[path = "../../../oracle/driver/loss.rs"]
+mod loss;
+#[allow(dead_code)]
 #[path = "../../../oracle/driver/odd.rs"]
 mod odd;
 #[allow(dead_code)]
@@ -275,9 +278,9 @@ fn one_tree(rng: &mut Rng, reported: &mut Rng, k: usize, counts: &mut Counts) {
         same_verdict(&hurt.record, m);
         counts.damaged += 1;
         one_ray(rng, &t, &s, &hurt, n, counts);
-        let refused = reports::same_reports(reported, &t, &s, &hurt);
-        counts.reports += refused.len();
-        counts.refused_reports += refused.iter().filter(|r| **r).count();
+        let [reports, refused] = reports::same_reports(reported, &t, &s, &hurt);
+        counts.reports += reports;
+        counts.refused_reports += refused;
     }
 }
 
