@@ -97,13 +97,16 @@ all-reached f j k h l = all-pass f k (λ i m. all-at f j h i (omega arith))
 pub one-fails : (f : ℕ → Bool) (k i : ℕ) → i < k → f i ≡ false → allBelow f k ≡ false
 one-fails f k i l e = tells-false (below-tells (λ i. f i ≡ true) f (λ i. true-tells (f i)) k) (λ h. clash (sym e ∙ h i l))
 
--- a test that fails somewhere below k fails at some number
-pub where-fails : (f : ℕ → Bool) (k : ℕ) → allBelow f k ≡ false → (i : ℕ) × (i < k) × (f i ≡ false)
+-- a test fails at some number below k, and at none before it
+abbrev pub FailsFirst : (ℕ → Bool) → ℕ → Type 0
+FailsFirst f k = (i : ℕ) × (i < k) × (f i ≡ false) × ((j : ℕ) → j < i → f j ≡ true)
+
+-- it does where it does not pass below k
+pub where-fails : (f : ℕ → Bool) (k : ℕ) → allBelow f k ≡ false → FailsFirst f k
 unfolding allBelow
 where-fails f zero e = clash (sym e)
 where-fails f (suc k) e = pick (allBelow f k) (f k) refl refl e (where-fails f k)
   where
-    pick : (a b : Bool) → allBelow f k ≡ a → f k ≡ b → a && b ≡ false → (allBelow f k ≡ false → (i : ℕ) × (i < k) × (f i ≡ false)) → (i : ℕ)
-        × (i < suc k) × (f i ≡ false)
-    pick true b x y z g = (k, omega arith, y ∙ z)
-    pick false b x y z g = let u = g x in (u .0, omega (arith, u .1), u .2)
+    pick : (a b : Bool) → allBelow f k ≡ a → f k ≡ b → a && b ≡ false → (allBelow f k ≡ false → FailsFirst f k) → FailsFirst f (suc k)
+    pick true b x y z g = (k, omega arith, y ∙ z, all-at f k x)
+    pick false b x y z g = let u = g x in (u .0, omega (arith, u .1), u .2, u .3)
