@@ -11,6 +11,10 @@ use Rattle.causes.proofs.Causes.{first-here, first-later, passed-none, append-f
 use Rattle.causes.proofs.Sizes.{Fit, record-passed, none-record}
 use Rattle.ray.specs.declared.Ray.{Ray}
 use Rattle.ray.specs.Ray.{acceptedRay}
+use Rattle.walk.specs.Step as S
+use Rattle.walk.specs.Queries.{Ended}
+use Rattle.walk.specs.WordQueries.{OutcomeWords}
+use Rattle.walk_record.specs.WalkRay.{WalkRay}
 use Rattle.query.specs.Entry.{entryConditions, entryCause}
 use Rattle.query.specs.Result.{Result}
 use Rattle.query.specs.Result as R
@@ -82,3 +86,13 @@ pub without-cause : {A : Type 0} (refuse : ℕ → A) (k c : ℕ) (w : Result A)
 unfolding R.entered
 without-cause refuse k zero w e h = refl
 without-cause refuse k (suc c) w e h = absurd (omega arith)
+
+-- a walk that was not refused gives what it has found
+pub found-at-end : {A N : Type 0} (refuse : ℕ → A) (found : N → ℕ → Result A) (cause : ℕ) (o : OutcomeWords WalkRay N) (b : S.Answer) → 0 ≡ cause
+    → Ended b → R.entered refuse cause (R.walked refuse found o b) ≡ found (o .accumulator) (o .walker .tests)
+unfolding R.entered R.walked
+found-at-end refuse found zero o (S.tested v) e h = absurd h
+found-at-end refuse found zero o (S.position p) e h = refl
+found-at-end refuse found zero o S.done e h = refl
+found-at-end refuse found zero o (S.refused k) e h = absurd h
+found-at-end refuse found (suc c) o b e h = absurd (omega arith)

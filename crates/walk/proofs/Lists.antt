@@ -8,7 +8,7 @@ use native.Mathlib.Omega.{arith}
 use lib.ListN.{length}
 use Rattle.lists.specs.Counts.{same, count, upto}
 use Rattle.lists.specs.Sums.{sum, sumOver}
-use Rattle.lists.proofs.Counts.{same-self, same-one, count-append, Some, none, some, some?}
+use Rattle.lists.proofs.Counts.{same-self, same-one, count-append, Same, equal, apart, same?, Some, none, some, some?}
 use Rattle.lists.proofs.Sums.{sum-cong, sum-front, sum-counted}
 use Rattle.walk.specs.Calls.{All}
 use Rattle.walk.specs.Listing.{In, joined, flat}
@@ -50,6 +50,16 @@ in-append x a b h = go (some? (count x a))
 pub all-map : {A : Type 0} {P Q : A → Type 0} → ((x : A) → P x → Q x) → (l : List A) → All P l → All Q l
 all-map f [] h = tt
 all-map f (x ∷ l) h = (f x (h .0), all-map f l (h .1))
+
+-- what holds of every member holds of each
+pub all-in : (P : ℕ → Type 0) (l : List ℕ) → All P l → (p : ℕ) → In p l → P p
+unfolding count
+all-in P [] h p i = absurd (omega arith)
+all-in P (q ∷ l) h p i = go (same? p q) (all-in P l (h .1) p)
+  where
+    go : Same p q → (In p l → P p) → P p
+    go (equal e s) r = rw e (h .0)
+    go (apart e s) r = r (omega arith)
 
 -- ---- sums over a list
 
