@@ -6,8 +6,6 @@ use Prim.Native.Nat.{ℕ, zero, suc, _+_, _*_, _≤_, _<_}
 use native.Mathlib.Decide.{decLt}
 use native.Mathlib.Nat.{mul-le-mul}
 use native.Mathlib.Omega.{arith}
-use borrow.Author.Tests.{ltb-true}
-use lib.Dec.{ltb}
 use lib.Ieee.{Float}
 use lib.ListN.{length, getD, set, drop, replicate, length-map, length-replicate, getD-replicate}
 use lib.Seq.{ext-getD, drop-at}
@@ -15,17 +13,17 @@ use Rattle.lists.specs.Counts.{count, upto}
 use Rattle.lists.specs.Splice.{splice}
 use Rattle.lists.specs.Sums.{sum}
 use Rattle.lists.specs.Values.{values}
-use Rattle.lists.proofs.Counts.{same-most, same-apart}
-use Rattle.lists.proofs.Splice.{length-splice, splice-in, splice-after, written-next, set-splice}
-use Rattle.lists.proofs.Values.{values-length, values-at, values-next}
+use Rattle.lists.proofs.Counts.{same-most}
+use Rattle.lists.proofs.Splice.{written-next, set-splice}
+use Rattle.lists.proofs.Values.{values-length, values-at, values-next, front-length, front-at, behind-front}
 use Rattle.packed.specs.Packed.{rayIn, rayCount}
 use Rattle.record_shape.specs.Record.{nodeCount}
-use Rattle.walk.proofs.Cases.{and-true}
 use Rattle.query.specs.Met.{panesMet}
 use Rattle.loss.specs.Loss.{lossesFit, allThere, rayTotal, timesMet, paneTotal, metBy, testsBy, Report, totalled, totalsIn}
 use Rattle.loss.specs.Charged.{charged, Spare, Totalling}
 use Rattle.loss.proofs.Charged.{fit-most, charged-length, charged-at}
 use Rattle.loss.proofs.Adding.{met-few}
+use Rattle.loss.proofs.There.{there-none}
 
 -- ---- counts
 
@@ -33,15 +31,6 @@ count-most : (x : ℕ) (l : List ℕ) → count x l ≤ length l
 unfolding count
 count-most x [] = omega arith
 count-most x (y ∷ l) = omega (arith, same-most x y, count-most x l)
-
--- a pane past the last is not among panes that are there
-there-none : (panes : ℕ) (l : List ℕ) → allThere panes l ≡ true → (k : ℕ) → panes ≤ k → count k l ≡ 0
-unfolding allThere count
-there-none panes [] h k g = refl
-there-none panes (j ∷ l) h k g =
-    let q = and-true (ltb j panes) (allThere panes l) h in
-    let a = same-apart k j (λ e. let i = ltb-true j panes (q .0) in omega arith) in
-    omega (arith, a, there-none panes l (q .1) k g)
 
 sum-within : (f : ℕ → ℕ) (c k : ℕ) → ((j : ℕ) → f j ≤ c) → sum f k ≤ k * c
 unfolding sum
@@ -101,36 +90,29 @@ module _ (bytes indices : List ℕ) (panes : ℕ) (losses : List ℕ) (rays : Li
     abbrev words : ℕ → List ℕ
     words j = values (paneTotal indices losses met j) panes
 
-    fits : (j : ℕ) → 0 + length (words j) ≤ length paneBefore
-    fits j = omega (arith, values-length (paneTotal indices losses met j) panes, pane-room)
-
-    -- word k of a pane's, and past them
     word-in : (j k : ℕ) → k < panes → getD (splice paneBefore 0 (words j)) k 0 ≡ paneTotal indices losses met j k
-    word-in j k h =
-        let l : k < length (words j) = omega (arith, values-length (paneTotal indices losses met j) panes, h) in
-        let e : 0 + k ≡ k = omega arith in
-        ap (λ (x : ℕ). getD (splice paneBefore 0 (words j)) x 0) (sym e) ∙ splice-in paneBefore 0 (words j) (fits j) k 0 l
-        ∙ values-at (paneTotal indices losses met j) panes k 0 h
+    word-in j k = front-at paneBefore (paneTotal indices losses met j) panes pane-room k 0
 
     word-past : (j k : ℕ) → panes ≤ k → getD (splice paneBefore 0 (words j)) k 0 ≡ getD paneBefore k 0
-    word-past j k h = splice-after paneBefore 0 (words j) (fits j) k 0 (omega (arith, values-length (paneTotal indices losses met j) panes, h))
+    word-past j k = behind-front paneBefore (paneTotal indices losses met j) panes pane-room k 0
+
+    words-length : (j : ℕ) → length (splice paneBefore 0 (words j)) ≡ length paneBefore
+    words-length j = front-length paneBefore (paneTotal indices losses met j) panes pane-room
 
     -- as many words as there were
     pub pane-words : length paneTotals ≡ length paneBefore
-    pane-words = ap length (T .of-panes) ∙ length-splice paneBefore 0 (words i) (fits i)
+    pane-words = ap length (T .of-panes) ∙ words-length i
 
     pub ray-words : i ≤ length rayBefore → length rayTotals ≡ length rayBefore
-    ray-words h =
-        ap length (T .of-rays) ∙ length-splice rayBefore 0 (values (rayTotal indices losses met i) i)
-        (omega (arith, values-length (rayTotal indices losses met i) i, h))
+    ray-words h = ap length (T .of-rays) ∙ front-length rayBefore (rayTotal indices losses met i) i h
 
     -- the loss of each pane met is added
     next-panes : allThere panes (panesMet indices (met i)) ≡ true
         → charged losses (splice paneBefore 0 (words i)) (panesMet indices (met i)) ≡ splice paneBefore 0 (words (i + 1))
     next-panes there =
         ext-getD 0 _ _
-        (charged-length losses (splice paneBefore 0 (words i)) (panesMet indices (met i)) ∙ length-splice paneBefore 0 (words i) (fits i)
-        ∙ sym (length-splice paneBefore 0 (words (i + 1)) (fits (i + 1))))
+        (charged-length losses (splice paneBefore 0 (words i)) (panesMet indices (met i)) ∙ words-length i
+        ∙ sym (words-length (i + 1)))
         (λ k h. charged-at losses (splice paneBefore 0 (words i)) (panesMet indices (met i)) k
         (omega (arith, h, charged-length losses (splice paneBefore 0 (words i)) (panesMet indices (met i)))) ∙ by k (decLt k panes))
       where

@@ -13,7 +13,8 @@ use Rattle.packed.specs.Packed.{rayIn, rayCount}
 use Rattle.query.specs.Met.{positionsMet, testsMade, panesMet}
 use Rattle.loss.specs.Loss.{lossAt, isSummed, lossWalked, walksBy}
 use Rattle.loss.specs.Charged.{charged, Ready, Totalling}
-use Rattle.loss.proofs.Reports.{ray-ready, walked-there}
+use Rattle.loss.proofs.Faults.{summed-faultless}
+use Rattle.loss.proofs.Reports.{ray-ready}
 use Rattle.loss.proofs.Written.{totals-begin, totals-next, totals-end, totals-spare, ray-words, pane-words}
 use Rattle.loss.proofs.total.Statement.{statement}
 use Rattle.loss.proofs.total.Tie as tie
@@ -128,14 +129,14 @@ loop-again c =
     let a = s .args in
     let h = w .before .before .before .before .loop-test .taken in
     let e = w .before .before .before .ray-at .ensures in
-    let y = walked-there (a .«record» .now) (a .indices .now) (a .panes) (a .losses .now) (rayIn (a .rays .now) (l .loop .i))
+    let y = summed-faultless (a .«record» .now) (a .indices .now) (a .panes) (a .losses .now) (rayIn (a .rays .now) (l .loop .i))
     (all-at (walksBy (a .«record» .now) (a .indices .now) (a .panes) (a .losses .now) (a .rays .now)) (rayCount (a .rays .now)) (s .pre .1 .2)
     (l .loop .i) h) in
     let m : Ray → List ℕ = λ r. positionsMet (a .«record» .now) (length (a .indices .now)) r in (
       omega (arith, h),
       omega (arith, l .loop .inv .1),
       totals-next (a .«record» .now) (a .indices .now) (a .panes) (a .losses .now) (a .rays .now) (l .loop .inv .2) (room l)
-          (omega (arith, h, s .pre .1 .0)) y _ _
+          (omega (arith, h, s .pre .1 .0)) (y .there) _ _
           (w .total-ray .result)
           (w .total-ray .ensures .0 ∙ ap (testsMade (a .«record» .now) (length (a .indices .now))) e)
           (w .total-ray .ensures .1 .0
