@@ -18,3 +18,8 @@ pub mod NearLimit
 pub mod MinusZero
 pub mod SoundPanes
 pub mod Panes
+pub mod Summed
+pub mod Loss
+pub mod Totalled
+pub mod Report
+pub mod SoundLoss

@@ -5,3 +5,4 @@ pub mod Walks
 pub mod Runs
 pub mod Panes
 pub mod MinusZero
+pub mod Loss
