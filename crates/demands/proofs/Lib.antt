@@ -23,3 +23,5 @@ pub mod Loss
 pub mod Totalled
 pub mod Report
 pub mod SoundLoss
+pub mod LossCauses
+pub mod LossRefusals

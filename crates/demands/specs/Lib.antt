@@ -6,3 +6,4 @@ pub mod Runs
 pub mod Panes
 pub mod MinusZero
 pub mod Loss
+pub mod LossRefusals
