@@ -9,10 +9,11 @@ use Rattle.lists.proofs.Rising.{rising-perm, rising-rises, sum-rising}
 use Rattle.record_shape.specs.Record.{nodeCount}
 use Rattle.any_hit.specs.AnyHit.{listed}
 use Rattle.loss.proofs.Adding.{met-few}
+use Rattle.loss.proofs.Causes.{cause-fits}
 use Rattle.loss.proofs.There.{by-panes}
 use Rattle.demands.specs.Loss.{LossCall, Loses, met, taken, timesNamed, Room, listedIn, InWalkOrder, InRisingOrder}
 use Rattle.demands.proofs.Listed.{answers-listed, list-found}
-use Rattle.demands.proofs.Summed.{none-loss, sum-most, Sums, call-sums}
+use Rattle.demands.proofs.Summed.{sum-most, Sums, call-sums}
 
 module _ (c : LossCall) (loss : ℕ) (loses : Loses c loss) where
   S : Sums c loss
@@ -21,7 +22,7 @@ module _ (c : LossCall) (loss : ℕ) (loses : Loses c loss) where
   -- A loss is at most 25 losses of 1,000,000 to each node, and one.
   pub loss-most : loss ≤ (25 * nodeCount (c .bytes) + 1) * 1000000
   loss-most =
-      let m = sum-most c (none-loss (c .panes) (c .losses) (S .enters .none)) in
+      let m = sum-most c (cause-fits (c .panes) (c .losses) (S .enters .none)) in
       omega (arith, S .sum, m, met-few (c .bytes) (c .indices) (c .panes) (c .losses) (c .ray))
 
   module _ (before : List ℕ) (room : Room c before) where

@@ -1,14 +1,13 @@
 -- A call of `loss` by its entry and its walk: when it gives a sum, and what that sum is.
-use mathlib.Core.Bool.{Bool, true, false}
+use mathlib.Core.Bool.{true}
 use mathlib.Core.List.{List, []}
 use mathlib.Core.Path.{_≡_, refl, sym, ap, _∙_}
 use Prim.Native.Nat.{ℕ, zero, suc, _*_, _≤_}
-use native.Mathlib.Omega.{arith}
 use lib.ListN.{length, getD}
 use Rattle.lists.specs.Sums.{sumOver}
 use Rattle.lists.proofs.Sums.{over-most}
 use Rattle.causes.specs.Causes.{firstCause}
-use Rattle.causes.proofs.Causes.{first-here, first-later}
+use Rattle.causes.proofs.Causes.{first-later}
 use Rattle.query.specs.Entry.{entryCause}
 use Rattle.query.specs.Met.{testsMade}
 use Rattle.query.specs.Result.{Result, entered}
@@ -23,13 +22,6 @@ use Rattle.demands.specs.Loss.{LossCall, lossFor, Loses, met, taken}
 pub loss-none : (panes : ℕ) (losses : List ℕ) → lossesFit panes losses ≡ true → lossCause panes losses ≡ 0
 unfolding firstCause
 loss-none panes losses h = first-later 12 [] h
-
-pub none-loss : (panes : ℕ) (losses : List ℕ) → lossCause panes losses ≡ 0 → lossesFit panes losses ≡ true
-none-loss panes losses e = go (lossesFit panes losses) refl
-  where
-    go : (b : Bool) → lossesFit panes losses ≡ b → lossesFit panes losses ≡ true
-    go true h = h
-    go false h = absurd (omega (arith, e, first-here {k = 12} [] h))
 
 module _ (c : LossCall) where
   -- what refuses it on entry, and what its walk gives

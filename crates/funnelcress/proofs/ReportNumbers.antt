@@ -8,7 +8,7 @@ use lib.Dec.{T, leb, leb→le}
 use lib.Ieee.{Float}
 use lib.ListN.{length}
 use borrow.Author.Tests.{leb-true}
-use Rattle.lists.specs.Sums.{sum}
+use Rattle.lists.proofs.Sums.{sum-most}
 use Rattle.causes.specs.Causes.{Condition, firstCause}
 use Rattle.causes.specs.Sizes.{recordConditions}
 use Rattle.causes.proofs.Causes.{Passed, sorted, none-passed, allNumbers, first-among}
@@ -71,11 +71,6 @@ tests-few bytes n r m =
     let q = query-few (nodeCount bytes) (nodeWordsAt bytes byBoxes) n append (λ f x. Unit {0}) (λ f x h. tt) (λ f p b x l h. tt)
     (stepsFor (nodeCount bytes)) (freshWords (walkRay r)) [] (omega arith) tt in
     omega (arith, q .0)
-
-sum-most : (f : ℕ → ℕ) (c : ℕ) → ((i : ℕ) → f i ≤ c) → (k : ℕ) → sum f k ≤ k * c
-unfolding sum
-sum-most f c h zero = omega arith
-sum-most f c h (suc k) = omega (arith, sum-most f c h k, h k)
 
 module _ (bytes indices : List ℕ) (panes : ℕ) (losses : List ℕ) (rays : List Float) (rayTotals paneTotals : List ℕ) where
   abbrev conditions : List Condition

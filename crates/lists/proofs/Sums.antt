@@ -113,6 +113,12 @@ unfolding sum
 sum-scaled f c zero = omega arith
 sum-scaled f c (suc k) = omega (arith, sum-scaled f c k)
 
+-- no term is over c
+pub sum-most : (f : ℕ → ℕ) (c : ℕ) → ((i : ℕ) → f i ≤ c) → (k : ℕ) → sum f k ≤ k * c
+unfolding sum
+sum-most f c h zero = omega arith
+sum-most f c h (suc k) = omega (arith, sum-most f c h k, h k)
+
 -- ---- over the members of a list
 
 pub over-append : (f : ℕ → ℕ) (a b : List ℕ) → sumOver f (a ++ b) ≡ sumOver f a + sumOver f b
@@ -169,11 +175,6 @@ sum-counts n l h = sum-cong (λ x. count x l) (λ x. count x l * 1) n (λ j k. o
 pub once-length : (n : ℕ) (l : List ℕ) → ((x : ℕ) → x < n → count x l ≡ 1) → ((x : ℕ) → n ≤ x → count x l ≡ 0) → length l ≡ n
 once-length n l h k = sym (sum-counts n l k) ∙ sum-ones (λ x. count x l) n h
 
-sum-most : (f : ℕ → ℕ) (k : ℕ) → ((i : ℕ) → f i ≤ 1) → sum f k ≤ k
-unfolding sum
-sum-most f zero h = omega arith
-sum-most f (suc k) h = omega (arith, sum-most f k h, h k)
-
 -- and one in which each stands at most once has at most n
 pub distinct-length : (n : ℕ) (l : List ℕ) → ((x : ℕ) → count x l ≤ 1) → ((x : ℕ) → n ≤ x → count x l ≡ 0) → length l ≤ n
-distinct-length n l h k = omega (arith, sum-counts n l k, sum-most (λ x. count x l) n h)
+distinct-length n l h k = omega (arith, sum-counts n l k, sum-most (λ x. count x l) 1 h n)

@@ -14,6 +14,7 @@ use Rattle.lists.specs.Splice.{splice}
 use Rattle.lists.specs.Sums.{sum}
 use Rattle.lists.specs.Values.{values}
 use Rattle.lists.proofs.Counts.{same-most}
+use Rattle.lists.proofs.Sums.{sum-most}
 use Rattle.lists.proofs.Splice.{written-next, set-splice}
 use Rattle.lists.proofs.Values.{values-length, values-at, values-next, front-length, front-at, behind-front}
 use Rattle.packed.specs.Packed.{rayIn, rayCount}
@@ -31,11 +32,6 @@ count-most : (x : ℕ) (l : List ℕ) → count x l ≤ length l
 unfolding count
 count-most x [] = omega arith
 count-most x (y ∷ l) = omega (arith, same-most x y, count-most x l)
-
-sum-within : (f : ℕ → ℕ) (c k : ℕ) → ((j : ℕ) → f j ≤ c) → sum f k ≤ k * c
-unfolding sum
-sum-within f c zero h = omega arith
-sum-within f c (suc k) h = omega (arith, sum-within f c k h, h k)
 
 one-more : (f : ℕ → ℕ) (i : ℕ) → sum f (i + 1) ≡ sum f i + f i
 unfolding sum
@@ -148,14 +144,14 @@ module _ (bytes indices : List ℕ) (panes : ℕ) (losses : List ℕ) (rays : Li
     -- no pane is met more often than positions are
     times-few : nodeCount bytes ≤ 65535 → (k : ℕ) → timesMet indices losses met i k ≤ i * 1638376
     times-few few k =
-        sum-within (λ j. count k (panesMet indices (met j))) 1638376 i
+        sum-most (λ j. count k (panesMet indices (met j))) 1638376
         (λ j. omega (
           arith,
           count-most k (panesMet indices (met j)),
           length-map (met j) (λ p. getD indices p 0),
           met-few bytes indices panes losses (rayIn rays j),
           few,
-        ))
+        )) i
 
     pub totals-spare : lossesFit panes losses ≡ true → nodeCount bytes ≤ 65535 → i < 65536 → Spare panes paneTotals
     totals-spare fit few h k l =
