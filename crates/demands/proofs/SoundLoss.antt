@@ -21,7 +21,8 @@ use Rattle.loss.proofs.Faults.{faultless-sums}
 use Rattle.loss.proofs.There.{there-tells}
 use Rattle.demands.specs.Call.{Call, Answers, recordAt, listAt}
 use Rattle.demands.specs.Walks.{CheckedRecord, AcceptedRay}
-use Rattle.demands.specs.Loss.{LossCall, Loses, met, ReportCall, Totals, raysOf, single, rayWord, UnrefusedOnEntry, Losses, Rays, NotRefused}
+use Rattle.demands.specs.Loss.{LossCall, Loses, met, ReportCall, Totals, raysOf, single, rayWord, UnrefusedOnEntry, Losses, AcceptedRays}
+use Rattle.demands.specs.Loss.{NotRefused}
 use Rattle.demands.proofs.Rays.{ray-accepted}
 use Rattle.demands.proofs.Runs.{any-hit-is-run, reported-exist}
 use Rattle.demands.proofs.SoundWalks.{sizes-fit, any-hit-meets}
@@ -69,7 +70,7 @@ module _ (c : LossCall) {d : ℕ} (good : CheckedRecord (c .bytes) (length (c .i
 -- ---- many rays
 
 module _ (c : ReportCall) {d : ℕ} (good : CheckedRecord (c .bytes) (length (c .indices)) d) (fine : Losses (c .indices) (c .panes) (c .losses))
-    (rays : Rays (c .rays)) (ray-room : raysOf c ≤ length (c .rayTotals)) (pane-room : c .panes ≤ length (c .paneTotals)) where
+    (rays : AcceptedRays (c .rays)) (ray-room : raysOf c ≤ length (c .rayTotals)) (pane-room : c .panes ≤ length (c .paneTotals)) where
   nothing-on-entry : UnrefusedOnEntry c
   unfolding raysAccepted
   nothing-on-entry =

@@ -12,7 +12,7 @@ use Rattle.walk.specs.Listing.{In}
 use Rattle.any_hit.specs.AnyHit.{refused, anyHitOf}
 use Rattle.demands.specs.Loss.{LossCall, met, ReportCall, raysOf, single}
 
--- of a record and its index list (02, [3])
+-- of a record and its index list
 pub data SizeRefusal (bytes indices : List ℕ) : ℕ → Type 0 where
   -- 1
   part-of-node : ¬ (length bytes % 80 ≡ 0) → SizeRefusal bytes indices 1
@@ -20,19 +20,19 @@ pub data SizeRefusal (bytes indices : List ℕ) : ℕ → Type 0 where
   positions-over : 65536 < length indices → SizeRefusal bytes indices 2
   nodes-over : 65535 < nodeCount bytes → SizeRefusal bytes indices 2
 
--- of a list of losses, so many panes given: cause 12 (02, [3])
+-- of a list of losses, so many panes given: cause 12
 pub data LossesRefusal (panes : ℕ) (losses : List ℕ) : Type 0 where
   not-each : ¬ (length losses ≡ panes) → LossesRefusal panes losses
   loss-over : (k : ℕ) → k < length losses → 1000000 < getD losses k 0 → LossesRefusal panes losses
 
--- of a ray's walk: cause 10 (02, [3])
+-- of a ray's walk: cause 10
 pub data WalkRefusal (c : LossCall) : Type 0 where
   -- any-hit of the ray is refused with it
   any-hit-refused : (room : ℕ) → anyHitOf (c .bytes) (length (c .indices)) (c .ray) room .answer ≡ refused 10 → WalkRefusal c
   -- a position met has an index word that names no pane
   no-pane : (p : ℕ) → In p (met c) → c .panes ≤ getD (c .indices) p 0 → WalkRefusal c
 
--- of a call of `loss` (02, [3])
+-- of a call of `loss`
 pub data LossRefusal (c : LossCall) : ℕ → Type 0 where
   -- 1, 2
   sizes-refused : {k : ℕ} → SizeRefusal (c .bytes) (c .indices) k → LossRefusal c k
@@ -43,7 +43,7 @@ pub data LossRefusal (c : LossCall) : ℕ → Type 0 where
   -- 10
   walk-refused : WalkRefusal c → LossRefusal c 10
 
--- of a call of `report` (02, [3])
+-- of a call of `report`
 pub data ReportRefusal (c : ReportCall) : ℕ → Type 0 where
   -- 1
   part-of-ray : ¬ (length (c .rays) % 8 ≡ 0) → ReportRefusal c 1
@@ -61,7 +61,7 @@ pub data ReportRefusal (c : ReportCall) : ℕ → Type 0 where
   -- 10
   walk-refused : (i : ℕ) → i < raysOf c → WalkRefusal (single c i) → ReportRefusal c 10
 
--- the first cause that holds, in the order in which they are looked at (02, [3])
+-- the first cause that holds, in the order in which they are looked at
 abbrev pub FirstLossRefusal : LossCall → ℕ → Type 0
 FirstLossRefusal c k = First (LossRefusal c) k
 

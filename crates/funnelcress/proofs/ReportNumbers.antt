@@ -26,7 +26,7 @@ use Rattle.loss.specs.declared.Totals.{Totals}
 use Rattle.loss.specs.declared.Totals.the-variants.{Totalled, Refused}
 use Rattle.loss.specs.Loss.{ReportAnswer, totalled, refusedReport, Report, totalsAnswer}
 use Rattle.loss.specs.Loss.{reportConditions, walkConditions, testsBy, totalsIn, reportBy, reportOf}
-use Rattle.funnelcress.specs.Reports.{reportNumber, Reported, reported}
+use Rattle.funnelcress.specs.Reports.{reportNumber, HandedReport, handedReport}
 use Rattle.funnelcress.proofs.Bounds.{query-few}
 
 -- ---- case by case
@@ -41,11 +41,11 @@ module _ (a : Totals) where
   number-refused-report number e = rw e
 
 -- a call's number with the slices that it leaves
-pub number-reported : (number : ℕ) (a : Totals) (rayTotals paneTotals : List ℕ) (r : Report) → number ≡ reportNumber (totalsAnswer a)
+pub number-handed-report : (number : ℕ) (a : Totals) (rayTotals paneTotals : List ℕ) (r : Report) → number ≡ reportNumber (totalsAnswer a)
     → _≡_ {A = Report} (record { answer = totalsAnswer a; rayTotals = rayTotals; paneTotals = paneTotals }) r
-    → _≡_ {A = Reported} (record { number = number; rayTotals = rayTotals; paneTotals = paneTotals }) (reported r)
-number-reported number a rayTotals paneTotals r e o =
-    (λ i. record { number = e i; rayTotals = rayTotals; paneTotals = paneTotals }) ∙ ap reported o
+    → _≡_ {A = HandedReport} (record { number = number; rayTotals = rayTotals; paneTotals = paneTotals }) (handedReport r)
+number-handed-report number a rayTotals paneTotals r e o =
+    (λ i. record { number = e i; rayTotals = rayTotals; paneTotals = paneTotals }) ∙ ap handedReport o
 
 -- ---- no two answers share a number
 

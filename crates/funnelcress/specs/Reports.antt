@@ -9,10 +9,10 @@ reportNumber (totalled tests) = tests
 reportNumber (refusedReport number) = 0x2_0000_0000 + number
 
 -- what the caller has at the end: that number, and both lent slices
-pub record Reported : Type 0 where
+pub record HandedReport : Type 0 where
   pub number : ℕ
   pub rayTotals : List ℕ
   pub paneTotals : List ℕ
 
-abbrev pub reported : Report → Reported
-reported r = record { number = reportNumber (r .answer); rayTotals = r .rayTotals; paneTotals = r .paneTotals }
+abbrev pub handedReport : Report → HandedReport
+handedReport r = record { number = reportNumber (r .answer); rayTotals = r .rayTotals; paneTotals = r .paneTotals }

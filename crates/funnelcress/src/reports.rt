@@ -1,7 +1,7 @@
 // A report over many rays for C and Rust: what each ray loses, and what each pane takes from all rays together.
 ghost use mathlib.Core.Path.{_≡_};
 ghost use Rattle.loss.specs.Loss.{reportOf, totalsAnswer};
-ghost use Rattle.funnelcress.specs.Reports.{reportNumber, reported};
+ghost use Rattle.funnelcress.specs.Reports.{reportNumber, handedReport};
 use loss::Totals;
 
 // A report's answer as a number.
@@ -27,7 +27,7 @@ pub extern "C" fn funnelcress_report(
     pane_totals: &mut [u64],
 ) -> u64
     ensures { λ r. ⌜ record { number = r; rayTotals = now («ray_totals» .exit); paneTotals = now («pane_totals» .exit) }
-        ≡ reported (reportOf (now («record» .entry)) (now (indices .entry)) panes (now (losses .entry)) (now (rays .entry))
+        ≡ handedReport (reportOf (now («record» .entry)) (now (indices .entry)) panes (now (losses .entry)) (now (rays .entry))
         (now («ray_totals» .entry)) (now («pane_totals» .entry))) ⌝ }
 {
     let answer = loss::report(

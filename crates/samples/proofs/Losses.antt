@@ -28,9 +28,9 @@ use Rattle.query.specs.Entry.{entryConditions}
 use Rattle.query.specs.Result.{walked, entered}
 use Rattle.loss.specs.Loss.{lossesFit, allThere, lossWalked, lossOf, isSummed, walksBy, reportConditions, walkConditions, totalsIn, reportBy}
 use Rattle.loss.specs.Loss.{reportOf}
-use Rattle.samples.specs.Losses.{Losses}
+use Rattle.samples.specs.Losses.{LossSamples}
 
-pub losses : Losses
+pub losses : LossSamples
 unfolding lossOf lossWalked lossesFit allThere reportOf reportBy reportConditions walkConditions walksBy isSummed totalsIn rayIn raysAccepted
     allBelow sum sumOver count same upto splice entryConditions recordConditions firstCause entered walked anyHitAt queryAt queryWords stepWords
     advanceWords reportWords visitWords popWords rayOf unsignedVec plainVec unsignedZero isMinusZero octantOf hitMask slotHit hitBits orOf passes

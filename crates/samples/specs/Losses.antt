@@ -31,8 +31,8 @@ abbrev pub sumIs : (loss tests : ℕ) → Result LossAnswer
 sumIs loss tests = record { answer = summed loss; tests = tests }
 
 -- a report over T's two panes, with room for three totals of rays and of panes, all 7 before
-abbrev pub reported : List ℕ → List ℕ → List Float → Report
-reported indices losses rays = reportOf bytesT indices 2 losses rays (7 ∷ 7 ∷ 7 ∷ []) (7 ∷ 7 ∷ 7 ∷ [])
+abbrev pub reportT : List ℕ → List ℕ → List Float → Report
+reportT indices losses rays = reportOf bytesT indices 2 losses rays (7 ∷ 7 ∷ 7 ∷ []) (7 ∷ 7 ∷ 7 ∷ [])
 
 abbrev pub reportIs : ReportAnswer → (rayTotals paneTotals : List ℕ) → Report
 reportIs answer rayTotals paneTotals = record { answer = answer; rayTotals = rayTotals; paneTotals = paneTotals }
@@ -41,7 +41,7 @@ reportIs answer rayTotals paneTotals = record { answer = answer; rayTotals = ray
 abbrev pub refusedWith : ℕ → Report
 refusedWith number = reportIs (refusedReport number) (7 ∷ 7 ∷ 7 ∷ []) (7 ∷ 7 ∷ 7 ∷ [])
 
-pub record Losses : Type 0 where
+pub record LossSamples : Type 0 where
   -- both panes, and one pane twice
   pub both : lossBy indicesT 2 lossesT ahead ≡ sumIs 3500 1
   pub twice : lossBy (1 ∷ 1 ∷ []) 2 lossesT ahead ≡ sumIs 1000 1
@@ -61,15 +61,15 @@ pub record Losses : Type 0 where
   -- without nodes
   pub no-nodes : lossOf [] [] 2 lossesT ahead ≡ sumIs 0 0
   -- the report of two rays: 6500 either way
-  pub two-rays : reported indicesT lossesT twoRays ≡ reportIs (totalled 2) (3500 ∷ 3000 ∷ 7 ∷ []) (6000 ∷ 500 ∷ 7 ∷ [])
-  pub one-pane : reported (1 ∷ 1 ∷ []) lossesT twoRays ≡ reportIs (totalled 2) (1000 ∷ 500 ∷ 7 ∷ []) (0 ∷ 1500 ∷ 7 ∷ [])
+  pub two-rays : reportT indicesT lossesT twoRays ≡ reportIs (totalled 2) (3500 ∷ 3000 ∷ 7 ∷ []) (6000 ∷ 500 ∷ 7 ∷ [])
+  pub one-pane : reportT (1 ∷ 1 ∷ []) lossesT twoRays ≡ reportIs (totalled 2) (1000 ∷ 500 ∷ 7 ∷ []) (0 ∷ 1500 ∷ 7 ∷ [])
   -- no rays
-  pub no-rays : reported indicesT lossesT [] ≡ reportIs (totalled 0) (7 ∷ 7 ∷ 7 ∷ []) (0 ∷ 0 ∷ 7 ∷ [])
+  pub no-rays : reportT indicesT lossesT [] ≡ reportIs (totalled 0) (7 ∷ 7 ∷ 7 ∷ []) (0 ∷ 0 ∷ 7 ∷ [])
   -- a fault of one ray, a ray that is not accepted, losses that do not fit, rays of another length
-  pub fault : reported (0 ∷ 2 ∷ []) lossesT twoRays ≡ refusedWith 10
-  pub ray-nan : reported indicesT lossesT (packedTo nan) ≡ refusedWith 9
-  pub losses-first : reported indicesT (3000 ∷ []) (packedTo nan) ≡ refusedWith 12
-  pub seven-floats : reported indicesT (3000 ∷ []) (drop 1 (packedTo nan)) ≡ refusedWith 1
+  pub fault : reportT (0 ∷ 2 ∷ []) lossesT twoRays ≡ refusedWith 10
+  pub ray-nan : reportT indicesT lossesT (packedTo nan) ≡ refusedWith 9
+  pub losses-first : reportT indicesT (3000 ∷ []) (packedTo nan) ≡ refusedWith 12
+  pub seven-floats : reportT indicesT (3000 ∷ []) (drop 1 (packedTo nan)) ≡ refusedWith 1
   -- no room for the totals of rays, or of panes
   pub ray-room : reportOf bytesT indicesT 2 lossesT twoRays (7 ∷ []) (7 ∷ 7 ∷ []) ≡ reportIs (refusedReport 4) (7 ∷ []) (7 ∷ 7 ∷ [])
   pub pane-room : reportOf bytesT indicesT 2 lossesT twoRays (7 ∷ 7 ∷ []) (7 ∷ []) ≡ reportIs (refusedReport 4) (7 ∷ 7 ∷ []) (7 ∷ [])

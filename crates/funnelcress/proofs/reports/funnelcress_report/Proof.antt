@@ -1,4 +1,4 @@
-use Rattle.funnelcress.proofs.ReportNumbers.{number-reported}
+use Rattle.funnelcress.proofs.ReportNumbers.{number-handed-report}
 use borrow.Author.Needs.{needs}
 use Rattle.funnelcress.proofs.reports.funnelcress_report.Statement.{statement}
 use Rattle.funnelcress.proofs.reports.funnelcress_report.Tie as tie
@@ -18,7 +18,7 @@ same-length-2 c = search needs
 returns : tie.Need-returns
 returns c =
     let back3 = c .before .before .before in
-    number-reported _ _ _ _ _ (c .report-number .ensures) (back3 .before .before .report .ensures)
+    number-handed-report _ _ _ _ _ (c .report-number .ensures) (back3 .before .before .report .ensures)
 
 pub funnelcress-report-spec : {M : Type 1} → statement M
 funnelcress-report-spec =
