@@ -103,7 +103,7 @@ module _ (bytes indices : List ℕ) (panes : ℕ) (losses : List ℕ) (rays : Li
           omega (
             arith,
             f .1,
-            sum-most (testsBy bytes indices panes losses rays) 65535
+            sum-most (testsBy bytes indices rays) 65535
                 (λ i. tests-few bytes (length indices) (rayIn rays i) (f .0)) (rayCount rays),
           )
       go (suc k) l h = l

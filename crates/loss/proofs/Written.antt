@@ -49,7 +49,7 @@ front-again s a b e =
 
 module _ (bytes indices : List ℕ) (panes : ℕ) (losses : List ℕ) (rays : List Float) where
   abbrev met : ℕ → List ℕ
-  met = metBy bytes indices panes losses rays
+  met = metBy bytes indices rays
 
   abbrev Totals : (i tests : ℕ) → (rayBefore paneBefore rayTotals paneTotals : List ℕ) → Type 0
   Totals = Totalling bytes indices panes losses rays
@@ -100,7 +100,7 @@ module _ (bytes indices : List ℕ) (panes : ℕ) (losses : List ℕ) (rays : Li
     pane-words = ap length (T .of-panes) ∙ words-length i
 
     pub ray-words : i ≤ length rayBefore → length rayTotals ≡ length rayBefore
-    ray-words h = ap length (T .of-rays) ∙ front-length rayBefore (rayTotal indices losses met i) i h
+    ray-words h = ap length (T .of-rays) ∙ front-length rayBefore (rayTotal indices losses met) i h
 
     -- the loss of each pane met is added
     next-panes : allThere panes (panesMet indices (met i)) ≡ true
@@ -123,26 +123,26 @@ module _ (bytes indices : List ℕ) (panes : ℕ) (losses : List ℕ) (rays : Li
             omega (arith, word-past i k (omega arith), word-past (i + 1) k (omega arith), ap (λ (x : ℕ). x * getD losses k 0) z)
 
     pub totals-next : i < length rayBefore → allThere panes (panesMet indices (met i)) ≡ true → (rayTotals₁ paneTotals₁ : List ℕ) (made : ℕ)
-        → made ≡ testsBy bytes indices panes losses rays i → rayTotals₁ ≡ set rayTotals i (rayTotal indices losses met i i)
+        → made ≡ testsBy bytes indices rays i → rayTotals₁ ≡ set rayTotals i (rayTotal indices losses met i)
         → paneTotals₁ ≡ charged losses paneTotals (panesMet indices (met i))
         → Totals (i + 1) (tests + made) rayBefore paneBefore rayTotals₁ paneTotals₁
     totals-next h there rayTotals₁ paneTotals₁ made t e f =
         let here : i ≡ 0 + i = omega arith in
         record {
-          tested = omega (arith, T .tested, t, one-more (testsBy bytes indices panes losses rays) i);
+          tested = omega (arith, T .tested, t, one-more (testsBy bytes indices rays) i);
           of-rays =
-              written-next rayBefore 0 i 1 (values (rayTotal indices losses met i) i) (rayTotal indices losses met i i ∷ []) rayTotals rayTotals₁
-              (values-length (rayTotal indices losses met i) i) refl (omega arith) (T .of-rays)
-              (e ∙ set-splice rayTotals i (rayTotal indices losses met i i) (omega (arith, h, ray-words (omega arith)))
-              ∙ ap (λ (j : ℕ). splice rayTotals j (rayTotal indices losses met i i ∷ [])) here)
-              ∙ ap (splice rayBefore 0) (sym (values-next (rayTotal indices losses met i) i));
+              written-next rayBefore 0 i 1 (values (rayTotal indices losses met) i) (rayTotal indices losses met i ∷ []) rayTotals rayTotals₁
+              (values-length (rayTotal indices losses met) i) refl (omega arith) (T .of-rays)
+              (e ∙ set-splice rayTotals i (rayTotal indices losses met i) (omega (arith, h, ray-words (omega arith)))
+              ∙ ap (λ (j : ℕ). splice rayTotals j (rayTotal indices losses met i ∷ [])) here)
+              ∙ ap (splice rayBefore 0) (sym (values-next (rayTotal indices losses met) i));
           of-panes = f ∙ ap (λ (l : List ℕ). charged losses l (panesMet indices (met i))) (T .of-panes) ∙ next-panes there;
         }
 
     -- ---- bounds
 
     -- no pane is met more often than positions are
-    times-few : nodeCount bytes ≤ 65535 → (k : ℕ) → timesMet indices losses met i k ≤ i * 1638376
+    times-few : nodeCount bytes ≤ 65535 → (k : ℕ) → timesMet indices met i k ≤ i * 1638376
     times-few few k =
         sum-most (λ j. count k (panesMet indices (met j))) 1638376
         (λ j. omega (
@@ -171,12 +171,12 @@ module _ (bytes indices : List ℕ) (panes : ℕ) (losses : List ℕ) (rays : Li
       T .of-panes ∙ ap (λ (j : ℕ). splice (cleared ++ drop j paneBefore) 0 v) (sym z)
       ∙ front-again paneBefore cleared v (z ∙ sym (values-length (paneTotal indices losses met i) panes)) in
       ap (λ (t : ℕ). written t rayTotals paneTotals) (T .tested)
-      ∙ ap₂ (written (sum (testsBy bytes indices panes losses rays) i)) (T .of-rays) f ∙ ap after e
+      ∙ ap₂ (written (sum (testsBy bytes indices rays) i)) (T .of-rays) f ∙ ap after e
     where
       written : ℕ → List ℕ → List ℕ → Report
       written t r p = record { answer = totalled t; rayTotals = r; paneTotals = p }
 
       after : ℕ → Report
       after j =
-          written (sum (testsBy bytes indices panes losses rays) j) (splice rayBefore 0 (values (rayTotal indices losses met j) j))
+          written (sum (testsBy bytes indices rays) j) (splice rayBefore 0 (values (rayTotal indices losses met) j))
           (splice paneBefore 0 (values (paneTotal indices losses met j) panes))

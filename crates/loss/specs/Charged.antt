@@ -53,6 +53,6 @@ pub record Entered (bytes indices : List ℕ) (panes : ℕ) (losses : List ℕ) 
 -- so many rays of a report have walked: their tests, and both slices with their totals on top of what was there
 pub record Totalling (bytes indices : List ℕ) (panes : ℕ) (losses : List ℕ) (rays : List Float) (i tests : ℕ)
     (rayBefore paneBefore rayTotals paneTotals : List ℕ) : Type 0 where
-  pub tested : tests ≡ sum (testsBy bytes indices panes losses rays) i
-  pub of-rays : rayTotals ≡ splice rayBefore 0 (values (rayTotal indices losses (metBy bytes indices panes losses rays) i) i)
-  pub of-panes : paneTotals ≡ splice paneBefore 0 (values (paneTotal indices losses (metBy bytes indices panes losses rays) i) panes)
+  pub tested : tests ≡ sum (testsBy bytes indices rays) i
+  pub of-rays : rayTotals ≡ splice rayBefore 0 (values (rayTotal indices losses (metBy bytes indices rays)) i)
+  pub of-panes : paneTotals ≡ splice paneBefore 0 (values (paneTotal indices losses (metBy bytes indices rays) i) panes)

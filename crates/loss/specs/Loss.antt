@@ -73,20 +73,26 @@ unfoldable pub isSummed : LossAnswer → Bool
 isSummed (summed loss) = true
 isSummed (refused number) = false
 
--- ---- totals, by the positions that each of so many rays meets
+-- ---- totals, by the positions that each ray meets
 
-module _ (indices losses : List ℕ) (met : ℕ → List ℕ) (rays : ℕ) where
-  -- a ray's: the losses of all positions that it meets
-  abbrev pub rayTotal : ℕ → ℕ
-  rayTotal i = sumOver (lossAt indices losses) (met i)
+-- a ray's: the losses of all positions that it meets
+abbrev pub rayTotal : (indices losses : List ℕ) → (met : ℕ → List ℕ) → ℕ → ℕ
+rayTotal indices losses met i = sumOver (lossAt indices losses) (met i)
 
-  -- how often all rays together meet pane k
-  abbrev pub timesMet : ℕ → ℕ
-  timesMet k = sum (λ i. count k (panesMet indices (met i))) rays
+-- how often so many rays together meet pane k
+abbrev pub timesMet : List ℕ → (met : ℕ → List ℕ) → (rays k : ℕ) → ℕ
+timesMet indices met rays k = sum (λ i. count k (panesMet indices (met i))) rays
 
-  -- a pane's: its loss as often as it is met
-  abbrev pub paneTotal : ℕ → ℕ
-  paneTotal k = timesMet k * getD losses k 0
+-- a pane's: its loss as often as it is met
+abbrev pub paneTotal : (indices losses : List ℕ) → (met : ℕ → List ℕ) → (rays k : ℕ) → ℕ
+paneTotal indices losses met rays k = timesMet indices met rays k * getD losses k 0
+
+-- of a list of rays: the positions that ray i meets, and its node tests
+abbrev pub metBy : (bytes indices : List ℕ) → List Float → ℕ → List ℕ
+metBy bytes indices rays i = positionsMet bytes (length indices) (rayIn rays i)
+
+abbrev pub testsBy : (bytes indices : List ℕ) → List Float → ℕ → ℕ
+testsBy bytes indices rays i = testsMade bytes (length indices) (rayIn rays i)
 
 -- ---- a report
 
@@ -102,14 +108,7 @@ pub record Report : Type 0 where
   pub paneTotals : List ℕ
 
 module _ (bytes indices : List ℕ) (panes : ℕ) (losses : List ℕ) (rays : List Float) where
-  -- the positions that ray i of the list meets, and its node tests
-  abbrev pub metBy : ℕ → List ℕ
-  metBy i = positionsMet bytes (length indices) (rayIn rays i)
-
-  abbrev pub testsBy : ℕ → ℕ
-  testsBy i = testsMade bytes (length indices) (rayIn rays i)
-
-  -- its walk has no fault
+  -- the walk of ray i has no fault
   unfoldable pub walksBy : ℕ → Bool
   unfolding rayIn lossWalked isSummed
   walksBy i = isSummed (lossWalked bytes indices panes losses (rayIn rays i) .answer)
@@ -135,9 +134,9 @@ module _ (bytes indices : List ℕ) (panes : ℕ) (losses : List ℕ) (rays : Li
   totalsIn rayTotals paneTotals =
       let n = rayCount rays in
       record {
-        answer = totalled (sum testsBy n);
-        rayTotals = splice rayTotals 0 (values (rayTotal indices losses metBy n) n);
-        paneTotals = splice paneTotals 0 (values (paneTotal indices losses metBy n) panes);
+        answer = totalled (sum (testsBy bytes indices rays) n);
+        rayTotals = splice rayTotals 0 (values (rayTotal indices losses (metBy bytes indices rays)) n);
+        paneTotals = splice paneTotals 0 (values (paneTotal indices losses (metBy bytes indices rays) n) panes);
       }
 
   -- a refusal leaves both as they were
