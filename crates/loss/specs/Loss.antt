@@ -50,16 +50,13 @@ pub data LossAnswer : Type 0 where
   refused : (number : ℕ) → LossAnswer
 
 module _ (bytes indices : List ℕ) (panes : ℕ) (losses : List ℕ) (r : Ray) where
-  abbrev found : List ℕ
-  found = positionsMet bytes (length indices) r
-
   -- What the walk gives: the sum over the positions met. One whose index word names no pane is cause 10, as a fault of the walk is, whichever comes
   -- first.
   unfoldable pub lossWalked : Result LossAnswer
   unfolding allThere sumOver walked
   lossWalked =
       let o = walkMet bytes (length indices) r in
-      cond (allThere panes (panesMet indices found))
+      cond (allThere panes (panesMet indices (o .accumulator)))
       (walked refused (λ met tests. record { answer = summed (sumOver (lossAt indices losses) met); tests = tests }) o (o .ended))
       (unanswered (refused 10))
 
