@@ -48,6 +48,21 @@ unsafe extern "C" {
         out: *mut f32,
         out_len: usize,
     ) -> u64;
+    fn funnelcress_report(
+        record: *const u8,
+        record_len: usize,
+        indices: *const u32,
+        indices_len: usize,
+        panes: usize,
+        losses: *const u32,
+        losses_len: usize,
+        rays: *const f32,
+        rays_len: usize,
+        ray_totals: *mut u64,
+        ray_totals_len: usize,
+        pane_totals: *mut u64,
+        pane_totals_len: usize,
+    ) -> u64;
     fn funnelcress_miss(
         record: *const u8,
         record_len: usize,
@@ -146,6 +161,30 @@ pub fn any_hit(record: &[u8], n: usize, ray: &[f32; 8], list: &mut [u32]) -> (u3
     let (tests, kind, count) = parts(x);
     assert_eq!(kind, 0);
     (count, tests)
+}
+
+/// The node tests of all rays of a report over as many panes as losses.
+#[inline(always)]
+pub fn report(record: &[u8], indices: &[u32], losses: &[u32], rays: &[f32], ray_totals: &mut [u64], pane_totals: &mut [u64]) -> u64 {
+    let x = unsafe {
+        funnelcress_report(
+            record.as_ptr(),
+            record.len(),
+            indices.as_ptr(),
+            indices.len(),
+            losses.len(),
+            losses.as_ptr(),
+            losses.len(),
+            rays.as_ptr(),
+            rays.len(),
+            ray_totals.as_mut_ptr(),
+            ray_totals.len(),
+            pane_totals.as_mut_ptr(),
+            pane_totals.len(),
+        )
+    };
+    assert!(x < 1 << 32);
+    x
 }
 
 /// Position and distance, and the node tests.

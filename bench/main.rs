@@ -6,6 +6,7 @@ mod conversions;
 mod nodes;
 mod queries;
 mod records;
+mod reports;
 mod timing;
 mod trees;
 
@@ -24,13 +25,14 @@ mod tree;
 
 /// The modules that arguments name, or all: see bench/README.md.
 fn main() {
-    let parts: [(&str, fn()); 6] = [
+    let parts: [(&str, fn()); 7] = [
         ("boxes", boxes::rows),
         ("nodes", nodes::rows),
         ("trees", trees::rows),
         ("conversions", conversions::rows),
         ("records", records::rows),
         ("queries", queries::rows),
+        ("reports", reports::rows),
     ];
     let names: Vec<String> = std::env::args().skip(1).filter(|a| parts.iter().any(|(name, _)| a == name)).collect();
     for (name, rows) in parts {

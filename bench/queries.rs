@@ -12,10 +12,10 @@ use obvhs::ray::{Ray, RayHit};
 use std::hint::black_box;
 
 /// A record with its panes, both ways.
-struct Scene {
+pub struct Scene {
     name: String,
-    record: Vec<u8>,
-    list: Vec<u32>,
+    pub record: Vec<u8>,
+    pub list: Vec<u32>,
     panes: Vec<f32>,
     bvh: CwBvh,
     boxes: Vec<Aabb>,
@@ -42,7 +42,7 @@ fn panes(t: &Tree) -> Vec<Aabb> {
     boxes
 }
 
-fn scene(leaves: usize, boxes: Boxes) -> Scene {
+pub fn scene(leaves: usize, boxes: Boxes) -> Scene {
     let mut t = tree(&mut Rng::new(7), leaves, Shape::Balanced, boxes);
     t.indices = (0..leaves as u32).collect();
     let c = convert(&t, 3, true);
@@ -63,7 +63,7 @@ fn published(r: &[f32; 8]) -> Ray {
 }
 
 /// A ray from about the tree towards a point of it, some with a short reach.
-fn ray(rng: &mut Rng) -> [f32; 8] {
+pub fn ray(rng: &mut Rng) -> [f32; 8] {
     let from = [(); 3].map(|_| rng.between(-20.0, 20.0));
     let to = [rng.between(-8.0, 8.0), rng.between(-4.0, 4.0), rng.between(0.0, 2.0)];
     let reach = if rng.once_in(2) { f32::INFINITY } else { rng.between(0.0, 1.2) };
@@ -99,7 +99,7 @@ fn timed(name: &str, rays: usize, tests: u64, ours: &mut dyn FnMut(), rust: &mut
 
 /// The published any-hit, with what is done to each position.
 #[inline(always)]
-fn any_hit(s: &Scene, r: &[f32; 8], mut met: impl FnMut(u32)) {
+pub fn any_hit(s: &Scene, r: &[f32; 8], mut met: impl FnMut(u32)) {
     s.bvh.ray_traverse_anyhit(published(r), |_, id| met(id as u32));
 }
 

@@ -1,4 +1,4 @@
-/* A small house from C: its tree converted, the record checked, and a ray asked for what it meets.
+/* A small house from C: its tree converted, the record checked, a ray asked for what it meets, and a report of two rays.
  *
  *   rt staticlib funnelcress
  *   cc -std=c11 -O2 -Iinclude examples/house.c target/staticlib/libfunnelcress.a -o target/house && target/house */
@@ -17,6 +17,9 @@ static const float panes[PANES][6] = {
 };
 
 static const char *names[PANES] = {"south wall", "north wall", "west wall", "east wall", "south roof", "north roof"};
+
+/* What each takes from a ray, in thousandths of a decibel. */
+static const uint32_t losses[PANES] = {458, 458, 458, 458, 706, 706};
 
 /* What a call was refused for ends the program. */
 static uint64_t unless_refused(const char *call, uint64_t number) {
@@ -92,6 +95,21 @@ static void walk(const uint8_t *record, size_t length, const uint32_t *list, con
     }
 }
 
+/* What a ray and the same towards the north lose, and what each pane takes from both. */
+static void report(const uint8_t *record, size_t length, const uint32_t *list, const float *ray) {
+    float rays[2][8];
+    uint64_t ray_totals[2], pane_totals[PANES];
+    memcpy(rays[0], ray, sizeof rays[0]);
+    memcpy(rays[1], ray, sizeof rays[1]);
+    rays[1][4] = -ray[4];
+    uint64_t number = unless_refused("report", funnelcress_report(record, length, list, PANES, PANES, losses, PANES, rays[0], 16,
+                                                                  ray_totals, 2, pane_totals, PANES));
+    printf("two rays lose %.3f and %.3f dB, by %u node tests\n", ray_totals[0] / 1e3, ray_totals[1] / 1e3, funnelcress_value(number));
+    for (int k = 0; k < PANES; k++) {
+        printf("%s takes %.3f dB\n", names[k], pane_totals[k] / 1e3);
+    }
+}
+
 int main(void) {
     uint8_t record[80 * PANES];
     uint32_t list[PANES], met[PANES];
@@ -109,6 +127,7 @@ int main(void) {
     }
     uint64_t miss = unless_refused("miss", funnelcress_miss(record, length, list, PANES, panes[0], 6 * PANES, ray, 8));
     printf("the sun %s\n", funnelcress_kind(miss) == 0 ? "is seen" : "is behind glass");
+    report(record, length, list, ray);
     printf("no nodes, NULL for empty slices: %u positions\n",
            funnelcress_value(unless_refused("any-hit", funnelcress_any_hit(NULL, 0, 0, ray, 8, NULL, 0))));
     return 0;

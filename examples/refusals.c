@@ -16,6 +16,7 @@ static uint32_t words[21], indices[2] = {0, 1};
 static uint32_t decisions[MOST], list[MOST], work[MOST];
 static float costs[MOST], out[MOST];
 static uint8_t record[MOST];
+static uint64_t ray_totals[MOST], pane_totals[MOST];
 static int failures;
 
 /* A sample tree of two leaves in `words`, and patterns in all that is lent. */
@@ -31,6 +32,8 @@ static void fresh(void) {
     memset(list, 0xa5, sizeof list);
     memset(work, 0xa5, sizeof work);
     memset(out, 0xa5, sizeof out);
+    memset(ray_totals, 0xa5, sizeof ray_totals);
+    memset(pane_totals, 0xa5, sizeof pane_totals);
 }
 
 /* Whether the bytes from a place on are as `fresh` left them. */
@@ -103,6 +106,39 @@ static void queries(const uint8_t *good, const uint32_t *good_list) {
     expect("miss, panes of seven floats", 1, funnelcress_miss(good, 80, good_list, 2, T[1], 7, along, 8), 1);
 }
 
+/* A report of two rays for two panes, with so many floats, losses and room: refused, and both totals untouched. */
+static void report(const char *call, uint32_t cause, const uint8_t *bytes, const uint32_t *good_list, const float *rays, size_t floats,
+                   const uint32_t *losses, size_t losses_len, size_t room) {
+    uint64_t number =
+        funnelcress_report(bytes, 80, good_list, 2, 2, losses, losses_len, rays, floats, ray_totals, room, pane_totals, 2);
+    expect(call, cause, number, kept(ray_totals, 0, sizeof ray_totals) && kept(pane_totals, 0, sizeof pane_totals));
+}
+
+static void reports(const uint8_t *good, const uint32_t *good_list) {
+    static float many[8 * 65537];
+    const uint32_t losses[3] = {3000, 1000000, 1000001}, past[2] = {0, 2};
+    float rays[2][8];
+    uint8_t bad[80];
+    memcpy(rays[0], along, sizeof along);
+    memcpy(rays[1], along, sizeof along);
+    memcpy(bad, good, sizeof bad);
+    bad[12] = 255;
+    report("report, rays of fifteen floats", 1, good, good_list, rays[0], 15, losses, 2, 2);
+    report("report, 65,537 rays", 2, good, good_list, many, 8 * 65537, losses, 2, 2);
+    report("report, room for one ray", 4, good, good_list, rays[0], 16, losses, 2, 1);
+    report("report, three losses for two panes", 12, good, good_list, rays[0], 16, losses, 3, 2);
+    report("report, a loss of 1,000,001", 12, good, good_list, rays[0], 16, losses + 1, 2, 2);
+    report("report, an index past the panes", 10, good, past, rays[0], 16, losses, 2, 2);
+    report("report, a damaged record", 10, bad, good_list, rays[0], 16, losses, 2, 2);
+    rays[1][7] = NAN;
+    report("report, tmax of the last ray a NaN", 9, good, past, rays[0], 16, losses, 2, 2);
+    rays[1][7] = 2.5f;
+    uint64_t number = funnelcress_report(good, 80, good_list, 2, 2, losses, 2, rays[0], 16, ray_totals, 2, pane_totals, 2);
+    int totals = ray_totals[0] == 1003000 && ray_totals[1] == 3000 && pane_totals[0] == 6000 && pane_totals[1] == 1000000;
+    int past_kept = kept(ray_totals, 16, sizeof ray_totals) && kept(pane_totals, 16, sizeof pane_totals);
+    expect("report, nothing wrong", 0, number, totals && past_kept && number == 2);
+}
+
 static void walkers(const uint8_t *good) {
     funnelcress_walker w, before;
     memset(&w, 0xa5, sizeof w);
@@ -157,6 +193,7 @@ int main(void) {
     }
     fresh();
     queries(good, good_list);
+    reports(good, good_list);
     walkers(good);
     zeros(good);
     printf("%d wrong\n", failures);

@@ -10,7 +10,7 @@
  * - Any values are allowed in the slices. What can't be used is refused, with a number that says why:
  *     1  some length is wrong for its layout (tree 7 words a node, record 80 bytes a node, pane 6 floats, ray 8), or the
  *        tree has not 2n - 1 nodes
- *     2  more than 65,536 positions or 65,535 record nodes
+ *     2  more than 65,536 positions, 65,535 record nodes or 65,536 rays of a report
  *     3  the leaf limit exceeds 3, or the order is neither 0 nor 1
  *     4  too little room was lent for outputs or work
  *     5  a link of no known kind, or one that leads out of the tree or the index list
@@ -20,7 +20,8 @@
  *     9  a ray whose origin or direction is not finite or past 2^40 either way, or whose tmin or tmax is a NaN
  *    10  a damaged record, an index that names no pane, or a forged walker
  *    11  any-hit meets more positions than its list has room for
- *   Causes are looked at in rising number; those of a walk come where the walk meets them.
+ *    12  losses that are not one for each pane, or one over 1,000,000
+ *   Causes are looked at in rising number, but 12 right after 6; those of a walk come where the walk meets them.
  * - Zeros of a ray's origin and direction have no sign: -0.0 there is read as +0.0. tmin and tmax are read as they are.
  * - Unless said otherwise a refused call leaves all slices as they were, and no call writes past what it says.
  *
@@ -42,6 +43,8 @@ extern "C" {
 #define FUNNELCRESS_PANE_FLOATS 6      /* min x y z, max x y z */
 #define FUNNELCRESS_MAX_POSITIONS 65536
 #define FUNNELCRESS_MAX_NODES 65535
+#define FUNNELCRESS_MAX_RAYS 65536     /* rays of a report */
+#define FUNNELCRESS_MAX_LOSS 1000000   /* a pane's loss, in thousandths of a decibel */
 #define FUNNELCRESS_WALKER_HEAD 18     /* words of a walker's state */
 #define FUNNELCRESS_WALKER_STACK 32    /* and of its stack */
 
@@ -108,6 +111,21 @@ uint64_t funnelcress_closest(const uint8_t *record, size_t record_len, const uin
  * Refusals: 1, 2, 6, 9, 10. */
 uint64_t funnelcress_miss(const uint8_t *record, size_t record_len, const uint32_t *indices, size_t indices_len,
                           const float *panes, size_t panes_len, const float *ray, size_t ray_len);
+
+/* A report over many rays: what each ray loses to the panes that it meets, and what each pane takes from all rays.
+ *   indices    the index list of the record, a word a position; read
+ *   panes      how many panes there are; a position's pane is the one that its index word names
+ *   losses     a word for each pane: its loss in thousandths of a decibel, 0 to FUNNELCRESS_MAX_LOSS; read
+ *   rays       8 floats each, at most FUNNELCRESS_MAX_RAYS rays; read
+ *   ray_totals     a word for each ray, or more: what all positions that it passes take from it, in the order of the rays
+ *   pane_totals    a word for each pane, or more: its loss times how often all rays pass a position of it
+ * Returns kind 0 with the node tests of all rays as its value, or kind 2. Written then: the front of both totals, nothing
+ * past it; the two add up to the same, and 64 bits hold every total. Refused, it writes nothing, whichever ray was at
+ * fault. Refusals, looked at in this order: 1, 2, 4, 12, 9 for any ray, and then 10, where a ray meets a damaged node or
+ * an index word that names none of the panes. */
+uint64_t funnelcress_report(const uint8_t *record, size_t record_len, const uint32_t *indices, size_t indices_len,
+                            size_t panes, const uint32_t *losses, size_t losses_len, const float *rays, size_t rays_len,
+                            uint64_t *ray_totals, size_t ray_totals_len, uint64_t *pane_totals, size_t pane_totals_len);
 
 /* A walker: a ray walked step by step, for a caller with a pane test of its own. It is kept in words that the caller
  * lends, which are opaque and may be copied and kept. Neither pointer may be NULL. */

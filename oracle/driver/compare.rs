@@ -5,11 +5,13 @@ use crate::conversions::some_tree;
 use crate::convert::{Converted, convert};
 use crate::generate::{BOXES, Shape, tree};
 use crate::calls::{agreed_walk, told};
+use crate::loss::Call;
 use crate::queries::{aimed, scene};
 use crate::record::{Verdict, check};
 use crate::rng::Rng;
 use crate::tree::Tree;
 use crate::zeros::Share;
+use obvhs::ray::Ray;
 
 /// A tree of some hundred leaves.
 fn large_tree(rng: &mut Rng, k: usize) -> Tree {
@@ -18,18 +20,46 @@ fn large_tree(rng: &mut Rng, k: usize) -> Tree {
 }
 
 /// The rays compared, and what came of them.
-#[derive(Default)]
 struct Rays {
     share: Share,
     count: u32,
     hits: u32,
     tests: u64,
+    losses: Losses,
+}
+
+/// The reports compared, their rays, how many of these lose something, and all losses together. Losses are drawn apart from trees
+/// and rays.
+struct Losses {
+    rng: Rng,
+    reports: u32,
+    rays: usize,
+    losing: usize,
+    sum: u64,
+}
+
+impl Losses {
+    /// A report of these rays over a tree's record by both, with one ray given twice.
+    fn compare(&mut self, c: &Converted, mut rays: Vec<Ray>) {
+        rays.push(rays[0]);
+        let report = Call::new(&mut self.rng, &c.record, &c.list, &rays).agreed();
+        self.reports += 1;
+        self.rays += rays.len();
+        self.losing += report.rays.iter().filter(|&&sum| sum > 0).count();
+        self.sum += report.rays.iter().sum::<u64>();
+    }
 }
 
 impl Rays {
-    /// Twenty rays over a tree's record: queries and steps by both.
+    fn new(seed: u64) -> Rays {
+        let losses = Losses { rng: Rng::new(seed), reports: 0, rays: 0, losing: 0, sum: 0 };
+        Rays { share: Share::default(), count: 0, hits: 0, tests: 0, losses }
+    }
+
+    /// Twenty rays over a tree's record: queries, steps and losses by both.
     fn compare(&mut self, rng: &mut Rng, t: &Tree, c: &Converted) {
         let s = scene(rng, t, c);
+        let mut rays = vec![];
         for _ in 0..20 {
             let r = aimed(rng, t, &c.record);
             let told = told(rng, &r);
@@ -39,20 +69,24 @@ impl Rays {
             self.count += 1;
             self.hits += !a.closest.found.is_empty() as u32;
             self.tests += a.any.tests as u64;
+            rays.push(r);
         }
+        self.losses.compare(c, rays);
     }
 
     fn print(&self) {
-        let Rays { share, count, hits, tests } = self;
+        let Rays { share, count, hits, tests, losses } = self;
         println!("rays: {count}, of which {hits} hit a pane; node tests of any-hit: {tests}");
         println!("in all {share} pass something");
+        let Losses { reports, rays, losing, sum, .. } = losses;
+        println!("reports of losses: {reports} of {rays} rays, of which {losing} lose something; all losses: {sum}");
     }
 }
 
 pub fn run(seed: u64, trees: usize) -> bool {
     let mut rng = Rng::new(seed);
     let rng = &mut rng;
-    let (mut converted, mut deep, mut rays) = (0, 0, Rays::default());
+    let (mut converted, mut deep, mut rays) = (0, 0, Rays::new(seed));
     let (mut sound, mut damaged, mut laxer, mut stricter) = (0, 0, 0, 0);
     for k in 0..trees {
         let t = if k % 50 == 0 { large_tree(rng, k) } else { some_tree(rng, k) };

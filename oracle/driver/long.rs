@@ -28,7 +28,7 @@ fn later(r: &Ray, n: usize) -> Ray {
 }
 
 /// The record of a row of boxes, a few of which are its panes.
-fn row(n: u32, seed: u32, limit: u32, order: bool) -> Scene {
+pub fn row(n: u32, seed: u32, limit: u32, order: bool) -> Scene {
     let made = Made { n, seed, reach: 64 };
     let mut t = made.tree();
     t.indices.iter_mut().for_each(|x| *x %= PANES);

@@ -13,6 +13,9 @@ mod generate;
 mod large;
 mod leaves;
 mod long;
+mod loss;
+mod loss_sizes;
+mod losses;
 mod made;
 mod nodes;
 mod odd;
@@ -54,6 +57,7 @@ fn store(folder: &str) -> bool {
     store::write(&at("queries"), &queries.into_iter().flatten().collect::<Vec<_>>());
     store::write(&at("steps"), &calls::groups(SEED + 10));
     store::write(&at("large"), &large::groups(SEED + 11));
+    store::write(&at("losses"), &losses::groups(SEED + 12));
     store::write(&at("showrecord"), &show::groups(SEED + 4));
     store::write(&at("nodes"), &nodes::groups(SEED + 6));
     store::write(&at("children"), &children::groups(SEED + 7));

@@ -3,6 +3,8 @@ use crate::accept::{Room, accepted_box, conversion_refusal};
 use crate::calls::agreed_walk;
 use crate::convert::{Converted, bvh_of, convert};
 use crate::generate::{Boxes, chain};
+use crate::loss::{Call, RayLoss, Report};
+use crate::losses::{refused_samples, sample, sample_rays};
 use crate::query;
 use crate::scene::{Asked, Scene, endless, through_t};
 use crate::show::{input_of, shown, showrecord};
@@ -89,6 +91,23 @@ fn negative_zeros(all: &mut Tally) {
     all.holds("S7 a walker with -0.0 in y, inverse -2^23, octant 7: refused 10 (by the rules)", agrees && steps == [Step::Refused(10)]);
 }
 
+/// Losses of T's panes, by the published positions and by the rules.
+fn losses(all: &mut Tally) {
+    let [ray, short] = sample_rays();
+    let (one, two) = (sample(&[ray]), sample(&[ray, short]));
+    let single = |c: &Call| [c.agreed().rays[0], c.loss(&ray).sum, c.loss(&ray).tests as u64];
+    all.holds("losses 3000 and 500: 3500 by one test", single(&one) == [3500, 3500, 1]);
+    all.holds("the same with indices 1 and 1: 1000", single(&Call { list: vec![1, 1], ..one.clone() }) == [1000, 1000, 1]);
+    let totals = Report { refusal: 0, tests: 2, rays: vec![3500, 3000], panes: vec![6000, 500] };
+    all.holds("a report of that ray and of one to 2.5: rays 3500 and 3000, panes 6000 and 500", two.agreed() == totals);
+    let refused = refused_samples().map(|(c, refusal)| {
+        let single = RayLoss { refusal, ..Default::default() };
+        c.report() == Report { refusal, ..Default::default() } && c.singles() == [single]
+    });
+    all.holds("three losses for two panes: 12, with tmax NaN too (by the rules)", refused[0] && refused[1]);
+    all.holds("the same with a record of 79 bytes: 1 (by the rules)", refused[2]);
+}
+
 const T_LINES: &str = "0 0000000000000000000000007978780001000000000000002021000000000000008000000000000040c00000000000000000000000000000808000000000000000000000000000008080000000000000\nindices 0 1\n";
 
 /// What conversion writes for T, and e bytes.
@@ -136,5 +155,6 @@ pub fn run() -> bool {
     );
     all.holds("S12 T's record line", shown(&c) == T_LINES && showrecord(&input_of(&t, 3, 0)) == T_LINES);
     near_limits(&mut all);
+    losses(&mut all);
     all.failed == 0
 }

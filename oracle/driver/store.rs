@@ -34,6 +34,8 @@ pub const STEP_SIZES: u32 = 39;
 pub const SHOWRECORD: u32 = 40;
 pub const CHECKRECORD: u32 = 41;
 pub const LARGE_TREES: u32 = 42;
+pub const LOSSES: u32 = 43;
+pub const LOSS_SIZES: u32 = 44;
 
 pub struct Group {
     pub kind: u32,

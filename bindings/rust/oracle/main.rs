@@ -21,6 +21,9 @@ mod generate;
 #[path = "../../../oracle/driver/leaves.rs"]
 mod leaves;
 #[allow(dead_code)]
+#[path = "../../../oracle/driver/loss.rs"]
+mod loss;
+#[allow(dead_code)]
 #[path = "../../../oracle/driver/odd.rs"]
 mod odd;
 #[allow(dead_code)]
@@ -32,6 +35,7 @@ mod query;
 #[allow(dead_code)]
 #[path = "../../../oracle/driver/record.rs"]
 mod record;
+mod reports;
 #[allow(dead_code)]
 #[path = "../../../oracle/driver/rng.rs"]
 mod rng;
@@ -84,6 +88,8 @@ struct Counts {
     rays: Share,
     refused: usize,
     steps: usize,
+    reports: usize,
+    refused_reports: usize,
 }
 
 fn ours(r: &Ray) -> funnelcress::Ray {
@@ -251,7 +257,7 @@ fn one_ray(rng: &mut Rng, t: &Tree, s: &Scene, hurt: &Scene, n: usize, counts: &
     counts.rays.note(&r, !answers.any.found.is_empty());
 }
 
-fn one_tree(rng: &mut Rng, k: usize, counts: &mut Counts) {
+fn one_tree(rng: &mut Rng, reported: &mut Rng, k: usize, counts: &mut Counts) {
     let t = some_tree(rng, k);
     let n = t.indices.len();
     let (limit, order) = (rng.below(4) as u32, rng.once_in(2));
@@ -272,18 +278,22 @@ fn one_tree(rng: &mut Rng, k: usize, counts: &mut Counts) {
         same_verdict(&hurt.record, m);
         counts.damaged += 1;
         one_ray(rng, &t, &s, &hurt, n, counts);
+        let [reports, refused] = reports::same_reports(reported, &t, &s, &hurt);
+        counts.reports += reports;
+        counts.refused_reports += refused;
     }
 }
 
 fn main() {
     let trees: usize = std::env::args().nth(1).and_then(|x| x.parse().ok()).unwrap_or(20_000);
     let mut counts = Counts::default();
-    let mut rng = Rng::new(16);
+    let (mut rng, mut reported) = (Rng::new(16), Rng::new(33));
     for k in 0..trees {
-        one_tree(&mut rng, k, &mut counts);
+        one_tree(&mut rng, &mut reported, k, &mut counts);
     }
-    let Counts { trees, deep, damaged, rays, refused, steps } = counts;
+    let Counts { trees, deep, damaged, rays, refused, steps, reports, refused_reports } = counts;
     println!("{trees} trees ({deep} refused 8), {damaged} damaged records, {rays} pass something: records, lists, verdicts,");
     println!("answers, distances and {steps} steps are the published Rust's, or the rules' where it has none ({refused} refusals of queries)");
+    println!("{reports} reports have the positions of the published any-hit added up, or the rules' refusal ({refused_reports})");
     assert!(rays.one_in(10));
 }

@@ -36,6 +36,18 @@ pub struct Closest {
     pub tests: u32,
 }
 
+/// What rays lose to the panes that they meet, in thousandths of a decibel, and the node tests made. The totals of the
+/// rays add up to those of the panes.
+#[derive(Clone, Debug, PartialEq, Eq)]
+pub struct Report {
+    /// For each ray, what all panes that it meets take from it.
+    pub rays: Vec<u64>,
+    /// For each pane, what it takes from all rays together.
+    pub panes: Vec<u64>,
+    /// How many nodes were tested, for all rays.
+    pub tests: u64,
+}
+
 /// Whether a ray meets no pane nearer than its reach, and the node tests made.
 #[derive(Clone, Copy, Debug, PartialEq, Eq)]
 pub struct Miss {

@@ -8,6 +8,10 @@ pub const MAX_POSITIONS: usize = 65_536;
 pub const MAX_NODES: usize = 65_535;
 /// The deepest level of a record.
 pub const MAX_LEVEL: u32 = 31;
+/// The most rays of a report.
+pub const MAX_RAYS: usize = 65_536;
+/// The greatest loss of a pane, in thousandths of a decibel.
+pub const MAX_LOSS: u32 = 1_000_000;
 
 /// The lengths that a tree of n leaves needs.
 ///

@@ -18,12 +18,15 @@
 //! let nearest = record.closest(&panes, &ray)?.hit.unwrap();
 //! assert_eq!((nearest.position, nearest.distance), (0, 1.0));
 //! assert!(!record.miss(&panes, &ray)?.missed);
+//!
+//! let report = record.report(panes.len(), &[3000, 500], &[ray, ray.reaching(2.5)])?;
+//! assert_eq!((report.rays, report.panes), (vec![3500, 3000], vec![6000, 500]));
 //! # Ok::<(), funnelcress::Refusal>(())
 //! ```
 //!
 //! Who would lend slices of its own calls the functions of [`sys`].
 //!
-//! Calls share no state: a [`Record`] may be asked from many threads at once ([`on_threads`]).
+//! Calls share no state: a [`Record`] may be asked from many threads at once ([`on_threads`], [`report_on_threads`]).
 #![warn(missing_docs)]
 
 mod answers;
@@ -37,10 +40,10 @@ pub mod sys;
 mod tree;
 mod walker;
 
-pub use answers::{AnyHit, Closest, Hit, Miss, Verdict};
+pub use answers::{AnyHit, Closest, Hit, Miss, Report, Verdict};
 pub use boxes::{entry_distances, half_areas};
-pub use lengths::{Lengths, MAX_LEVEL, MAX_NODES, MAX_POSITIONS, NODE_BYTES};
-pub use many::{cores, on_threads};
+pub use lengths::{Lengths, MAX_LEVEL, MAX_LOSS, MAX_NODES, MAX_POSITIONS, MAX_RAYS, NODE_BYTES};
+pub use many::{cores, on_threads, report_on_threads};
 pub use ray::Ray;
 pub use record::{Options, Pane, Record};
 pub use refusal::Refusal;

@@ -1,5 +1,5 @@
 //! Records: converted, checked, asked.
-use crate::answers::{AnyHit, Closest, Hit, Miss, Verdict};
+use crate::answers::{AnyHit, Closest, Hit, Miss, Report, Verdict};
 use crate::lengths::Lengths;
 use crate::ray::Ray;
 use crate::refusal::Refusal;
@@ -183,6 +183,49 @@ impl Record {
         };
         let answer = Refusal::unless(Number(number))?;
         Ok(Miss { missed: answer.kind() == 0, tests: answer.tests() })
+    }
+
+    /// What each ray loses to the panes that it meets, and what each of so many panes takes from all rays together. A
+    /// pane's loss is a whole number of thousandths of a decibel, and is taken as often as the pane is met.
+    ///
+    /// A fault of any ray refuses the whole report. Room is lent for as many panes as there are losses, or for 65,536: a
+    /// `panes` past both is refused 4 and not 12.
+    pub fn report(&self, panes: usize, losses: &[u32], rays: &[Ray]) -> Result<Report, Refusal> {
+        let mut ray_totals = vec![0u64; rays.len().min(crate::MAX_RAYS)];
+        let mut pane_totals = vec![0u64; panes.min(losses.len().max(crate::MAX_POSITIONS))];
+        let tests = self.report_into(panes, losses, rays, &mut ray_totals, &mut pane_totals)?;
+        Ok(Report { rays: ray_totals, panes: pane_totals, tests })
+    }
+
+    /// The same into totals that are lent, a word for each ray and a word for each pane at their fronts: the node tests.
+    pub fn report_into(
+        &self,
+        panes: usize,
+        losses: &[u32],
+        rays: &[Ray],
+        ray_totals: &mut [u64],
+        pane_totals: &mut [u64],
+    ) -> Result<u64, Refusal> {
+        let floats: Vec<f32> = rays.iter().flat_map(Ray::to_floats).collect();
+        // SAFETY: each pointer is a slice's and has its length beside it; the totals are borrowed for writing, so none overlaps them.
+        let number = unsafe {
+            sys::funnelcress_report(
+                self.bytes.as_ptr(),
+                self.bytes.len(),
+                self.list.as_ptr(),
+                self.list.len(),
+                panes,
+                losses.as_ptr(),
+                losses.len(),
+                floats.as_ptr(),
+                floats.len(),
+                ray_totals.as_mut_ptr(),
+                ray_totals.len(),
+                pane_totals.as_mut_ptr(),
+                pane_totals.len(),
+            )
+        };
+        Ok(Refusal::unless(Number(number))?.held().into())
     }
 
     /// A walker that has the first node before it.

@@ -8,7 +8,7 @@ use std::fmt;
 pub enum Refusal {
     /// 1: some length is wrong for its layout.
     Length,
-    /// 2: more positions or nodes than a record can have.
+    /// 2: more positions or nodes than a record can have, or more rays than a report.
     TooMany,
     /// 3: the leaf limit exceeds 3, or the order is neither 0 nor 1.
     Limit,
@@ -31,6 +31,8 @@ pub enum Refusal {
         /// How many positions there are.
         needed: u32,
     },
+    /// 12: losses that are not one for each pane, or one that is too great.
+    Losses,
     /// A number that this version of the bindings has no name for.
     Other(u32),
 }
@@ -49,6 +51,7 @@ impl Refusal {
             8 => Refusal::Level,
             9 => Refusal::Ray,
             10 => Refusal::Record,
+            12 => Refusal::Losses,
             other => Refusal::Other(other),
         }
     }
@@ -67,6 +70,7 @@ impl Refusal {
             Refusal::Ray => 9,
             Refusal::Record => 10,
             Refusal::List { .. } => 11,
+            Refusal::Losses => 12,
             Refusal::Other(number) => number,
         }
     }
@@ -75,7 +79,7 @@ impl Refusal {
     pub fn wrong(self) -> &'static str {
         match self {
             Refusal::Length => "some length is wrong for its layout, or the tree has not 2n - 1 nodes",
-            Refusal::TooMany => "there are more than 65,536 positions or 65,535 record nodes",
+            Refusal::TooMany => "there are more than 65,536 positions, 65,535 record nodes or 65,536 rays of a report",
             Refusal::Limit => "the leaf limit exceeds 3, or the order is neither 0 nor 1",
             Refusal::Room => "too little room was lent for outputs or work",
             Refusal::Link => "a link is of no known kind, or leads out of the tree or the index list",
@@ -89,6 +93,7 @@ impl Refusal {
             }
             Refusal::Record => "the record is damaged, an index names no pane, or the walker is forged",
             Refusal::List { .. } => "more positions are met than the list has room for",
+            Refusal::Losses => "the losses are not one for each pane, or one is over 1,000,000",
             Refusal::Other(_) => "the call was refused for a cause that these bindings do not know",
         }
     }
@@ -99,18 +104,21 @@ impl Refusal {
             Refusal::Length => {
                 "a tree of n leaves has 7 (2n - 1) words, a record 80 bytes a node, a pane 6 floats, a ray 8: see that nothing was cut off"
             }
-            Refusal::TooMany => "split the house, and convert its parts",
+            Refusal::TooMany => "split the house, and convert its parts; split the list of rays",
             Refusal::Limit => "use a leaf limit from 0 to 3, and order 0 or 1",
-            Refusal::Room => "lend slices of the lengths that `Lengths` gives",
+            Refusal::Room => {
+                "lend slices of the lengths that `Lengths` gives, and for a report a word for each ray and each pane"
+            }
             Refusal::Link => "export the tree again: the words are damaged, or of another format",
             Refusal::Box => "look for the box in the model, and mend or leave out what it stands for",
             Refusal::Structure => "build the tree anew, with one primitive a leaf and every position once",
             Refusal::Level => "build a tree that is less one-sided; many boxes at one point make a long chain",
             Refusal::Ray => "look for a division by zero where the ray is made",
             Refusal::Record => {
-                "run the record check, and convert the tree again if it is not sound; give the panes that the index list was made for"
+                "run the record check, and convert the tree again if it is not sound; give the panes or losses that the index list was made for"
             }
             Refusal::List { .. } => "lend a list of the length needed",
+            Refusal::Losses => "give each pane its loss in thousandths of a decibel, a whole number to 1,000,000",
             Refusal::Other(_) => "use bindings of the library's version",
         }
     }

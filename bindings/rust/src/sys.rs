@@ -60,6 +60,21 @@ unsafe extern "C" {
         ray: *const f32,
         ray_len: usize,
     ) -> u64;
+    pub fn funnelcress_report(
+        record: *const u8,
+        record_len: usize,
+        indices: *const u32,
+        indices_len: usize,
+        panes: usize,
+        losses: *const u32,
+        losses_len: usize,
+        rays: *const f32,
+        rays_len: usize,
+        ray_totals: *mut u64,
+        ray_totals_len: usize,
+        pane_totals: *mut u64,
+        pane_totals_len: usize,
+    ) -> u64;
     pub fn funnelcress_begin(ray: *const f32, ray_len: usize, head: *mut u64, stack: *mut u64) -> u64;
     pub fn funnelcress_step(head: *mut u64, stack: *mut u64, record: *const u8, record_len: usize, n: usize) -> u64;
     pub fn funnelcress_tell(head: *mut u64, stack: *mut u64, distance: f32);
@@ -83,7 +98,7 @@ impl Number {
         (self.0 >> 32) as u16
     }
 
-    /// What the answer holds.
+    /// What the answer holds; of a report the node tests.
     pub fn held(self) -> u32 {
         self.0 as u32
     }

@@ -112,12 +112,16 @@ fn words() {
         let (status, out, err) = failed(&at, words);
         assert!(status == 2 && out.is_empty() && err.contains("usage: "), "{words}");
     }
-    for name in ["tree", "convert", "check", "any-hit", "closest", "miss"] {
+    for name in ["tree", "convert", "check", "any-hit", "closest", "miss", "report"] {
         assert!(printed(&at, &format!("{name} --help")).contains("example: "));
         assert!(printed(&at, "--help").contains(name));
     }
     assert_eq!(failed(&at, "check no-such-file").0, 1);
     assert!(failed(&at, "any-hit house.record panes.txt").2.contains("line 1: first is no number"));
+    let report = |losses| failed(&at, &format!("report house.record house.list {losses} rays.txt")).2;
+    assert!(report("panes.txt").contains("line 1: one number is needed, more are there"));
+    std::fs::write(at.join("half.txt"), "3000\n0.5 second\n").unwrap();
+    assert!(report("half.txt").contains("line 2: 0.5 is no whole number"));
 }
 
 /// A disk that is full is seen.
@@ -130,4 +134,78 @@ fn a_full_disk() {
     assert_eq!(ended.status.code(), Some(1));
     assert!(String::from_utf8_lossy(&ended.stderr).contains("standard output: No space left"));
     assert!(failed(&at, "tree panes.txt -o /dev/full").2.contains("/dev/full: No space left"));
+}
+
+/// A house with losses, and a ray that meets both panes, one that meets the first alone, and one that meets none.
+fn losses(name: &str) -> PathBuf {
+    let at = house(name);
+    std::fs::write(at.join("losses.txt"), "3000 first\n# a remark\n500\n").unwrap();
+    let rays = "-1 .5 .5 1 0 0 0 inf\n-1 .5 .5 1 0 0 0 2.5\n-1 5 5 1 0 0 0 inf\n";
+    std::fs::write(at.join("three.txt"), rays).unwrap();
+    at
+}
+
+const TOTALS: &str = "ray 0 3500\nray 1 3000\nray 2 0\npane 0 6000\npane 1 500\ntests 3\n";
+
+#[test]
+fn reports() {
+    let at = losses("reports");
+    let words = "report house.record house.list losses.txt three.txt";
+    for more in ["", "--threads 1", "--threads 2", "--threads 9", "--panes 2"] {
+        assert_eq!(printed(&at, &format!("{words} {more}")), TOTALS);
+    }
+    let lines = printed(&at, &format!("{words} --json"));
+    let rays = "{\"ray\":0,\"loss\":3500}\n{\"ray\":1,\"loss\":3000}\n{\"ray\":2,\"loss\":0}\n";
+    assert_eq!(lines, format!("{rays}{{\"pane\":0,\"loss\":6000}}\n{{\"pane\":1,\"loss\":500}}\n{{\"tests\":3}}\n"));
+    let packed: Vec<u8> = [3000u32, 500].into_iter().flat_map(u32::to_le_bytes).collect();
+    std::fs::write(at.join("losses.u32"), packed).unwrap();
+    assert_eq!(printed(&at, "report house.record house.list losses.u32 three.txt"), TOTALS);
+    std::fs::write(at.join("none.txt"), "# no rays\n").unwrap();
+    assert_eq!(printed(&at, "report house.record house.list losses.txt none.txt"), "pane 0 0\npane 1 0\ntests 0\n");
+}
+
+/// A refused report prints no line.
+#[test]
+fn refused_reports() {
+    let at = losses("refused_reports");
+    std::fs::write(at.join("great.txt"), "3000\n1000001\n").unwrap();
+    std::fs::write(at.join("one.txt"), "3000\n").unwrap();
+    std::fs::write(at.join("many.txt"), "-1 .5 .5 1 0 0 0 inf\n".repeat(65_537)).unwrap();
+    for (words, number) in [
+        ("great.txt three.txt", 12),
+        ("losses.txt three.txt --panes 3", 12),
+        ("one.txt three.txt", 10),
+        ("losses.txt bad.txt", 9),
+        ("losses.txt many.txt", 2),
+        ("losses.txt many.txt --threads 4", 2),
+    ] {
+        let (status, out, err) = failed(&at, &format!("report house.record house.list {words}"));
+        assert_eq!((status, out.as_str()), (1, ""), "{words}");
+        assert!(err.contains(&format!("refused {number}: ")), "{words}: {err}");
+    }
+    let mut record = std::fs::read(at.join("house.record")).unwrap();
+    record[4 + 12] = 0;
+    std::fs::write(at.join("bad.record"), &record).unwrap();
+    let (status, out, err) = failed(&at, "report bad.record house.list losses.txt three.txt");
+    assert!(status == 1 && out.is_empty() && err.contains("not sound"));
+}
+
+/// The worked house's report has a line for each ray and each box, and the losses of both add up to the same.
+#[test]
+fn the_worked_house() {
+    let at = folder("worked_house");
+    let house = concat!(env!("CARGO_MANIFEST_DIR"), "/../../examples/house");
+    printed(&at, &format!("tree {house}/house.txt -o house.tree"));
+    printed(&at, "convert house.tree -o house");
+    let words = format!("report house.record house.list {house}/losses.txt {house}/rays.txt");
+    let lines = printed(&at, &words);
+    let losses = |kind: &str| -> Vec<u64> {
+        let of_kind = lines.lines().filter_map(|line| line.strip_prefix(kind)?.split(' ').nth(1));
+        of_kind.map(|loss| loss.parse().unwrap()).collect()
+    };
+    let (rays, panes) = (losses("ray "), losses("pane "));
+    assert_eq!((rays.len(), panes.len()), (36, 42));
+    assert_eq!(rays.iter().sum::<u64>(), panes.iter().sum());
+    assert!(rays.iter().all(|loss| *loss > 0));
+    assert_eq!(printed(&at, &format!("{words} --threads 1")), printed(&at, &format!("{words} --threads 5")));
 }

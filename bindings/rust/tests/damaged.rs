@@ -61,7 +61,9 @@ fn records() {
 #[test]
 fn rays_and_panes() {
     let record = record();
-    for bad in [along().starting(f32::NAN), along().reaching(f32::NAN), Ray::new([f32::INFINITY, 0.0, 0.0], [1.0, 0.0, 0.0])] {
+    for bad in
+        [along().starting(f32::NAN), along().reaching(f32::NAN), Ray::new([f32::INFINITY, 0.0, 0.0], [1.0, 0.0, 0.0])]
+    {
         assert_eq!(record.any_hit(&bad), Err(Refusal::Ray));
         assert_eq!(record.closest(&PANES, &bad), Err(Refusal::Ray));
         assert_eq!(record.miss(&PANES, &bad), Err(Refusal::Ray));
@@ -194,9 +196,94 @@ fn tellings() {
     assert_eq!(reports(-1.0), 64);
 }
 
+/// A report of three rays that meet all panes, in parts that may be spoilt, each for one cause.
+struct Asked {
+    record: Record,
+    losses: Vec<u32>,
+    rays: Vec<Ray>,
+    room: usize,
+}
+
+impl Asked {
+    fn new() -> Asked {
+        Asked { record: record(), losses: vec![1_000_000, 0, 7], rays: vec![along(); 3], room: 3 }
+    }
+
+    fn spoilt(mut self, cause: u32) -> Asked {
+        let (mut bytes, mut list) = (self.record.bytes().to_vec(), self.record.indices().to_vec());
+        match cause {
+            1 => bytes.truncate(79),
+            2 => self.rays.resize(65_537, along()),
+            4 => self.room = 2,
+            12 => self.losses[0] += 1,
+            9 => self.rays[2].tmax = f32::NAN,
+            _ => list[1] = 3,
+        }
+        Asked { record: Record::from_parts(bytes, list), ..self }
+    }
+
+    /// The answer, and that a refusal leaves both totals as they were.
+    fn number(&self) -> Result<u64, u32> {
+        let (mut ray_totals, mut pane_totals) = (vec![7u64; self.rays.len()], vec![7u64; self.room]);
+        let answer = self.record.report_into(3, &self.losses, &self.rays, &mut ray_totals, &mut pane_totals);
+        let stay = ray_totals.iter().chain(&pane_totals).all(|total| *total == 7);
+        assert_eq!(stay, answer.is_err());
+        answer.map_err(Refusal::number)
+    }
+}
+
+/// The first cause refuses a report, whatever comes after it.
+#[test]
+fn reports() {
+    let order = [1, 2, 4, 12, 9, 10];
+    assert_eq!(Asked::new().number(), Ok(3));
+    for (k, first) in order.into_iter().enumerate() {
+        assert_eq!(Asked::new().spoilt(first).number(), Err(first));
+        for later in &order[k + 1..] {
+            assert_eq!(Asked::new().spoilt(first).spoilt(*later).number(), Err(first), "{first} and {later}");
+        }
+    }
+}
+
+/// Losses of another length than the panes, or past the bound, first or last.
+#[test]
+fn losses() {
+    let report = |panes, losses: &[u32]| record().report(panes, losses, &[along()]).map(|report| report.rays[0]);
+    assert_eq!(report(3, &[1_000_000; 3]), Ok(3_000_000));
+    for losses in [&[0; 2][..], &[0; 4], &[1_000_001, 0, 0], &[0, 0, u32::MAX]] {
+        assert_eq!(report(3, losses), Err(Refusal::Losses));
+    }
+    assert_eq!(report(usize::MAX, &[0; 3]), Err(Refusal::Room));
+}
+
+/// A fault that the last ray alone meets refuses the report; an index past the panes that no ray meets does not.
+#[test]
+fn the_last_ray() {
+    let mut list = record().indices().to_vec();
+    let (here, last) = (along().reaching(1.5), along());
+    let far = list.iter().position(|pane| *pane == 2).unwrap();
+    list[far] = 3;
+    let mut asked = Asked::new();
+    asked.record = Record::from_parts(record().bytes().to_vec(), list);
+    asked.rays = vec![here, here, last];
+    assert_eq!(asked.number(), Err(10));
+    asked.rays.pop();
+    assert_eq!(asked.number(), Ok(2));
+}
+
+/// A damaged record is refused where a ray meets the damage.
+#[test]
+fn a_damaged_report() {
+    let mut bytes = record().bytes().to_vec();
+    bytes[12] = 200;
+    let broken = Record::from_parts(bytes, record().indices().to_vec());
+    assert_eq!(broken.report(3, &[1; 3], &[along()]), Err(Refusal::Record));
+    assert_eq!(broken.report(3, &[1; 3], &[]).map(|report| report.panes), Ok(vec![0; 3]));
+}
+
 #[test]
 fn sentences() {
-    for number in 1..=11 {
+    for number in 1..=12 {
         let refusal = match number {
             11 => Refusal::List { needed: 9 },
             _ => Refusal::from_number(number),

@@ -36,6 +36,10 @@ fn byte(k: usize) -> u8 {
     (k * 7 + 129) as u8
 }
 
+fn word(k: usize) -> u64 {
+    nan(k) as u64 * 0x1_0000_0001
+}
+
 fn panes(n: usize) -> Vec<Pane> {
     (0..n).map(|k| [2.0 * k as f32, 0.0, 0.0, 2.0 * k as f32 + 1.0, 1.0, 1.0]).collect()
 }
@@ -176,7 +180,6 @@ fn distances() {
 fn walkers() {
     let record = Tree::over(&panes(9)).convert(Options::default()).unwrap();
     let (bytes, n) = (record.bytes(), record.positions());
-    let word = |k: usize| nan(k) as u64 * 0x1_0000_0001;
     let (mut head, mut stack) = (Lent::new(18, word), Lent::new(32, word));
     let refused = unsafe { sys::funnelcress_begin(ALONG.as_ptr(), 7, head.pointer(), stack.pointer()) };
     let forged = unsafe { sys::funnelcress_step(head.pointer(), stack.pointer(), bytes.as_ptr(), bytes.len(), n) };
@@ -193,4 +196,76 @@ fn walkers() {
     assert_eq!(kinds[1..3], [9, 0]);
     head.kept_past(18);
     stack.kept_past(32);
+}
+
+/// A report over nine panes and its two slices, each longer than needed by so much.
+fn report(rays: &[[f32; 8]], floats: usize, losses: &[u32], more: usize) -> (u64, Lent<u64>, Lent<u64>) {
+    let record = Tree::over(&panes(9)).convert(Options::default()).unwrap();
+    let (bytes, list) = (record.bytes(), record.indices());
+    let (mut of_rays, mut of_panes) = (Lent::new(rays.len() + more, word), Lent::new(9 + more, word));
+    let number = unsafe {
+        sys::funnelcress_report(
+            bytes.as_ptr(),
+            bytes.len(),
+            list.as_ptr(),
+            list.len(),
+            9,
+            losses.as_ptr(),
+            losses.len(),
+            rays.as_flattened().as_ptr(),
+            floats,
+            of_rays.pointer(),
+            of_rays.long,
+            of_panes.pointer(),
+            of_panes.long,
+        )
+    };
+    (number, of_rays, of_panes)
+}
+
+#[test]
+fn reports() {
+    let mut refused = ALONG;
+    refused[7] = f32::NAN;
+    let rays = [ALONG, ALONG, refused];
+    for more in [0, 1, 100] {
+        for count in 0..3 {
+            let (tests, of_rays, of_panes) = report(&rays[..count], 8 * count, &[2; 9], more);
+            assert!(tests < 1 << 32 && (tests == 0) == (count == 0));
+            of_rays.kept_past(count);
+            of_panes.kept_past(9);
+            assert!(of_rays.all[GUARDS..GUARDS + count].iter().all(|total| *total == 18));
+            assert!(of_panes.all[GUARDS..GUARDS + 9].iter().all(|total| *total == 2 * count as u64));
+        }
+        for (floats, loss, cause) in [(24, 2, 9), (24, 1_000_001, 12), (23, 2, 1), (17, 1_000_001, 1)] {
+            let (number, of_rays, of_panes) = report(&rays, floats, &[loss; 9], more);
+            assert_eq!(number, 0x2_0000_0000 + cause);
+            of_rays.kept_past(0);
+            of_panes.kept_past(0);
+        }
+    }
+}
+
+/// Empty slices may have any pointer.
+#[test]
+fn empty_reports() {
+    let (none, totals) = (std::ptr::null(), std::ptr::null_mut());
+    let number = unsafe {
+        sys::funnelcress_report(
+            none,
+            0,
+            std::ptr::null(),
+            0,
+            0,
+            std::ptr::null(),
+            0,
+            ALONG.as_ptr(),
+            0,
+            totals,
+            0,
+            totals,
+            0,
+        )
+    };
+    assert_eq!(number, 0);
 }

@@ -1,5 +1,7 @@
 //! The samples of the requirements, through the safe types.
-use funnelcress::{Hit, Link, Node, Options, Pane, Ray, Record, Refusal, State, Step, Tree, Verdict, entry_distances};
+use funnelcress::{
+    Hit, Link, Node, Options, Pane, Ray, Record, Refusal, Report, State, Step, Tree, Verdict, entry_distances,
+};
 
 const PANES: [Pane; 2] = [[0.0, 0.0, 0.0, 1.0, 1.0, 1.0], [2.0, 0.0, 0.0, 3.0, 1.0, 1.0]];
 
@@ -166,6 +168,33 @@ fn no_leaves() {
     assert_eq!((met.positions, met.tests), (vec![], 0));
     assert!(record.miss(&[], &Ray::new([0.0; 3], [1.0, 0.0, 0.0])).unwrap().missed);
     assert_eq!(record.walk(&Ray::new([0.0; 3], [1.0, 0.0, 0.0])).unwrap().count(), 0);
+}
+
+/// The ray along x takes both losses by one test; reaching to 2.5 it meets the first pane alone.
+#[test]
+fn reports() {
+    let record = unordered();
+    let along = Ray::new([-1.0, 0.5, 0.5], [1.0, 0.0, 0.0]);
+    let report = |record: &Record, rays: &[Ray]| record.report(2, &[3000, 500], rays).unwrap();
+    let totals = |rays: &[u64], panes: &[u64], tests| Report { rays: rays.into(), panes: panes.into(), tests };
+    assert_eq!(report(&record, &[along]), totals(&[3500], &[3000, 500], 1));
+    assert_eq!(report(&record, &[along, along.reaching(2.5)]), totals(&[3500, 3000], &[6000, 500], 2));
+    let twice = Record::from_parts(record.bytes().to_vec(), vec![1, 1]);
+    assert_eq!(report(&twice, &[along]), totals(&[1000], &[0, 1000], 1));
+    assert_eq!(report(&record, &[]), totals(&[], &[0, 0], 0));
+    assert_eq!(report(&Record::from_parts(vec![], vec![]), &[along]), totals(&[0], &[0, 0], 0));
+}
+
+/// Three losses for two panes are refused 12, whatever the ray is; a byte short comes first.
+#[test]
+fn refused_reports() {
+    let record = unordered();
+    let cut = Record::from_parts(record.bytes()[..79].to_vec(), record.indices().to_vec());
+    let along = Ray::new([-1.0, 0.5, 0.5], [1.0, 0.0, 0.0]);
+    for ray in [along, along.reaching(f32::NAN)] {
+        assert_eq!(record.report(2, &[3000, 500, 1], &[ray]), Err(Refusal::Losses));
+        assert_eq!(cut.report(2, &[3000, 500, 1], &[ray]), Err(Refusal::Length));
+    }
 }
 
 #[test]

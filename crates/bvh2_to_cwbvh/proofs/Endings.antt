@@ -9,6 +9,7 @@ use lib.ListN.{length}
 use lib.Ieee.{Float}
 use borrow.Author.Tests.{le-leb, lt-leb}
 use Rattle.float.specs.Compare.{plusZero}
+use Rattle.lists.specs.At.{wordsAt}
 use Rattle.lists.specs.Splice.{splice}
 use Rattle.lists.proofs.Splice.{splice-none}
 use Rattle.causes.specs.Causes.{Condition, _unless_, firstCause}
@@ -129,7 +130,7 @@ module _ {c : Call} {k : ℕ} {ds₁ : List ℕ} {cs₁ : List Float} (p : Prepa
         let e = nothing (c .words) (leafCount c) (c .limit) (c .ordered) n in
         let a : converted 0 0 ≡ answerFor c 0 = sym (ap₂ converted (e .nodes) (e .level)) in
         let b = sym (splice-none (c .bytes) 0) ∙ ap (splice (c .bytes) 0) (sym (e .bytes)) in
-        let l = sym (splice-none (c .list) 0) ∙ ap (λ (ps : List ℕ). splice (c .list) 0 (W.wordsAt (c .indices) ps)) (sym (e .list)) in
+        let l = sym (splice-none (c .list) 0) ∙ ap (λ (ps : List ℕ). splice (c .list) 0 (wordsAt (c .indices) ps)) (sym (e .list)) in
         ends c 0 (ended (converted 0 0) ds₁ cs₁ (c .bytes) (c .list)) (cause-none c none (omega (arith, e .level)))
         (λ i. ended (a i) (words i) (costs i) (b i) (l i))
 
@@ -186,7 +187,7 @@ module _ {c : Call} {k : ℕ} {ds₁ : List ℕ} {cs₁ : List Float} (p : Prepa
             let t = there (c .words) (leafCount c) (c .limit) (c .ordered) some in
             let a : converted (x .nodes) deepest ≡ answerFor c 0 = ap₂ converted (r .nodes-are ∙ sym (t .nodes)) found in
             let b = r .bytes-are ∙ ap (splice (c .bytes) 0) (sym (t .bytes)) in
-            let l = r .list-is ∙ ap (λ (ps : List ℕ). splice (c .list) 0 (W.wordsAt (c .indices) ps)) (sym (t .list)) in
+            let l = r .list-is ∙ ap (λ (ps : List ℕ). splice (c .list) 0 (wordsAt (c .indices) ps)) (sym (t .list)) in
             ends c 0 (ended (converted (x .nodes) deepest) ds₁ cs₁ bytes₁ list₁) (cause-none c none (omega (arith, found, h)))
             (λ i. ended (a i) (words i) (costs i) (b i) (l i))
 

@@ -10,7 +10,8 @@ use Rattle.lists.specs.Splice.{splice}
 use Rattle.causes.specs.Causes.{Condition, _unless_, firstCause}
 use Rattle.float.specs.Compare.{plusZero}
 use Rattle.cost.specs.Table.{wordOf, costOf}
-use Rattle.wide_layout.specs.Layout.{nodes, indexList, level, wordsAt}
+use Rattle.lists.specs.At.{wordsAt}
+use Rattle.wide_layout.specs.Layout.{nodes, indexList, level}
 use Rattle.wide_tree.specs.Ordered.{wideTreeOf}
 use Rattle.record.specs.Record.{recordBytes}
 use Rattle.bvh2_tables.specs.Call.{Call, leafCount, Lengths, lengthsOf}

@@ -2,13 +2,15 @@
 use mathlib.Core.Bool.{Bool, true, false, _&&_}
 use mathlib.Core.List.{List, [], _∷_, _++_}
 use mathlib.Core.Logic.{_⊎_, inl, inr}
-use mathlib.Core.Path.{_≡_, refl, ap, subst}
-use Prim.Native.Nat.{ℕ}
+use mathlib.Core.Path.{_≡_, refl, sym, ap, subst, _∙_}
+use Prim.Native.Nat.{ℕ, zero, suc}
+use native.Mathlib.Omega.{arith}
+use borrow.Author.Tests.{ne-eqb}
 use lib.Dec.{T, leb, ltb}
 use lib.Ieee.Fits.{and-l, and-r}
 use lib.ListN.{length}
 use Rattle.lists.proofs.Tells.{clash}
-use Rattle.causes.specs.Causes.{Condition, _unless_, firstCause, order, placeIn, placeOf}
+use Rattle.causes.specs.Causes.{Condition, _unless_, firstCause, given, order, placeIn, placeOf}
 
 -- ---- by the tests in turn
 pub first-here : {k : ℕ} {b : Bool} (l : List Condition) → b ≡ false → firstCause (k unless b ∷ l) ≡ k
@@ -67,6 +69,17 @@ passed-append (k unless b ∷ l) m h g = (h .0, passed-append l m (h .1) g)
 pub passed-parts : (l m : List Condition) → Passed (l ++ m) → Passed l × Passed m
 passed-parts [] m h = (tt, h)
 passed-parts (k unless b ∷ l) m h = let r = passed-parts l m (h .1) in ((h .0, r .0), r .1)
+
+-- a cause found elsewhere counts as its conditions would in its place
+pub given-same : (l m r : List Condition) → T (sorted 0 m) → firstCause (l ++ given (firstCause m) ∷ r) ≡ firstCause (l ++ (m ++ r))
+unfolding firstCause
+given-same (k unless true ∷ l) m r s = given-same l m r s
+given-same (k unless false ∷ l) m r s = refl
+given-same [] m r s = go (firstCause m) refl
+  where
+    go : (k : ℕ) → firstCause m ≡ k → firstCause (given k ∷ r) ≡ firstCause (m ++ r)
+    go zero e = sym (append-later m r (none-passed 0 m s e))
+    go (suc k) e = first-here r (ne-eqb (suc k) 0 (λ z. omega arith)) ∙ sym (append-first m r (λ z. omega (arith, e, z)) ∙ e)
 
 -- ---- which numbers
 unfoldable pub allNumbers : (ℕ → Bool) → List Condition → Bool

@@ -159,3 +159,33 @@ module _ (P : ℕ → Type 0) (l : List Condition) (ordered : T (sorted 0 l)) (s
           go : Dec (0 < k) → 0 < k
           go (yes h) = h
           go (no h) = absurd (first-none .0 (omega (arith, e, h)) k (f .0))
+
+-- ---- answers by the first cause
+
+-- An answer is given where no test of a list fails, else it is refused with the first cause's number; and it is not both.
+pub record ByCause (Refused : ℕ → Type 0) (Given : Type 0) (l : List Condition) : Type 0 where
+  pub gives : firstCause l ≡ 0 → Given
+  pub refuses : 0 < firstCause l → Refused (firstCause l)
+  pub one : (j k : ℕ) → Refused j → Refused k → j ≡ k
+  pub not-both : (k : ℕ) → Refused k → Given → ⊥
+
+module _ {Refused : ℕ → Type 0} {Given : Type 0} {l : List Condition} (A : ByCause Refused Given l) (P : ℕ → Type 0) (ordered : T (sorted 0 l))
+    (shown : Shows P l) (met : (j : ℕ) → P j → Fails j l) where
+  -- So the number refused is the first cause's,
+  pub refused-first : (k : ℕ) → Refused k ↔ First P k
+  refused-first k = (
+    to (firstCause l) refl,
+    λ f. let i = first-is P l ordered shown met k .1 f in subst Refused (i .0) (A .refuses (omega (arith, i .0, i .1))),
+  )
+    where
+      to : (c : ℕ) → firstCause l ≡ c → Refused k → First P k
+      to zero e r = absurd (A .not-both k r (A .gives e))
+      to (suc c) e r = let i = A .one (firstCause l) k (A .refuses (omega arith)) r in first-is P l ordered shown met k .0 (i, omega arith)
+
+  -- and an answer is given exactly if no cause holds.
+  pub given-none : Given ↔ ((j : ℕ) → P j → ⊥)
+  given-none = (to (firstCause l) refl, λ h. A .gives (first-none P l ordered shown met .1 h))
+    where
+      to : (c : ℕ) → firstCause l ≡ c → Given → (j : ℕ) → P j → ⊥
+      to zero e g = first-none P l ordered shown met .0 e
+      to (suc c) e g = absurd (A .not-both (firstCause l) (A .refuses (omega arith)) g)

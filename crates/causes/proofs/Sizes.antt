@@ -1,4 +1,5 @@
 -- The sizes of a record by the tests that the code makes in turn, and what they say.
+use mathlib.Core.Bool.{true}
 use mathlib.Core.Path.{_≡_, _∙_}
 use Prim.Native.Nat.{ℕ, _/_, _%_, _≤_}
 use Rattle.lists.proofs.Tells.{Tells, told, tells-true, tells-false, eqb-tells, leb-tells, and-tells}
@@ -23,9 +24,12 @@ module _ (bytes n : ℕ) where
   unfolding recordConditions
   record-over w h = first-later 1 _ (tells-true (eqb-tells (bytes % 80) 0) w) ∙ first-here _ (tells-false (sizes-tell (bytes / 80) n) h)
 
+  pub sizes-pass : Fit bytes n → sizesFit (bytes / 80) n ≡ true
+  sizes-pass f = tells-true (sizes-tell (bytes / 80) n) (f .few, f .small)
+
   pub record-passed : Fit bytes n → Passed (recordConditions bytes n)
   unfolding recordConditions
-  record-passed f = (tells-true (eqb-tells (bytes % 80) 0) (f .whole), (tells-true (sizes-tell (bytes / 80) n) (f .few, f .small), tt))
+  record-passed f = (tells-true (eqb-tells (bytes % 80) 0) (f .whole), (sizes-pass f, tt))
 
   pub record-fit : Passed (recordConditions bytes n) → Fit bytes n
   unfolding recordConditions

@@ -1,8 +1,8 @@
 -- Where a query starts: refused on entry, or without nodes, or with a walk.
 use mathlib.Core.Bool.{false, true}
 use mathlib.Core.List.{List}
-use mathlib.Core.Path.{_≡_, refl, sym, ap, _∙_, subst}
-use Prim.Native.Nat.{ℕ, zero, suc, _≤_, _<_, _%_}
+use mathlib.Core.Path.{_≡_, sym, ap, _∙_, subst}
+use Prim.Native.Nat.{ℕ, _≤_, _<_, _%_}
 use native.Mathlib.Omega.{arith}
 use lib.Dec.{eqb}
 use lib.Ieee.{Float}
@@ -17,6 +17,7 @@ use Rattle.walk_record.specs.Walk.{queryAt}
 use Rattle.walk_record.proofs.WalkRay.{begun-accepted}
 use Rattle.query.specs.Walk.{RecordSized}
 use Rattle.query.proofs.Entry
+use Rattle.query.proofs.Entry.{by-cause, without-cause}
 use Rattle.query.proofs.Begins.{query-empty}
 use Rattle.query.specs.Result.{Result, walked, entered}
 use Rattle.closest.specs.Panes.{paneCause}
@@ -26,16 +27,6 @@ use Rattle.closest.proofs.Queries.{Reacts}
 pub record Starting (bytes indices : List ℕ) (panes : List Float) (o d : Vec3) (near far : Float) (ray : Ray) (cause : ℕ) : Type 0 where
   pub ray-is : ray ≡ rayOf o d near far
   pub cause-is : cause ≡ paneCause bytes indices panes ray
-
-by-cause : {A : Type 0} (refuse : ℕ → A) (k c : ℕ) (w : Result A) → k ≡ c → 0 < k → record { answer = refuse k; tests = 0 } ≡ entered refuse c w
-unfolding entered
-by-cause refuse k zero w e h = absurd (omega arith)
-by-cause refuse k (suc c) w e h = ap (λ (j : ℕ). record { answer = refuse j; tests = 0 }) e
-
-without-cause : {A : Type 0} (refuse : ℕ → A) (k c : ℕ) (w : Result A) → k ≡ c → k ≤ 0 → w ≡ entered refuse c w
-unfolding entered
-without-cause refuse k zero w e h = refl
-without-cause refuse k (suc c) w e h = absurd (omega arith)
 
 module _ {bytes indices : List ℕ} {panes : List Float} {o d : Vec3} {near far : Float} {ray : Ray} {cause : ℕ}
     (s : Starting bytes indices panes o d near far ray cause) where

@@ -12,7 +12,7 @@ use Rattle.bvh2.specs.Words.{treeOf}
 use Rattle.bvh2.specs.Decoded.{Decoded}
 use Rattle.bvh2.proofs.Decoded.{accepted-decoded, decoded-leaves, positions-length}
 use Rattle.wide_layout.specs.Sizes as S
-use Rattle.wide_layout.specs.Layout.{wordsAt}
+use Rattle.lists.specs.At.{wordsAt}
 use Rattle.wide_tree.specs.WideTree.{wideOf}
 use Rattle.wide_tree.specs.Ordered.{placing, wideTreeOf}
 use Rattle.wide_tree.proofs.WideTree.{small-leaves}

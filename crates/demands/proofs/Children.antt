@@ -3,7 +3,7 @@ use mathlib.Core.Path.{_≡_, refl, sym, ap, _∙_}
 use Prim.Native.Nat.{ℕ, zero, suc, _+_, _/_, _%_, _^_, _<_, _≤_, min}
 use native.Mathlib.Omega.{arith}
 use Rattle.lists.specs.Sums.{sum}
-use Rattle.lists.proofs.Sums.{sum-cong, sum-add}
+use Rattle.lists.proofs.Sums.{sum-cong, sum-add, sum-most}
 use Rattle.words.specs.Ones.{onesBelow}
 use Rattle.node.specs.declared.Node.{Node}
 use Rattle.node.specs.Node.{innerBit, codeCount}
@@ -11,14 +11,9 @@ use Rattle.node_rule.specs.Rule.{LeafTop, one, two, three, SlotRule, empty, chi
 use Rattle.record_shape.specs.Record.{Nodes, metaAt, slotPositions, shapeIn, RuleIn}
 use Rattle.demands.specs.Children.{childCount, leafChildren}
 
-sum-most : (f : ℕ → ℕ) (k : ℕ) → ((j : ℕ) → f j ≤ 1) → sum f k ≤ k
-unfolding sum
-sum-most f zero h = omega arith
-sum-most f (suc k) h = omega (arith, sum-most f k h, h k)
-
 pub at-most-eight : (v : Node) → childCount v ≤ 8
 unfolding childCount
-at-most-eight v = sum-most _ 8 (λ s. omega arith)
+at-most-eight v = sum-most _ 1 (λ s. omega arith) 8
 
 -- ---- by the node rule
 some : (top : ℕ) → LeafTop top → (0 < top) × (0 < onesBelow 3 top)

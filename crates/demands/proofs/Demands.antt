@@ -11,7 +11,7 @@ use Rattle.lists.specs.Counts.{count}
 use Rattle.lists.proofs.Perms.{counts-perm}
 use Rattle.soundness.specs.Shape.{Shape, ChildOf, Holds}
 use Rattle.soundness.specs.Sound.{OneParent, OneHolder}
-use Rattle.wide_layout.specs.Layout.{wordsAt}
+use Rattle.lists.specs.At.{wordsAt}
 use Rattle.wide_layout.proofs.Index.{indices-rearranged}
 use Rattle.node.specs.Node.{nodeAt}
 use Rattle.record_shape.specs.Record.{nodeCount, nodesAt, shapeIn, shapeAt, SoundRecord, DeepestLevel}

@@ -18,3 +18,10 @@ pub mod NearLimit
 pub mod MinusZero
 pub mod SoundPanes
 pub mod Panes
+pub mod Summed
+pub mod Loss
+pub mod Totalled
+pub mod Report
+pub mod SoundLoss
+pub mod LossCauses
+pub mod LossRefusals

@@ -11,7 +11,7 @@ use Rattle.bvh2.specs.Tree.{Tree, leaf, inner, boxOf}
 use Rattle.bvh2.specs.Words.{treeOf}
 use Rattle.cost.specs.Table.{Decision, word, wordOf, costOf}
 use Rattle.cost.proofs.Splits.{limit-zero}
-use Rattle.wide_layout.specs.Layout.{wordsAt}
+use Rattle.lists.specs.At.{wordsAt}
 use Rattle.wide_tree.specs.WideTree.{Placing, Child, filledSlots, wideChildren, wideOf}
 use Rattle.wide_tree.specs.Ordered.{placing, wideTreeOf}
 use Rattle.bvh2_tables.specs.Call.{Call, leafCount, lengthsOf}

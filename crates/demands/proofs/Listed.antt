@@ -1,51 +1,48 @@
--- Any-hit's answer and list where its walk ends without a refusal and the list is long enough.
-use mathlib.Core.Bool.{Bool, true, false}
+-- Any-hit's answer and list on any bytes, where nothing refuses it on entry: what its walk gives, and, that not being refused, its positions.
+use mathlib.Core.Bool.{true}
 use mathlib.Core.List.{List}
-use mathlib.Core.Path.{_≡_, refl, ap, _∙_}
+use mathlib.Core.Path.{_≡_, refl, sym, ap, _∙_}
 use Prim.Native.Nat.{ℕ, _+_, _≤_}
 use lib.ListN.{length, take, drop}
 use lib.Seq.{take-at}
-use borrow.Author.Tests.{le-leb}
 use Rattle.lists.specs.Splice.{splice}
+use Rattle.causes.proofs.Sizes.{Fit}
 use Rattle.ray.specs.declared.Ray.{Ray}
-use Rattle.walk.specs.Step as S
+use Rattle.ray.specs.Ray.{acceptedRay}
+use Rattle.walk.specs.Queries.{Ended}
 use Rattle.walk_record.specs.WalkRay.{walkRay, byBoxes}
 use Rattle.walk_record.specs.Walk.{anyHitAt}
-use Rattle.query.specs.Result.{Result, unanswered, walked, entered}
-use Rattle.query.proofs.Entry.{entry-none}
-use Rattle.demands.specs.Walks.{CheckedRecord, AcceptedRay, found, counted, listLeft}
-use Rattle.any_hit.specs.AnyHit.{AnyHitAnswer, listed, lacking, refused, fitted, walkOf, anyHitOf, listFor, listAfter}
+use Rattle.query.specs.Result.{Result, entered}
+use Rattle.query.proofs.Entry.{entry-none, found-at-end}
+use Rattle.any_hit.specs.AnyHit.{AnyHitAnswer, listed, refused, fitted, walkOf, anyHitOf, listFor, listAfter}
+use Rattle.any_hit.proofs.Answers.{fits}
+use Rattle.demands.specs.Walks.{found, counted, listLeft}
 
-module _ {bytes : List ℕ} {n d : ℕ} {r : Ray} (good : CheckedRecord bytes n d) (accepted : AcceptedRay r) (before : List ℕ)
-    (ends : anyHitAt bytes byBoxes n (walkRay r) .ended ≡ S.done) (room : length (found bytes r n) ≤ length before) where
-  abbrev met : List ℕ
-  met = found bytes r n
-
-  abbrev tests : ℕ
-  tests = counted bytes r n
-
-  abbrev result : Result AnyHitAnswer
-  result = record { answer = listed (length met); tests = tests }
-
-  answer-listed : walkOf bytes n (walkRay r) (length before) ≡ result
-  unfolding walkOf walked fitted
-  answer-listed =
-      ap (λ (a : S.Answer). walked refused (λ noted tests. fitted (length noted) tests (length before)) (anyHitAt bytes byBoxes n (walkRay r)) a) ends
-      ∙ ap by (le-leb (length met) (length before) room)
-    where
-      by : Bool → Result AnyHitAnswer
-      by b = elim b [ true ↦ result | false ↦ unanswered (lacking 11 (length met)) ]
-
-  pub answers-listed : anyHitOf bytes n r (length before) ≡ result
+module _ (bytes : List ℕ) (n : ℕ) (r : Ray) (sizes : Fit (length bytes) n) (accepted : acceptedRay r ≡ true) where
+  -- with room for so many positions
+  pub any-hit-walked : (room : ℕ) → anyHitOf bytes n r room ≡ walkOf bytes n (walkRay r) room
   unfolding anyHitOf entered
-  answers-listed =
-      ap (λ (k : ℕ). entered refused k (walkOf bytes n (walkRay r) (length before)))
-      (entry-none true (length bytes) n 0 r refl (record { whole = good .layout; few = good .positions; small = good .nodes }) refl
-      (accepted .accepted))
-      ∙ answer-listed
+  any-hit-walked room =
+      ap (λ (k : ℕ). entered refused k (walkOf bytes n (walkRay r) room)) (entry-none true (length bytes) n 0 r refl sizes refl accepted)
 
-  pub list-found : listLeft bytes r n before ≡ met
-  unfolding listAfter listFor splice
-  list-found =
-      ap (λ (a : Result AnyHitAnswer). take (length met) (listFor (a .answer) met before)) answers-listed
-      ∙ take-at met (drop (0 + length met) before) (length met) refl
+  module _ (ends : Ended (anyHitAt bytes byBoxes n (walkRay r) .ended)) where
+    abbrev met : List ℕ
+    met = found bytes r n
+
+    pub any-hit-fitted : (room : ℕ) → anyHitOf bytes n r room ≡ fitted (length met) (counted bytes r n) room
+    unfolding walkOf entered
+    any-hit-fitted room =
+        any-hit-walked room
+        ∙ found-at-end refused (λ noted tests. fitted (length noted) tests room) 0 (anyHitAt bytes byBoxes n (walkRay r))
+        (anyHitAt bytes byBoxes n (walkRay r) .ended) refl ends
+
+    -- into a list that is long enough
+    module _ (before : List ℕ) (room : length met ≤ length before) where
+      pub answers-listed : anyHitOf bytes n r (length before) ≡ record { answer = listed (length met); tests = counted bytes r n }
+      answers-listed = any-hit-fitted (length before) ∙ sym (fits (length met) (counted bytes r n) (length before) room)
+
+      pub list-found : listLeft bytes r n before ≡ met
+      unfolding listAfter listFor splice
+      list-found =
+          ap (λ (a : Result AnyHitAnswer). take (length met) (listFor (a .answer) met before)) answers-listed
+          ∙ take-at met (drop (0 + length met) before) (length met) refl

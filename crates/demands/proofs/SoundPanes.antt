@@ -3,8 +3,7 @@
 use mathlib.Core.List.{List, List·Nodup}
 use mathlib.Core.Logic.{_⊎_, inl, inr, _↔_}
 use mathlib.Core.Path.{_≡_, refl, sym, ap, subst, _∙_}
-use Prim.Native.Nat.{ℕ, zero, suc, _%_, _<_}
-use native.Mathlib.Omega.{arith}
+use Prim.Native.Nat.{ℕ, _%_, _<_}
 use lib.Dec.{eqb}
 use lib.Ieee.{Float, lt}
 use lib.ListN.{length, getD}
@@ -14,12 +13,10 @@ use Rattle.ray.specs.Ray.{seenAt}
 use Rattle.ray.proofs.Counts.{seen-itself, seen-number}
 use Rattle.record_shape.specs.Record.{nodeCount}
 use Rattle.walk.specs.Tests.{Tests}
-use Rattle.walk.specs.Step as S
 use Rattle.walk.specs.Calls.{All, reported}
 use Rattle.walk.specs.Queries.{Reaction, Found, none, hit, distance, closest, miss, Ended}
 use Rattle.walk.specs.Reports.{testedNodes, upTo, NoneBelow, Nearest}
 use Rattle.walk.specs.Slots.{testsOf}
-use Rattle.walk.specs.WordQueries.{OutcomeWords}
 use Rattle.walk.proofs.Lists.{all-map}
 use Rattle.walk.proofs.Nearest.{up-to-none, nearest-below, blocks-below, one-nearest}
 use Rattle.walk.proofs.Noted.{Seen, Picks, kept, nearest, closest-picks, Stops, miss-stops, stops-below}
@@ -27,8 +24,8 @@ use Rattle.walk.proofs.Noted as N
 use Rattle.walk_record.specs.WalkRay.{WalkRay, walkRay, byBoxes}
 use Rattle.walk_record.specs.Record.{slotsAt}
 use Rattle.walk_record.specs.Walk.{queryAt}
-use Rattle.query.proofs.Entry.{entry-none}
-use Rattle.query.specs.Result.{Result, walked, entered}
+use Rattle.query.proofs.Entry.{entry-none, found-at-end}
+use Rattle.query.specs.Result.{Result}
 use Rattle.closest.specs.Panes.{paneMet, paneOf, nearer, paneCause}
 use Rattle.closest.specs.Panes.{ClosestAnswer, hitAt, noHit, refusedClosest, closestFound, closestWalk, closestOf}
 use Rattle.closest.specs.Panes.{MissAnswer, missed, blocked, refusedMiss, missFound, missWalk, missOf}
@@ -38,20 +35,10 @@ use Rattle.demands.specs.Walks.{CheckedRecord, AcceptedRay}
 use Rattle.demands.specs.Panes.{Panes, distanceOf, closestSteps, missSteps, closestReports, missReports, ClosestAnswers, MissAnswers}
 use Rattle.demands.proofs.Rays.{distance-known}
 use Rattle.demands.proofs.NearLimit.{hits-apart, blocks-apart}
-use Rattle.demands.proofs.SoundWalks.{sound-walks, query-not-refused}
+use Rattle.demands.proofs.SoundWalks.{sizes-fit, sound-walks, query-not-refused}
 use Rattle.demands.proofs.Runs.{query-tests, reported-exist, query-noted, miss-closest}
 
 -- ---- answers
-
--- a walk that was not refused gives what it has found
-found-at-end : {A : Type 0} (refuse : ℕ → A) (found : Found Float → ℕ → Result A) (cause : ℕ) (o : OutcomeWords WalkRay (Found Float)) (b : S.Answer)
-    → 0 ≡ cause → Ended b → entered refuse cause (walked refuse found o b) ≡ found (o .accumulator) (o .walker .tests)
-unfolding entered walked
-found-at-end refuse found zero o (S.tested v) e h = absurd h
-found-at-end refuse found zero o (S.position p) e h = refl
-found-at-end refuse found zero o S.done e h = refl
-found-at-end refuse found zero o (S.refused k) e h = absurd h
-found-at-end refuse found (suc c) o b e h = absurd (omega arith)
 
 -- what holds of a hit's position holds of an equal hit's
 same-hit : (entersAt : ℕ → Float) (P : ℕ → Type 0) (p q : ℕ) (t : Float) → P p → hitAt p (entersAt p) ≡ hitAt q t → (t ≡ entersAt q) × P q
@@ -98,7 +85,7 @@ module _ {bytes indices : List ℕ} {panes : List Float} {d : ℕ} {ray : Ray} (
   no-cause : 0 ≡ paneCause bytes indices panes ray
   no-cause =
       sym (entry-none (eqb (length panes % 6) 0) (length bytes) n 0 ray (eq-eqb (length panes % 6) 0 (fine .whole))
-      (record { whole = good .layout; few = good .positions; small = good .nodes }) refl (accepted .accepted))
+      (sizes-fit good) refl (accepted .accepted))
 
   not-refused : (react : React) → Ended (queryAt bytes byBoxes react none n (walkRay ray) .ended)
   not-refused react = query-not-refused good accepted react none

@@ -10,6 +10,7 @@ use lib.Ieee.{Float}
 use Rattle.lists.specs.Counts.{count}
 use Rattle.lists.proofs.Counts.{Some, none, some, some?}
 use Rattle.lists.proofs.Perms.{no-duplicates}
+use Rattle.causes.proofs.Sizes.{Fit}
 use Rattle.ray.specs.declared.Ray.{Ray}
 use Rattle.record_shape.specs.Record.{nodesAt}
 use Rattle.record_shape.specs.Check.{sound, checkOf}
@@ -39,6 +40,9 @@ checked-good bytes are-bytes n d words e =
     let f = fits (length bytes) n words (h .0) .sizes in
     record { sound = h .1; deepest = h .2; layout = f .whole; nodes = f .small; positions = f .few; are-bytes = are-bytes }
 
+pub sizes-fit : {bytes : List ℕ} {n d : ℕ} → CheckedRecord bytes n d → Fit (length bytes) n
+sizes-fit good = record { whole = good .layout; few = good .positions; small = good .nodes }
+
 module _ {bytes : List ℕ} {n d : ℕ} {ray : Ray} (good : CheckedRecord bytes n d) (accepted : AcceptedRay ray) where
   walk : SoundWalk (nodesAt bytes) byBoxes n (walkRay ray)
   walk = record {
@@ -56,35 +60,36 @@ module _ {bytes : List ℕ} {n d : ℕ} {ray : Ray} (good : CheckedRecord bytes 
   by-run P l = subst P (sym (run-started bytes (good .layout) ray (accepted .accepted) l))
 
   -- ---- any-hit
-  met : Meets n (listingAt bytes byBoxes n (walkRay ray)) (Reached bytes n ray) (Passed bytes n ray)
+  pub any-hit-meets : Meets n (listingAt bytes byBoxes n (walkRay ray)) (Reached bytes n ray) (Passed bytes n ray)
       (decodedOutcome (nodeWordsAt bytes byBoxes) (anyHitAt bytes byBoxes n (walkRay ray)))
   unfolding anyHitAt
-  met = W.any-hit-meets walk
+  any-hit-meets = W.any-hit-meets walk
 
   -- a position is among those found once if it is passed, and else not
   listed-once : (p : ℕ) → Passed bytes n ray p → count p (found bytes ray n) ≡ 1
-  listed-once p q = omega (arith, met .once p, met .exact p .1 q)
+  listed-once p q = omega (arith, any-hit-meets .once p, any-hit-meets .exact p .1 q)
 
   not-listed : (p : ℕ) → ¬ (Passed bytes n ray p) → count p (found bytes ray n) ≡ 0
   not-listed p q = go (some? (count p (found bytes ray n)))
     where
       go : Some (count p (found bytes ray n)) → count p (found bytes ray n) ≡ 0
       go (none z) = z
-      go (some z) = absurd (q (met .exact p .0 z))
+      go (some z) = absurd (q (any-hit-meets .exact p .0 z))
 
   -- with room for what is found
   with-room : (before : List ℕ) → length (found bytes ray n) ≤ length before → AnyHitLists bytes ray n before
   with-room before room =
-      let same = list-found good accepted before (met .ends) room in
+      let ends = subst Ended (sym (any-hit-meets .ends)) tt in
+      let same = list-found bytes n ray (sizes-fit good) (accepted .accepted) ends before room in
       record {
-        answer = answers-listed good accepted before (met .ends) room;
-        listing = same ∙ met .lists;
+        answer = answers-listed bytes n ray (sizes-fit good) (accepted .accepted) ends before room;
+        listing = same ∙ any-hit-meets .lists;
         passed-once = λ p q. ap (count p) same ∙ listed-once p q;
         no-other = λ p q. ap (count p) same ∙ not-listed p q;
-        reached = met .reached;
-        reached-once = met .reached-once;
-        reached-all = met .reached-all;
-        tests = met .tests;
+        reached = any-hit-meets .reached;
+        reached-once = any-hit-meets .reached-once;
+        reached-all = any-hit-meets .reached-all;
+        tests = any-hit-meets .tests;
       }
 
   -- ---- the demand
@@ -96,8 +101,8 @@ module _ {bytes : List ℕ} {n d : ℕ} {ray : Ray} (good : CheckedRecord bytes 
     groups-within-level = λ l. by-run (λ r. r .walker .depth ≤ d) l (W.calls-wait-few walk d (good .deepest) l);
     no-step-refused = λ l b. by-run (λ r. All Answered (r .answers)) l (W.calls-answered walk l b);
     any-hit-lists = λ before long.
-        with-room before (long (found bytes ray n) (no-duplicates (found bytes ray n) (met .once)) (λ p i. met .exact p .0 i));
-    any-hit-lists-all = λ before h. with-room before (omega (arith, h, met .most));
+        with-room before (long (found bytes ray n) (no-duplicates (found bytes ray n) (any-hit-meets .once)) (λ p i. any-hit-meets .exact p .0 i));
+    any-hit-lists-all = λ before h. with-room before (omega (arith, h, any-hit-meets .most));
   }
 
   -- ---- any query

@@ -8,7 +8,7 @@ use lib.ListN.{length, getD}
 use Rattle.lists.specs.Counts.{count, upto}
 use Rattle.lists.proofs.Counts.{Same, equal, apart, same?, same-self}
 use Rattle.lists.proofs.Perms.{counts-perm}
-use Rattle.wide_layout.specs.Layout.{wordsAt}
+use Rattle.lists.specs.At.{wordsAt}
 
 from : (l : List ℕ) (a : ℕ) (f : ℕ → ℕ) → ((j : ℕ) → j < length l → f (a + j) ≡ getD l j 0) → map f (upto a (length l)) ≡ l
 unfolding upto

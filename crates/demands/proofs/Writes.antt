@@ -4,7 +4,8 @@ use mathlib.Core.Path.{_≡_}
 use Prim.Native.Nat.{ℕ}
 use Rattle.wide_layout.specs.Wide.{Wide}
 use Rattle.wide_layout.specs.Sizes.{slotsPositions}
-use Rattle.wide_layout.specs.Layout.{indexList, level, wordsAt}
+use Rattle.lists.specs.At.{wordsAt}
+use Rattle.wide_layout.specs.Layout.{indexList, level}
 use Rattle.record.specs.Record.{recordBytes}
 use Rattle.record_laws.specs.Writable.{Writable}
 

@@ -5,3 +5,5 @@ pub mod Walks
 pub mod Runs
 pub mod Panes
 pub mod MinusZero
+pub mod Loss
+pub mod LossRefusals

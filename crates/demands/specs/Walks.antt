@@ -16,7 +16,8 @@ use Rattle.walk.specs.Calls.{All, Op, reported, Answered, StepsWith}
 use Rattle.walk.specs.Listing.{In}
 use Rattle.walk.specs.WordStep.{RunWords}
 use Rattle.walk_record.specs.WalkRay.{WalkRay, walkRay, byBoxes}
-use Rattle.walk_record.specs.Walk.{anyHitAt, listingAt, Reached, Passed}
+use Rattle.walk_record.specs.Walk.{listingAt, Reached, Passed}
+use Rattle.query.specs.Met.{positionsMet, testsMade}
 use Rattle.traverse.specs.Walker.{started}
 use Rattle.traverse.specs.Calls.{runBytes}
 use Rattle.any_hit.specs.AnyHit.{listed, anyHitOf, listAfter}
@@ -80,10 +81,10 @@ module _ (bytes : List ℕ) (ray : Ray) where
 
     -- the positions that any-hit's walk finds, and the node tests that it counts
     abbrev pub found : List ℕ
-    found = anyHitAt bytes byBoxes n (walkRay ray) .accumulator
+    found = positionsMet bytes n ray
 
     abbrev pub counted : ℕ
-    counted = anyHitAt bytes byBoxes n (walkRay ray) .walker .tests
+    counted = testsMade bytes n ray
 
     -- room for any list of positions that the ray passes, each once: a list is long enough exactly if all of them fit
     abbrev pub LongEnough : ℕ → Type 0

@@ -9,7 +9,7 @@ use Rattle.lists.proofs.Splice.{splice-next, set-splice}
 use Rattle.bvh2.specs.Tree.{Tree, leaf, inner, leaves, positions}
 use Rattle.bvh2.specs.Words.{treeNodes, wordAt, treeAt}
 use Rattle.bvh2.proofs.Subtree.{at-leaf, at-inner}
-use Rattle.wide_layout.specs.Layout.{wordsAt}
+use Rattle.lists.specs.At.{wordsAt}
 use Rattle.emit.specs.Leaves.{LeavesReady, LeavesWritten}
 
 -- as many positions as leaves

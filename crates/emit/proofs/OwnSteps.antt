@@ -17,7 +17,7 @@ use borrow.Author.Tests.{eq-eqb, ne-eqb}
 use Rattle.lists.specs.Splice.{splice}
 use Rattle.bvh2.specs.Tree.{Tree, leaves, positions}
 use Rattle.bvh2.specs.Words.{boxAt, treeAt}
-use Rattle.wide_layout.specs.Layout.{wordsAt}
+use Rattle.lists.specs.At.{wordsAt}
 use Rattle.record.specs.Record.{leafMeta, gridBox}
 use Rattle.node.specs.declared.Slot.{Slot}
 use Rattle.node.specs.declared.Node.{Node}

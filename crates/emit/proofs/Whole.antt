@@ -21,7 +21,7 @@ use Rattle.wide_layout.specs.Content.{Content, contentAt}
 use Rattle.record.specs.Children.{childMeta, childBytes, childBit, childPositions, childInner, bitsBefore, positionsBefore}
 use Rattle.record.proofs.Children.{metas-length, boxes-length, meta-at, bytes-at, mask-all, bits-next, positions-all, positions-next, own-next}
 use Rattle.record.proofs.Children.{inner-next, own-all, inner-all, own-first, before-length}
-use Rattle.wide_layout.specs.Layout.{wordsAt}
+use Rattle.lists.specs.At.{wordsAt}
 use Rattle.emit.specs.Own.{Cell, none, asLeaf, asNode, OwnState, begin, heldIn, leafWordsIn, withChild, firstSlots, Matches}
 use Rattle.emit.proofs.LeafSteps.{positions-length, words-length}
 

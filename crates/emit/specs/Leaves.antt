@@ -6,7 +6,7 @@ use Rattle.lists.specs.Splice.{splice}
 use Rattle.bvh2.specs.Tree.{Tree, leaves, positions}
 use Rattle.bvh2.specs.Words.{treeAt}
 use Rattle.bvh2.specs.Decoded.{Subtree}
-use Rattle.wide_layout.specs.Layout.{wordsAt}
+use Rattle.lists.specs.At.{wordsAt}
 
 -- the words are an accepted tree's of n leaves, and a list of m words has room for the leaves of node v from `at` on
 pub record LeavesReady (ws : List ℕ) (n m at depth v : ℕ) : Type 0 where

@@ -22,7 +22,7 @@ use Rattle.wide_layout.specs.Content.{Content, leafChild, innerChild}
 use Rattle.wide_layout.specs.Content as C
 use Rattle.emit.specs.declared.Held.{Held}
 use Rattle.emit.specs.declared.Built.{Built}
-use Rattle.wide_layout.specs.Layout.{wordsAt}
+use Rattle.lists.specs.At.{wordsAt}
 
 -- what a slot's word says: no child, a child that becomes a leaf, or one that becomes a node
 pub data Cell : Type 0 where

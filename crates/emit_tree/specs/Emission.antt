@@ -16,7 +16,8 @@ use Rattle.children.specs.Gather.{gather}
 use Rattle.order.specs.Order.{slotsOf, placed}
 use Rattle.wide_layout.specs.Wide.{Slots, Wide}
 use Rattle.wide_layout.specs.Sizes.{innerChildren, nodesBelow, ownCount, countBelow}
-use Rattle.wide_layout.specs.Layout.{Entry, nodes, indexCount, indexList, wordsAt}
+use Rattle.lists.specs.At.{wordsAt}
+use Rattle.wide_layout.specs.Layout.{Entry, nodes, indexCount, indexList}
 use Rattle.wide_layout.specs.Conversion.{State, writePositions}
 use Rattle.wide_tree.specs.WideTree.{rootSlots}
 use Rattle.wide_tree.specs.Ordered.{placing, wideTreeOf}

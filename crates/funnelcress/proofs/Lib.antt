@@ -8,3 +8,4 @@ pub mod QueryNumbers
 pub mod QueryBounds
 pub mod QueryAnswers
 pub mod WalkerNumbers
+pub mod ReportNumbers

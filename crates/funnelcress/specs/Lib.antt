@@ -2,4 +2,5 @@ pub mod Lists
 pub mod Answers
 pub mod Converted
 pub mod Queries
+pub mod Reports
 pub mod Walkers

@@ -1,5 +1,7 @@
 // The library for C and Rust: each function is exported under its name. Numbers that are returned are those of
-// refusals, 0 for none, but the record check's, conversion's and the queries', which also hold what they answer.
+// refusals, 0 for none, but the record check's, conversion's, the queries' and a report's, which also hold what they
+// answer.
+mod reports;
 mod walkers;
 
 ghost use mathlib.Core.Path.{_≡_};

@@ -1,10 +1,11 @@
 -- Laws of sums, and the length of a list by its counts.
 use mathlib.Core.Path.{_≡_, refl, sym, _∙_}
-use mathlib.Core.List.{List, [], _∷_}
+use mathlib.Core.List.{List, [], _∷_, _++_}
 use Prim.Native.Nat.{ℕ, zero, suc, _+_, _*_, _≤_, _<_}
 use native.Mathlib.Omega.{arith}
 use native.Mathlib.Decide.{decLt}
-use lib.ListN.{length}
+use lib.ListN.{length, getD}
+use Rattle.lists.specs.At.{wordsAt}
 use Rattle.lists.specs.Counts.{same, count}
 use Rattle.lists.specs.Sums.{sum, sumOver}
 use Rattle.lists.proofs.Counts.{same-self, same-apart}
@@ -100,6 +101,42 @@ sum-only f (suc k) j h z = pick (decLt j k) (λ l. sum-only f k j l (λ i m. z i
         let y = sum-zero f k (λ i m. z i (omega arith) (λ d. omega arith)) in
         rw e (omega arith)
 
+-- two sums in either order
+pub sum-exchange : (f : ℕ → ℕ → ℕ) (m n : ℕ) → sum (λ i. sum (f i) n) m ≡ sum (λ j. sum (λ i. f i j) m) n
+unfolding sum
+sum-exchange f zero n = sym (sum-zero (λ j. 0) n (λ j h. refl))
+sum-exchange f (suc m) n =
+    omega (arith, sum-exchange f m n, sum-add (λ j. sum (λ i. f i j) m) (f m) n)
+
+pub sum-scaled : (f : ℕ → ℕ) (c k : ℕ) → sum (λ j. f j * c) k ≡ sum f k * c
+unfolding sum
+sum-scaled f c zero = omega arith
+sum-scaled f c (suc k) = omega (arith, sum-scaled f c k)
+
+-- no term is over c
+pub sum-most : (f : ℕ → ℕ) (c : ℕ) → ((i : ℕ) → f i ≤ c) → (k : ℕ) → sum f k ≤ k * c
+unfolding sum
+sum-most f c h zero = omega arith
+sum-most f c h (suc k) = omega (arith, sum-most f c h k, h k)
+
+-- ---- over the members of a list
+
+pub over-append : (f : ℕ → ℕ) (a b : List ℕ) → sumOver f (a ++ b) ≡ sumOver f a + sumOver f b
+unfolding sumOver
+over-append f [] b = omega arith
+over-append f (x ∷ a) b = omega (arith, over-append f a b)
+
+pub over-most : (f : ℕ → ℕ) (c : ℕ) → ((x : ℕ) → f x ≤ c) → (l : List ℕ) → sumOver f l ≤ length l * c
+unfolding sumOver
+over-most f c h [] = omega arith
+over-most f c h (x ∷ l) = omega (arith, h x, over-most f c h l)
+
+-- at the words at some places
+pub over-words : (f : ℕ → ℕ) (words l : List ℕ) → sumOver f (wordsAt words l) ≡ sumOver (λ p. f (getD words p 0)) l
+unfolding sumOver
+over-words f words [] = refl
+over-words f words (p ∷ l) = omega (arith, over-words f words l)
+
 -- ---- counts
 
 -- one member's share in a sum over all numbers below n
@@ -138,11 +175,6 @@ sum-counts n l h = sum-cong (λ x. count x l) (λ x. count x l * 1) n (λ j k. o
 pub once-length : (n : ℕ) (l : List ℕ) → ((x : ℕ) → x < n → count x l ≡ 1) → ((x : ℕ) → n ≤ x → count x l ≡ 0) → length l ≡ n
 once-length n l h k = sym (sum-counts n l k) ∙ sum-ones (λ x. count x l) n h
 
-sum-most : (f : ℕ → ℕ) (k : ℕ) → ((i : ℕ) → f i ≤ 1) → sum f k ≤ k
-unfolding sum
-sum-most f zero h = omega arith
-sum-most f (suc k) h = omega (arith, sum-most f k h, h k)
-
 -- and one in which each stands at most once has at most n
 pub distinct-length : (n : ℕ) (l : List ℕ) → ((x : ℕ) → count x l ≤ 1) → ((x : ℕ) → n ≤ x → count x l ≡ 0) → length l ≤ n
-distinct-length n l h k = omega (arith, sum-counts n l k, sum-most (λ x. count x l) n h)
+distinct-length n l h k = omega (arith, sum-counts n l k, sum-most (λ x. count x l) 1 h n)

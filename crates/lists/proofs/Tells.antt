@@ -1,7 +1,7 @@
 -- Tests that compute, and what they tell.
 use mathlib.Core.Path.{_≡_, refl, sym, _∙_}
 use mathlib.Core.Bool.{Bool, true, false, _&&_}
-use Prim.Native.Nat.{ℕ, zero, suc, _≤_, _<_}
+use Prim.Native.Nat.{ℕ, zero, suc, _+_, _≤_, _<_}
 use native.Mathlib.Omega.{arith}
 use lib.Dec.{T, eqb, leb, ltb, eqb→eq, eqb-refl, leb→le, le→leb, ltb→lt, lt→ltb}
 use Rattle.lists.specs.Below.{allBelow}
@@ -80,16 +80,33 @@ below-tells P f t (suc k) = tells-as (and-tells (below-tells P f t k) (t k)) (λ
 pub all-pass : (f : ℕ → Bool) (k : ℕ) → ((i : ℕ) → i < k → f i ≡ true) → allBelow f k ≡ true
 all-pass f k h = tells-true (below-tells (λ i. f i ≡ true) f (λ i. true-tells (f i)) k) h
 
+pub all-at : (f : ℕ → Bool) (k : ℕ) → allBelow f k ≡ true → (i : ℕ) → i < k → f i ≡ true
+all-at f k = told (below-tells (λ i. f i ≡ true) f (λ i. true-tells (f i)) k)
+
+-- number after number: it passes below one more, and so below all
+pub all-next : (f : ℕ → Bool) (k : ℕ) → allBelow f k ≡ true → f k ≡ true → allBelow f (k + 1) ≡ true
+all-next f k h e = all-pass f (k + 1) (λ i l. pick i l (same? i k))
+  where
+    pick : (i : ℕ) → i < k + 1 → Same i k → f i ≡ true
+    pick i l (equal d j) = rw d e
+    pick i l (apart d j) = all-at f k h i (omega arith)
+
+pub all-reached : (f : ℕ → Bool) (j k : ℕ) → allBelow f j ≡ true → k ≤ j → allBelow f k ≡ true
+all-reached f j k h l = all-pass f k (λ i m. all-at f j h i (omega arith))
+
 pub one-fails : (f : ℕ → Bool) (k i : ℕ) → i < k → f i ≡ false → allBelow f k ≡ false
 one-fails f k i l e = tells-false (below-tells (λ i. f i ≡ true) f (λ i. true-tells (f i)) k) (λ h. clash (sym e ∙ h i l))
 
--- a test that fails somewhere below k fails at some number
-pub where-fails : (f : ℕ → Bool) (k : ℕ) → allBelow f k ≡ false → (i : ℕ) × (i < k) × (f i ≡ false)
+-- a test fails at some number below k, and at none before it
+abbrev pub FailsFirst : (ℕ → Bool) → ℕ → Type 0
+FailsFirst f k = (i : ℕ) × (i < k) × (f i ≡ false) × ((j : ℕ) → j < i → f j ≡ true)
+
+-- it does where it does not pass below k
+pub where-fails : (f : ℕ → Bool) (k : ℕ) → allBelow f k ≡ false → FailsFirst f k
 unfolding allBelow
 where-fails f zero e = clash (sym e)
 where-fails f (suc k) e = pick (allBelow f k) (f k) refl refl e (where-fails f k)
   where
-    pick : (a b : Bool) → allBelow f k ≡ a → f k ≡ b → a && b ≡ false → (allBelow f k ≡ false → (i : ℕ) × (i < k) × (f i ≡ false)) → (i : ℕ)
-        × (i < suc k) × (f i ≡ false)
-    pick true b x y z g = (k, omega arith, y ∙ z)
-    pick false b x y z g = let u = g x in (u .0, omega (arith, u .1), u .2)
+    pick : (a b : Bool) → allBelow f k ≡ a → f k ≡ b → a && b ≡ false → (allBelow f k ≡ false → FailsFirst f k) → FailsFirst f (suc k)
+    pick true b x y z g = (k, omega arith, y ∙ z, all-at f k x)
+    pick false b x y z g = let u = g x in (u .0, omega (arith, u .1), u .2, u .3)

@@ -2,7 +2,7 @@
 ghost use mathlib.Core.Path.{_≡_};
 ghost use Prim.Native.Nat.{_+_, _*_, _≤_};
 ghost use lib.ListN.{length};
-ghost use Rattle.packed.specs.Packed.{vecIn, boxIn, rayIn};
+ghost use Rattle.packed.specs.Packed.{vecIn, boxIn, rayIn, raysAccepted};
 use aabb::Aabb;
 use ray::Ray;
 use ray::Vec3;
@@ -45,4 +45,19 @@ pub fn ray_at(s: &[f32], k: usize) -> Ray
     let origin = vec_at(s, o);
     let direction = vec_at(s, o + 3);
     Ray::new(origin, direction, s[o + 6], s[o + 7])
+}
+
+// Whether every ray of a list is accepted.
+pub fn rays_accepted(s: &[f32]) -> bool
+    ensures { λ r. ⌜ r ≡ raysAccepted (now (s .entry)) ⌝ }
+{
+    let mut k = 0;
+    while k < s.len() / RAY {
+        let ray = ray_at(s, k);
+        if !ray.accepted() {
+            return false;
+        }
+        k += 1;
+    }
+    true
 }

@@ -1,8 +1,8 @@
 -- The first cause by the tests that the code makes in turn, and what holds where there is none.
-use mathlib.Core.Path.{_≡_, refl, _∙_}
+use mathlib.Core.Path.{_≡_, refl, ap, _∙_}
 use mathlib.Core.Bool.{Bool, true, false}
 use mathlib.Core.List.{List, [], _∷_}
-use Prim.Native.Nat.{ℕ, zero, suc}
+use Prim.Native.Nat.{ℕ, zero, suc, _≤_, _<_}
 use native.Mathlib.Omega.{arith}
 use borrow.Author.Tests.{eq-eqb, ne-eqb}
 use Rattle.causes.specs.Causes.{Condition, _unless_, firstCause, given}
@@ -11,7 +11,13 @@ use Rattle.causes.proofs.Causes.{first-here, first-later, passed-none, append-f
 use Rattle.causes.proofs.Sizes.{Fit, record-passed, none-record}
 use Rattle.ray.specs.declared.Ray.{Ray}
 use Rattle.ray.specs.Ray.{acceptedRay}
+use Rattle.walk.specs.Step as S
+use Rattle.walk.specs.Queries.{Ended}
+use Rattle.walk.specs.WordQueries.{OutcomeWords}
+use Rattle.walk_record.specs.WalkRay.{WalkRay}
 use Rattle.query.specs.Entry.{entryConditions, entryCause}
+use Rattle.query.specs.Result.{Result}
+use Rattle.query.specs.Result as R
 
 module _ (fits : Bool) (bytes n between : ℕ) (r : Ray) where
   -- behind the sizes
@@ -66,3 +72,27 @@ entered fits bytes n between r e = lists fits refl
     lists : (b : Bool) → fits ≡ b → Entered fits bytes n between r
     lists true f = sizes f (recordCause bytes n) refl
     lists false f = absurd (omega (arith, e, entry-unfit fits bytes n between r f))
+
+-- ---- answers by the cause on entry
+
+-- a cause found on entry is the answer
+pub by-cause : {A : Type 0} (refuse : ℕ → A) (k c : ℕ) (w : Result A) → k ≡ c → 0 < k → record { answer = refuse k; tests = 0 } ≡ R.entered refuse c w
+unfolding R.entered
+by-cause refuse k zero w e h = absurd (omega arith)
+by-cause refuse k (suc c) w e h = ap (λ (j : ℕ). record { answer = refuse j; tests = 0 }) e
+
+-- and without one the walk's is
+pub without-cause : {A : Type 0} (refuse : ℕ → A) (k c : ℕ) (w : Result A) → k ≡ c → k ≤ 0 → w ≡ R.entered refuse c w
+unfolding R.entered
+without-cause refuse k zero w e h = refl
+without-cause refuse k (suc c) w e h = absurd (omega arith)
+
+-- a walk that was not refused gives what it has found
+pub found-at-end : {A N : Type 0} (refuse : ℕ → A) (found : N → ℕ → Result A) (cause : ℕ) (o : OutcomeWords WalkRay N) (b : S.Answer) → 0 ≡ cause
+    → Ended b → R.entered refuse cause (R.walked refuse found o b) ≡ found (o .accumulator) (o .walker .tests)
+unfolding R.entered R.walked
+found-at-end refuse found zero o (S.tested v) e h = absurd h
+found-at-end refuse found zero o (S.position p) e h = refl
+found-at-end refuse found zero o S.done e h = refl
+found-at-end refuse found zero o (S.refused k) e h = absurd h
+found-at-end refuse found (suc c) o b e h = absurd (omega arith)

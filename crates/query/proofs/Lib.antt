@@ -1,3 +1,4 @@
-pub mod Entry
 pub mod Leads
+pub mod Gathers
 pub mod Begins
+pub mod Entry

@@ -1,3 +1,4 @@
 pub mod Entry
+pub mod Met
 pub mod Result
 pub mod Walk

@@ -2,3 +2,4 @@ pub mod Samples
 pub mod Further
 pub mod NearLimit
 pub mod MinusZero
+pub mod Losses

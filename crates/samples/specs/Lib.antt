@@ -3,3 +3,4 @@ pub mod Samples
 pub mod Further
 pub mod NearLimit
 pub mod MinusZero
+pub mod Losses

@@ -35,6 +35,8 @@ pub fn print_name(kind: u32) {
         40 => io::write_all(STDOUT_FILENO, b"records shown"),
         41 => io::write_all(STDOUT_FILENO, b"lines of checkrecord"),
         42 => io::write_all(STDOUT_FILENO, b"large trees"),
+        43 => io::write_all(STDOUT_FILENO, b"losses"),
+        44 => io::write_all(STDOUT_FILENO, b"losses by lengths"),
         _ => io::write_all(STDOUT_FILENO, b"unknown"),
     }
     ;

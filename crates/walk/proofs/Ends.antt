@@ -9,7 +9,7 @@ use lib.ListN.{length}
 use Rattle.soundness.specs.Shape.{Shape}
 use Rattle.walk.specs.Tests.{Tests}
 use Rattle.walk.specs.Step.{Walker, Answer, tested, position, done, refused, fresh, Stepped, stepOf, tellOf}
-use Rattle.walk.specs.Calls.{Op, runOps, reportOf, reported, Answered}
+use Rattle.walk.specs.Calls.{Op, runOps, positionIn, reported, Answered}
 use Rattle.walk.specs.Queries.{Reaction, QueryOutcome, toldAll, follow, query, tellings, callsAfter, queryCalls, stepsFor, append, Going}
 use Rattle.walk.specs.Queries.{Halted, Ended}
 use Rattle.walk.specs.Lawful.{SoundTests, Unrefused, Narrow}
@@ -139,7 +139,7 @@ any-hit-run {RayData} m T (suc f) n w x = go (stepOf m T n w .answer) (stepOf m 
     go : (b : Answer) (v : Walker RayData) → ((u : Walker RayData) (y : List ℕ) → query m T append f n u y .accumulator
         ≡ y ++ reported (runOps m T (queryCalls m T append f n u y) u .answers))
         → follow m T append b v x (query m T append f n) .accumulator
-        ≡ x ++ (reportOf b ++ reported (runOps m T (callsAfter m T append b v x (queryCalls m T append f n)) v .answers))
+        ≡ x ++ (positionIn b ++ reported (runOps m T (callsAfter m T append b v x (queryCalls m T append f n)) v .answers))
     go (tested c) v h = h v x
     go (position p) v h = h v (x ++ (p ∷ [])) ∙ append-assoc x (p ∷ []) _
     go done v h = sym (append-nil x)

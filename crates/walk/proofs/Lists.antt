@@ -8,8 +8,8 @@ use native.Mathlib.Omega.{arith}
 use lib.ListN.{length}
 use Rattle.lists.specs.Counts.{same, count, upto}
 use Rattle.lists.specs.Sums.{sum, sumOver}
-use Rattle.lists.proofs.Counts.{same-self, same-one, count-append, Some, none, some, some?}
-use Rattle.lists.proofs.Sums.{sum-cong, sum-front, sum-counted}
+use Rattle.lists.proofs.Counts.{same-self, same-one, count-append, Same, equal, apart, same?, Some, none, some, some?}
+use Rattle.lists.proofs.Sums.{sum-cong, sum-front, sum-counted, over-append}
 use Rattle.walk.specs.Calls.{All}
 use Rattle.walk.specs.Listing.{In, joined, flat}
 
@@ -51,12 +51,17 @@ pub all-map : {A : Type 0} {P Q : A → Type 0} → ((x : A) → P x → Q x) �
 all-map f [] h = tt
 all-map f (x ∷ l) h = (f x (h .0), all-map f l (h .1))
 
--- ---- sums over a list
+-- what holds of every member holds of each
+pub all-in : (P : ℕ → Type 0) (l : List ℕ) → All P l → (p : ℕ) → In p l → P p
+unfolding count
+all-in P [] h p i = absurd (omega arith)
+all-in P (q ∷ l) h p i = go (same? p q) (all-in P l (h .1) p)
+  where
+    go : Same p q → (In p l → P p) → P p
+    go (equal e s) r = rw e (h .0)
+    go (apart e s) r = r (omega arith)
 
-pub sum-over-append : (f : ℕ → ℕ) (a b : List ℕ) → sumOver f (a ++ b) ≡ sumOver f a + sumOver f b
-unfolding sumOver
-sum-over-append f [] b = omega arith
-sum-over-append f (x ∷ a) b = omega (arith, sum-over-append f a b)
+-- ---- sums over a list
 
 pub sum-over-cong : (f g : ℕ → ℕ) (l : List ℕ) → ((x : ℕ) → In x l → f x ≡ g x) → sumOver f l ≡ sumOver g l
 unfolding sumOver
@@ -144,7 +149,7 @@ count-flat x f (y ∷ l) = omega (arith, count-append x (f y) (flat f l), count-
 pub sum-flat : (g : ℕ → ℕ) (f : ℕ → List ℕ) (l : List ℕ) → sumOver g (flat f l) ≡ sumOver (λ v. sumOver g (f v)) l
 unfolding sumOver
 sum-flat g f [] = refl
-sum-flat g f (y ∷ l) = omega (arith, sum-over-append g (f y) (flat f l), sum-flat g f l)
+sum-flat g f (y ∷ l) = omega (arith, over-append g (f y) (flat f l), sum-flat g f l)
 
 -- a member of joined lists is a member of one of them, and back
 pub in-flat : (x : ℕ) (f : ℕ → List ℕ) (l : List ℕ) → In x (flat f l) → (c : ℕ) × In c l × In x (f c)

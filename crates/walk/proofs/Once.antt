@@ -12,7 +12,7 @@ use Rattle.soundness.specs.Shape.{Shape, positionsHeld}
 use Rattle.soundness.proofs.Range.{count-range}
 use Rattle.walk.specs.Tests.{Tests}
 use Rattle.walk.specs.Step.{Walker, fresh, Stepped, afterTest, stepOf, tellOf}
-use Rattle.walk.specs.Calls.{Op, step, tell, runOps, reportOf, reported}
+use Rattle.walk.specs.Calls.{Op, step, tell, runOps, positionIn, reported}
 use Rattle.walk.specs.Lawful.{SoundTests}
 use Rattle.walk.proofs.Lists.{sum-over-part}
 use Rattle.walk.proofs.Dues.{sums, push-sums, report-hand, test-hand, test-sum}
@@ -46,11 +46,11 @@ module _ {RayData Distance : Type 0} {S : Shape} {Rule : ℕ → Type 0} {T : Te
   remaining x w = count x (w .positions) + left (total S (λ v. positionsHeld S v x)) w
 
   step-remaining : (x n : ℕ) (w : Walker RayData)
-      → count x (reportOf (stepOf (S .nodes) T n w .answer)) + remaining x (stepOf (S .nodes) T n w .walker) ≤
+      → count x (positionIn (stepOf (S .nodes) T n w .answer)) + remaining x (stepOf (S .nodes) T n w .walker) ≤
       remaining x w
   unfolding count sumOver
   step-remaining x n w =
-      step-cases (S .nodes) T n w (λ (r : Stepped RayData). count x (reportOf (r .answer)) + remaining x (r .walker) ≤ remaining x w)
+      step-cases (S .nodes) T n w (λ (r : Stepped RayData). count x (positionIn (r .answer)) + remaining x (r .walker) ≤ remaining x w)
       (record {
         refuses = λ e c. omega arith;
         ends = λ f e. omega arith;
@@ -72,7 +72,7 @@ module _ {RayData Distance : Type 0} {S : Shape} {Rule : ℕ → Type 0} {T : Te
         arith,
         step-remaining x n w,
         run-remaining x l (stepOf (S .nodes) T n w .walker),
-        count-append x (reportOf (stepOf (S .nodes) T n w .answer)) (reported (runOps (S .nodes) T l (stepOf (S .nodes) T n w .walker) .answers)),
+        count-append x (positionIn (stepOf (S .nodes) T n w .answer)) (reported (runOps (S .nodes) T l (stepOf (S .nodes) T n w .walker) .answers)),
       )
   run-remaining x (tell y ∷ l) w = run-remaining x l (tellOf T y w)
 

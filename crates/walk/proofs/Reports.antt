@@ -7,7 +7,7 @@ use native.Mathlib.Omega.{arith}
 use lib.ListN.{length, length-append}
 use Rattle.walk.specs.Tests.{Tests}
 use Rattle.walk.specs.Step.{Walker, Answer, tested, position, done, refused, Stepped, stepOf, tellOf}
-use Rattle.walk.specs.Calls.{All, Op, step, tell, Run, runOps, reportOf, reported}
+use Rattle.walk.specs.Calls.{All, Op, step, tell, Run, runOps, positionIn, reported}
 use Rattle.walk.specs.Queries.{Reaction, toldAll, follow, query, callsAfter, queryCalls}
 use Rattle.walk.specs.Queries.{Pane, distance, faulty, Found, none, hit, closest, miss, lower, lowerAt, blockAt}
 use Rattle.walk.specs.Reports.{testOf, testedNodes, toldRay, queryReports, Notes, upTo}
@@ -62,7 +62,7 @@ module _ {RayData Distance : Type 0} (m : ℕ) (T : Tests RayData Distance) wher
     -- ---- what a query reports from an answer on, and from a reaction on
 
     abbrev fromAnswer : ℕ → ℕ → Answer → Walker RayData → a → List ℕ
-    fromAnswer f n b v x = reportOf b ++ reported (runOps m T (callsAfter m T react b v x (queryCalls m T react f n)) v .answers)
+    fromAnswer f n b v x = positionIn b ++ reported (runOps m T (callsAfter m T react b v x (queryCalls m T react f n)) v .answers)
 
     abbrev fromReaction : ℕ → ℕ → Walker RayData → Reaction Distance a → List ℕ
     fromReaction f n v r = let u = toldAll T (r .tells) v in reported

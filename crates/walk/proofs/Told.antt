@@ -10,7 +10,7 @@ use lib.Bits.{bitXor}
 use Rattle.lists.proofs.Tells.{told, tells-true}
 use Rattle.walk.specs.Tests.{Tests}
 use Rattle.walk.specs.Step.{Walker, Answer, tested, position, done, refused, fresh, Stepped, push, stepOf, tellOf}
-use Rattle.walk.specs.Calls.{All, Op, step, tell, runOps, reportOf, reported}
+use Rattle.walk.specs.Calls.{All, Op, step, tell, runOps, positionIn, reported}
 use Rattle.walk.specs.Listing.{In, flat, ReachedIn, first, child, PassedIn}
 use Rattle.walk.specs.Slots.{falling, WalkRecord, childNumber, passedChild, passedPosition, testsOf}
 use Rattle.walk.proofs.Lists.{in-head, in-tail, in-none, in-one, in-right, in-append}
@@ -101,7 +101,7 @@ module _ {RayData Distance : Type 0} (m : ℕ) (T : Tests RayData Distance) wher
     run-passes (step n ∷ l) w h =
         let c = step-comes n w h in with (stepOf m T n w .answer) _ (c .passed) (run-passes l (stepOf m T n w .walker) (c .came))
       where
-        with : (b : Answer) (k : List ℕ) → ReportsPassed b → All (PassedIn m T ray) k → All (PassedIn m T ray) (reportOf b ++ k)
+        with : (b : Answer) (k : List ℕ) → ReportsPassed b → All (PassedIn m T ray) k → All (PassedIn m T ray) (positionIn b ++ k)
         with (tested v) k p a = a
         with (position x) k p a = (p, a)
         with done k p a = a

@@ -30,16 +30,16 @@ runOps m T (step n ∷ l) w =
 runOps m T (tell x ∷ l) w = runOps m T l (tellOf T x w)
 
 -- the position that an answer reports, if any
-abbrev pub reportOf : Answer → List ℕ
-reportOf (tested v) = []
-reportOf (position p) = p ∷ []
-reportOf done = []
-reportOf (refused e) = []
+abbrev pub positionIn : Answer → List ℕ
+positionIn (tested v) = []
+positionIn (position p) = p ∷ []
+positionIn done = []
+positionIn (refused e) = []
 
 -- the positions reported, in order
 abbrev pub reported : List Answer → List ℕ
 reported [] = []
-reported (a ∷ l) = reportOf a ++ reported l
+reported (a ∷ l) = positionIn a ++ reported l
 
 -- the answer is not a refusal
 abbrev pub Answered : Answer → Type 0

@@ -1,8 +1,7 @@
 -- The layout of a wide tree in a record (01, "Corners of each file", bvh2_to_cwbvh.rs): which node stands where, and from where its children
 -- and its positions are counted.
-use mathlib.Core.List.{List, [], _∷_, _++_, map}
+use mathlib.Core.List.{List, [], _∷_, _++_}
 use Prim.Native.Nat.{ℕ, _+_}
-use lib.ListN.{getD}
 use Rattle.aabb.specs.declared.Aabb.{Aabb}
 use Rattle.wide_layout.specs.Wide.{Slots, end, empty, leaf, inner, Wide}
 use Rattle.wide_layout.specs.Sizes.{innerChildren, nodesBelow, levelsBelow, ownPositions, ownCount, positionsBelow, countBelow}
@@ -62,10 +61,6 @@ indexList t = ownPositions (t .slots) ++ positionsBelow (t .slots)
 
 abbrev pub indexCount : Wide → ℕ
 indexCount t = ownCount (t .slots) + countBelow (t .slots)
-
--- the index words at positions
-abbrev pub wordsAt : List ℕ → List ℕ → List ℕ
-wordsAt indices ps = map (λ p. getD indices p 0) ps
 
 -- the deepest level
 abbrev pub level : Wide → ℕ

@@ -3,7 +3,9 @@ use crate::args::Args;
 use crate::failure::Failure;
 use crate::output::{self, Progress, joined};
 use crate::{files, help};
-use funnelcress::{AnyHit, Closest, Miss, Pane, Ray, Record, Refusal, Tree, Verdict, on_threads};
+use funnelcress::{
+    AnyHit, Closest, Miss, Pane, Ray, Record, Refusal, Report, Tree, Verdict, on_threads, report_on_threads,
+};
 
 type Command = fn(&Args) -> Result<(), Failure>;
 
@@ -16,6 +18,7 @@ pub fn named(name: &str) -> Option<(&'static str, Command)> {
         "any-hit" => (help::ANY_HIT, any_hit),
         "closest" => (help::CLOSEST, closest),
         "miss" => (help::MISS, miss),
+        "report" => (help::REPORT, report),
         _ => return None,
     })
 }
@@ -143,4 +146,16 @@ fn miss(args: &Args) -> Result<(), Failure> {
         false => format!("{ray} tests {} {}", m.tests, if m.missed { "missed" } else { "blocked" }),
     };
     each(args, &record, &rays, |r| record.miss(&panes, r), line)
+}
+
+fn report(args: &Args) -> Result<(), Failure> {
+    let [record, list, losses, rays] = args.files()?;
+    let (_, bytes) = files::record(record)?;
+    let record = Record::from_parts(bytes, files::list(list)?);
+    let (losses, rays) = (files::losses(losses)?, files::rays(rays)?);
+    sound(record.check())?;
+    let panes = args.panes.unwrap_or(losses.len());
+    let Report { rays, panes, tests } = report_on_threads(args.threads(), &record, panes, &losses, &rays)?;
+    let totals = |kind, totals: &[u64]| output::totals(kind, totals, args.json);
+    output::text(&(totals("ray", &rays) + &totals("pane", &panes) + &output::tests(tests, args.json)))
 }

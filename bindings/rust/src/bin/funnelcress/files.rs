@@ -1,5 +1,5 @@
-//! The files that are read and written. Numbers are little-endian words; a name that ends in .f32 has packed floats, any
-//! other text with one pane or ray a line.
+//! The files that are read and written. Numbers are little-endian words; a name that ends in .f32 has packed floats, one
+//! that ends in .u32 packed words, any other text with one pane, ray or loss a line.
 use crate::failure::Failure;
 use funnelcress::{MAX_POSITIONS, Pane, Ray, Record, Tree};
 use std::fs;
@@ -59,6 +59,14 @@ pub fn list(name: &str) -> Result<Vec<u32>, Failure> {
     words(name, &bytes(name)?)
 }
 
+/// What each line of a text says, but for empty ones and remarks.
+fn lines<T>(name: &str, all: Vec<u8>, read: impl Fn(&str) -> Result<T, String>) -> Result<Vec<T>, Failure> {
+    let text =
+        String::from_utf8(all).map_err(|_| Failure::file(name, "it is no text; packed numbers end in .f32 or .u32"))?;
+    let lines = text.lines().enumerate().filter(|(_, l)| !l.trim().is_empty() && !l.trim_start().starts_with('#'));
+    lines.map(|(k, line)| read(line).map_err(|e| Failure::file(name, format!("line {}: {e}", k + 1)))).collect()
+}
+
 /// Groups of so many floats, packed or a line each.
 fn floats<const N: usize>(name: &str) -> Result<Vec<[f32; N]>, Failure> {
     let all = bytes(name)?;
@@ -70,9 +78,7 @@ fn floats<const N: usize>(name: &str) -> Result<Vec<[f32; N]>, Failure> {
         }
         return Ok(groups.iter().map(|g| g.map(f32::from_bits)).collect());
     }
-    let text = String::from_utf8(all).map_err(|_| Failure::file(name, "it is no text; packed floats end in .f32"))?;
-    let lines = text.lines().enumerate().filter(|(_, l)| !l.trim().is_empty() && !l.trim_start().starts_with('#'));
-    lines.map(|(k, line)| group(line).map_err(|e| Failure::file(name, format!("line {}: {e}", k + 1)))).collect()
+    lines(name, all, group)
 }
 
 /// A line's first floats; what stands behind them, as a name, is left.
@@ -84,6 +90,25 @@ fn group<const N: usize>(line: &str) -> Result<[f32; N], String> {
         *x = part.parse().map_err(|_| format!("{part} is no number"))?;
     }
     Ok(out)
+}
+
+/// A word for each pane, packed or a line each.
+pub fn losses(name: &str) -> Result<Vec<u32>, Failure> {
+    let all = bytes(name)?;
+    if name.ends_with(".u32") {
+        return words(name, &all);
+    }
+    lines(name, all, loss)
+}
+
+/// A line's loss; a name may stand behind it, but no other number, as in a file of panes.
+fn loss(line: &str) -> Result<u32, String> {
+    let mut parts = line.split([' ', '\t', ',']).filter(|p| !p.is_empty());
+    let part = parts.next().unwrap_or(line);
+    if parts.any(|p| p.parse::<f32>().is_ok()) {
+        return Err("one number is needed, more are there".into());
+    }
+    part.parse().map_err(|_| format!("{part} is no whole number of 32 bits"))
 }
 
 pub fn panes(name: &str) -> Result<Vec<Pane>, Failure> {

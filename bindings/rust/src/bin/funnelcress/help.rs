@@ -9,10 +9,11 @@ usage: funnelcress COMMAND ..
   any-hit   the positions that each ray passes
   closest   the nearest pane of each ray
   miss      whether each ray meets nothing
+  report    what each ray loses to the panes that it meets, and what each pane takes
 
 `funnelcress COMMAND --help` has the words and an example of each. The status is 0 only where nothing was refused and
 the record is sound, 1 where something was, and 2 for words that no command takes. What is wrong is said on standard
-error. Every answer is the proved library's.
+error. Every answer is the proved library's; a report over several threads adds up its parts here.
 ";
 
 pub const TREE: &str = "\
@@ -65,4 +66,19 @@ usage: funnelcress miss RECORD LIST PANES RAYS [--json] [--threads N]
 A line a ray: its number, the node tests, and `missed` or `blocked`.
 
 example: funnelcress miss house.record house.list house.txt rays.txt
+";
+
+pub const REPORT: &str = "\
+usage: funnelcress report RECORD LIST LOSSES RAYS [--panes N] [--json] [--threads N]
+
+A line a ray, `ray NUMBER LOSS`: what the panes of all positions that it passes, those that any-hit lists, take from it.
+Then a line a pane, `pane NUMBER LOSS`: what it takes from all rays together. Last the node tests of all rays. The losses
+of the rays add up to those of the panes. One ray that is refused refuses the report, and so do more than 65,536 rays.
+
+LOSSES has a whole number a line for each pane, in thousandths of a decibel, 0 to 1,000,000 (a name may stand behind it),
+or packed words where its name ends in .u32. There are as many panes as losses unless --panes says how many. Each
+thread's part of the rays is a report of the proved library; that the parts' pane totals and tests are added up is not
+proved: --threads 1 makes one call.
+
+example: funnelcress report house.record house.list losses.txt rays.txt
 ";

@@ -16,6 +16,20 @@ pub fn joined(numbers: &[u32], between: &str) -> String {
     numbers.iter().map(u32::to_string).collect::<Vec<_>>().join(between)
 }
 
+/// The losses of rays or of panes, a line each.
+pub fn totals(kind: &str, losses: &[u64], json: bool) -> String {
+    let line = |(number, loss): (usize, &u64)| match json {
+        true => format!("{{\"{kind}\":{number},\"loss\":{loss}}}\n"),
+        false => format!("{kind} {number} {loss}\n"),
+    };
+    losses.iter().enumerate().map(line).collect()
+}
+
+/// The node tests of a report as a line.
+pub fn tests(tests: u64, json: bool) -> String {
+    if json { format!("{{\"tests\":{tests}}}\n") } else { format!("tests {tests}\n") }
+}
+
 /// A ray's refusal as a line.
 pub fn refused(ray: usize, refusal: Refusal, json: bool) -> String {
     let number = refusal.number();
