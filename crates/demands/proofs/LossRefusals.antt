@@ -23,7 +23,7 @@ use Rattle.query.proofs.Entry.{by-cause}
 use Rattle.loss.specs.Loss.{walksBy, refusedReport, reportConditions, walkConditions, totalsIn, reportBy, reportOf}
 use Rattle.loss.specs.Loss.{LossAnswer, refused, isSummed, lossesFit, lossOf}
 use Rattle.loss.proofs.Faults.{sums-apart, is-summed, fault-ten}
-use Rattle.demands.specs.Loss.{LossCall, lossFor, Loses, ReportCall, raysOf, single, reportFor, Totals}
+use Rattle.demands.specs.Loss.{LossCall, lossFor, Loses, ReportCall, raysOf, single, reportFor, Reports}
 use Rattle.demands.specs.LossRefusals.{SizeRefusal, LossRefusal, FirstLossRefusal}
 use Rattle.demands.specs.LossRefusals.{ReportRefusal, part-of-ray, rays-over, ray-totals-short, pane-totals-short, FirstReportRefusal}
 use Rattle.demands.specs.LossRefusals as R
@@ -147,7 +147,7 @@ module _ (c : ReportCall) where
   abbrev tests : List Condition
   tests = onEntry c ++ byWalks c
 
-  report-by-cause : ByCause (λ k. reportFor c .answer ≡ refusedReport k) ((made : ℕ) × Totals c made) tests
+  report-by-cause : ByCause (λ k. reportFor c .answer ≡ refusedReport k) ((made : ℕ) × Reports c made) tests
   unfolding reportOf reportBy totalsIn
   report-by-cause = record {
     gives = λ e. (_, ap (λ (k : ℕ). leftBy c k .answer) e);
@@ -233,5 +233,5 @@ module _ (c : ReportCall) where
   report-refused-first = refused-first report-by-cause (ReportRefusal c) (in-order c) report-shows report-fails
 
   -- and gives totals exactly if none does.
-  pub report-answered : ((made : ℕ) × Totals c made) ↔ ((j : ℕ) → ReportRefusal c j → ⊥)
+  pub report-answered : ((made : ℕ) × Reports c made) ↔ ((j : ℕ) → ReportRefusal c j → ⊥)
   report-answered = given-none report-by-cause (ReportRefusal c) (in-order c) report-shows report-fails

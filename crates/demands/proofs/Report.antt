@@ -32,13 +32,13 @@ use Rattle.loss.specs.Loss.{paneTotal, walksBy, totalled, refusedReport, Report
 use Rattle.loss.specs.Loss.{reportConditions, walkConditions, totalsIn, reportBy, reportOf}
 use Rattle.loss.proofs.Faults.{is-summed, whole, faultless-sums, fault-ten}
 use Rattle.loss.proofs.There.{by-panes}
-use Rattle.demands.specs.Loss.{ReportCall, lossFor, reportFor, met, taken, timesNamed, Totals, raysOf, single, rayWord, paneWord}
+use Rattle.demands.specs.Loss.{ReportCall, lossFor, reportFor, met, taken, timesNamed, Reports, raysOf, single, rayWord, paneWord}
 use Rattle.demands.specs.Loss.{Room, listedIn, RayTotals, UnrefusedOnEntry, FirstFault, LeftAlone, OnlyTotals, AllZero}
 use Rattle.demands.proofs.Loss.{loss-most, loss-in-walk-order}
 use Rattle.demands.proofs.Rays.{ray-accepted, not-forged}
 use Rattle.demands.proofs.Summed.{walkLoss, NoFault, sumMet}
 use Rattle.demands.proofs.Totalled.{totals-apart, onEntry, byWalks, reportRefusal, leftBy, walks, Enters}
-use Rattle.demands.proofs.Totalled.{none-enters, ray-walked, Totalling, totalling, walks-faultless}
+use Rattle.demands.proofs.Totalled.{none-enters, ray-walked, TotalsGiven, totals-given, walks-faultless}
 
 module _ (c : ReportCall) where
   -- ---- refusals
@@ -66,7 +66,7 @@ module _ (c : ReportCall) where
         ap (leftBy c) (append-later (onEntry c) (byWalks c) (none-passed 0 (onEntry c) tt none))
         ∙ ap (λ (x : Bool). leftBy c (firstCause (10 unless x ∷ []))) e
 
-    pub walks-total : allBelow (walks c) (raysOf c) ≡ true → (tests : ℕ) × Totals c tests
+    pub walks-total : allBelow (walks c) (raysOf c) ≡ true → (tests : ℕ) × Reports c tests
     unfolding firstCause reportBy totalsIn
     walks-total e = (_, ap (λ (r : Report). r .answer) (by-walks true e))
 
@@ -121,9 +121,9 @@ module _ (c : ReportCall) where
 
   -- ---- totals
 
-  module _ (tests : ℕ) (given : Totals c tests) where
-    T : Totalling c
-    T = totalling c tests given
+  module _ (tests : ℕ) (given : Reports c tests) where
+    T : TotalsGiven c
+    T = totals-given c tests given
 
     faultless : (i : ℕ) → i < raysOf c → NoFault (single c i)
     faultless i h = walks-faultless c i (all-at (walks c) (raysOf c) (T .all-walk) i h)

@@ -21,7 +21,7 @@ use Rattle.loss.proofs.Faults.{faultless-sums}
 use Rattle.loss.proofs.There.{there-tells}
 use Rattle.demands.specs.Call.{Call, Answers, recordAt, listAt}
 use Rattle.demands.specs.Walks.{CheckedRecord, AcceptedRay}
-use Rattle.demands.specs.Loss.{LossCall, Loses, met, ReportCall, Totals, raysOf, single, rayWord, UnrefusedOnEntry, Losses, AcceptedRays}
+use Rattle.demands.specs.Loss.{LossCall, Loses, met, ReportCall, Reports, raysOf, single, rayWord, UnrefusedOnEntry, Losses, AcceptedRays}
 use Rattle.demands.specs.Loss.{NotRefused}
 use Rattle.demands.proofs.Rays.{ray-accepted}
 use Rattle.demands.proofs.Runs.{any-hit-is-run, reported-exist}
@@ -86,7 +86,7 @@ module _ (c : ReportCall) {d : ℕ} (good : CheckedRecord (c .bytes) (length (c 
       ap (λ (r : Result LossAnswer). isSummed (r .answer))
       (faultless-sums (c .bytes) (c .indices) (c .panes) (c .losses) (rayIn (c .rays) i) (sound-faultless (single c i) good fine (ray-of i h)))
 
-  sound-totals : (tests : ℕ) × Totals c tests × ((i : ℕ) → i < raysOf c → rayWord c i ≤ length (c .indices) * 1000000)
+  sound-totals : (tests : ℕ) × Reports c tests × ((i : ℕ) → i < raysOf c → rayWord c i ≤ length (c .indices) * 1000000)
   sound-totals =
       let t = walks-total c nothing-on-entry (all-pass (walks c) (raysOf c) no-fault) in
       (t .0, t .1, λ i h. most i h (ray-total c (t .0) (t .1) .words i h))

@@ -18,7 +18,7 @@ use Rattle.loss.specs.Loss.{lossCause, walksBy, totalled, refusedReport, Report
 use Rattle.loss.specs.Loss.{reportConditions, walkConditions, reportCause, totalsIn, reportBy, reportOf}
 use Rattle.loss.proofs.Causes.{Entering, none-entering}
 use Rattle.loss.proofs.Faults.{summed-faultless}
-use Rattle.demands.specs.Loss.{ReportCall, lossFor, reportFor, Totals, single, raysOf, UnrefusedOnEntry}
+use Rattle.demands.specs.Loss.{ReportCall, lossFor, reportFor, Reports, single, raysOf, UnrefusedOnEntry}
 use Rattle.demands.proofs.Summed.{NoFault, loss-none, loss-walked, lossEntry, walkLoss}
 
 -- a refusal is no totals
@@ -72,20 +72,20 @@ module _ (c : ReportCall) where
 
   -- ---- with totals
 
-  pub record Totalling : Type 0 where
+  pub record TotalsGiven : Type 0 where
     pub enters : Enters
     pub all-walk : allBelow walks (raysOf c) ≡ true
     pub leaves : reportFor c ≡ totalsIn (c .bytes) (c .indices) (c .panes) (c .losses) (c .rays) (c .rayTotals) (c .paneTotals)
 
-  pub totalling : (tests : ℕ) → Totals c tests → Totalling
+  pub totals-given : (tests : ℕ) → Reports c tests → TotalsGiven
   unfolding reportOf reportBy walkConditions
-  totalling tests e = go (by reportRefusal e)
+  totals-given tests e = go (by reportRefusal e)
     where
       by : (k : ℕ) → leftBy k .answer ≡ totalled tests → k ≡ 0
       by zero q = refl
       by (suc k) q = totals-apart q
 
-      go : reportRefusal ≡ 0 → Totalling
+      go : reportRefusal ≡ 0 → TotalsGiven
       go z =
           let p = passed-parts onEntry byWalks (none-passed 0 (onEntry ++ byWalks) in-order z) in
           record {

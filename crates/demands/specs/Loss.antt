@@ -88,8 +88,8 @@ module _ (c : ReportCall) where
   reportFor = reportOf (c .bytes) (c .indices) (c .panes) (c .losses) (c .rays) (c .rayTotals) (c .paneTotals)
 
   -- it gives totals and so many tests, and not a refusal
-  abbrev pub Totals : ℕ → Type 0
-  Totals tests = reportFor .answer ≡ totalled tests
+  abbrev pub Reports : ℕ → Type 0
+  Reports tests = reportFor .answer ≡ totalled tests
 
   -- how many rays the list has
   abbrev pub raysOf : ℕ
@@ -171,4 +171,4 @@ pub record NotRefused (bytes indices : List ℕ) (panes : ℕ) (losses : List �
         rays = rays;
         rayTotals = rayTotals;
         paneTotals = paneTotals;
-      } in (tests : ℕ) × Totals c tests × ((i : ℕ) → i < rayCount rays → rayWord c i ≤ length indices * 1000000)
+      } in (tests : ℕ) × Reports c tests × ((i : ℕ) → i < rayCount rays → rayWord c i ≤ length indices * 1000000)

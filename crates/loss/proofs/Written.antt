@@ -51,8 +51,8 @@ module _ (bytes indices : List ℕ) (panes : ℕ) (losses : List ℕ) (rays : Li
   abbrev met : ℕ → List ℕ
   met = metBy bytes indices rays
 
-  abbrev Totals : (i tests : ℕ) → (rayBefore paneBefore rayTotals paneTotals : List ℕ) → Type 0
-  Totals = Totalling bytes indices panes losses rays
+  abbrev TotalsAt : (i tests : ℕ) → (rayBefore paneBefore rayTotals paneTotals : List ℕ) → Type 0
+  TotalsAt = Totalling bytes indices panes losses rays
 
   -- ---- no ray yet
 
@@ -64,7 +64,7 @@ module _ (bytes indices : List ℕ) (panes : ℕ) (losses : List ℕ) (rays : Li
       values-at (paneTotal indices losses met 0) panes k 0 l ∙ omega (arith, getD-replicate {A = ℕ} panes k 0 0 l))
 
   pub totals-begin : (rayBefore paneBefore cleared : List ℕ) → cleared ≡ replicate panes 0 → panes ≤ length paneBefore
-      → Totals 0 0 rayBefore (cleared ++ drop panes paneBefore) rayBefore (cleared ++ drop panes paneBefore)
+      → TotalsAt 0 0 rayBefore (cleared ++ drop panes paneBefore) rayBefore (cleared ++ drop panes paneBefore)
   unfolding sum splice upto
   totals-begin rayBefore paneBefore cleared e h =
       let z : length cleared ≡ panes = ap length e ∙ length-replicate panes 0 in
@@ -80,7 +80,7 @@ module _ (bytes indices : List ℕ) (panes : ℕ) (losses : List ℕ) (rays : Li
 
   -- ---- one ray more
 
-  module _ {i tests : ℕ} {rayBefore paneBefore rayTotals paneTotals : List ℕ} (T : Totals i tests rayBefore paneBefore rayTotals paneTotals)
+  module _ {i tests : ℕ} {rayBefore paneBefore rayTotals paneTotals : List ℕ} (T : TotalsAt i tests rayBefore paneBefore rayTotals paneTotals)
       (pane-room : panes ≤ length paneBefore) where
     -- the words of pane totals, after so many rays
     abbrev words : ℕ → List ℕ
@@ -125,7 +125,7 @@ module _ (bytes indices : List ℕ) (panes : ℕ) (losses : List ℕ) (rays : Li
     pub totals-next : i < length rayBefore → allThere panes (panesMet indices (met i)) ≡ true → (rayTotals₁ paneTotals₁ : List ℕ) (made : ℕ)
         → made ≡ testsBy bytes indices rays i → rayTotals₁ ≡ set rayTotals i (rayTotal indices losses met i)
         → paneTotals₁ ≡ charged losses paneTotals (panesMet indices (met i))
-        → Totals (i + 1) (tests + made) rayBefore paneBefore rayTotals₁ paneTotals₁
+        → TotalsAt (i + 1) (tests + made) rayBefore paneBefore rayTotals₁ paneTotals₁
     totals-next h there rayTotals₁ paneTotals₁ made t e f =
         let here : i ≡ 0 + i = omega arith in
         record {
@@ -161,7 +161,7 @@ module _ (bytes indices : List ℕ) (panes : ℕ) (losses : List ℕ) (rays : Li
   -- ---- all rays
 
   pub totals-end : (tests : ℕ) (rayBefore paneBefore cleared rayTotals paneTotals : List ℕ) → length cleared ≡ panes → (i : ℕ) → i ≡ rayCount rays
-      → Totals i tests rayBefore (cleared ++ drop panes paneBefore) rayTotals paneTotals
+      → TotalsAt i tests rayBefore (cleared ++ drop panes paneBefore) rayTotals paneTotals
       → record { answer = totalled tests; rayTotals = rayTotals; paneTotals = paneTotals }
       ≡ totalsIn bytes indices panes losses rays rayBefore paneBefore
   unfolding totalsIn

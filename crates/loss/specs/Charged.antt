@@ -43,7 +43,7 @@ Charges bytes indices losses r (Summed loss tests) before after =
     after ≡ charged losses before (panesMet indices (positionsMet bytes (length indices) r))
 Charges bytes indices losses r (Refused number) before after = Unit {0}
 
--- nothing refuses a report on entry, and there is room for its totals
+-- nothing but room for its totals keeps a report from its walks
 pub record Entered (bytes indices : List ℕ) (panes : ℕ) (losses : List ℕ) (rays : List Float) : Type 0 where
   pub sizes : Fit (length bytes) (length indices)
   pub few : rayCount rays ≤ 65536
