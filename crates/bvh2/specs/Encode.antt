@@ -9,10 +9,15 @@ use lib.Ieee.{binary32, toBits, fits}
 use Rattle.lists.specs.Counts.{upto}
 use Rattle.lists.specs.Splice.{splice}
 use Rattle.ray.specs.declared.Vec3.{Vec3}
+use Rattle.aabb.specs.declared.Aabb.{Aabb}
 use Rattle.bvh2.specs.Tree.{Tree, leaf, inner, labelOf, boxOf, labels}
 
 abbrev pub cornerWords : Vec3 → List ℕ → List ℕ
 cornerWords p rest = toBits binary32 (p .x) ∷ toBits binary32 (p .y) ∷ toBits binary32 (p .z) ∷ rest
+
+-- the seven words of a node, by its box and its link word
+abbrev pub boxedWords : Aabb → ℕ → List ℕ
+boxedWords b link = cornerWords (b .min) (cornerWords (b .max) (link ∷ []))
 
 -- the link word of a tree's root: a leaf's position with kind 1, or the number of the left child
 unfoldable pub linkWord : Tree ℕ → ℕ
@@ -21,7 +26,7 @@ linkWord (inner v b l r) = labelOf l
 
 -- the seven words of a tree's root
 unfoldable pub nodeWords : Tree ℕ → List ℕ
-nodeWords t = cornerWords (boxOf t .min) (cornerWords (boxOf t .max) (linkWord t ∷ []))
+nodeWords t = boxedWords (boxOf t) (linkWord t)
 
 -- the words with each node of the tree written at its number
 unfoldable pub store : List ℕ → Tree ℕ → List ℕ
