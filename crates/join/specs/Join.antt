@@ -9,7 +9,7 @@ use Rattle.lists.specs.Splice.{splice}
 use Rattle.lists.specs.Values.{values}
 use Rattle.causes.specs.Causes.{Condition, _unless_, firstCause}
 use Rattle.aabb.specs.Aabb.{unionOf}
-use Rattle.bvh2.specs.Tree.{Tree, inner, boxOf, depth, relabel, reposition}
+use Rattle.bvh2.specs.Tree.{depth}
 use Rattle.bvh2.specs.Words.{treeNodes, children, position, malformed, linkOf, wordAt, boxAt, treeOf}
 use Rattle.bvh2.specs.FirstCause.{linksInside, boxesAccepted, isTree}
 use Rattle.bvh2.specs.Encode.{boxedWords}
@@ -81,18 +81,6 @@ module _ (ws : List ℕ) (n : ℕ) (us : List ℕ) (m : ℕ) where
 -- the first's index words, then the second's, counted on from the first's panes
 abbrev pub joinedIndices : List ℕ → (panes : ℕ) → List ℕ → List ℕ
 joinedIndices l panes k = l ++ map (λ i. i + panes) k
-
--- ---- the tree that the words are (proofs/Tree has that they are)
-
--- the number that a node gets: the root's, or its own moved up
-abbrev pub movedLabel : (root nodes : ℕ) → ℕ → ℕ
-movedLabel root nodes v = elim v [ zero ↦ root | suc k ↦ suc k + nodes ]
-
--- both trees under a root with the union of their boxes; the second's leaves stand as many positions higher as the first, of n leaves, has
-unfoldable pub joinedTree : (n : ℕ) → Tree ℕ → Tree ℕ → Tree ℕ
-unfolding relabel reposition
-joinedTree n t u =
-    inner 0 (unionOf (boxOf t) (boxOf u)) (relabel (movedLabel 1 2) t) (reposition (λ p. p + n) (relabel (movedLabel 2 (2 * n)) u))
 
 -- ---- what refuses the call
 
