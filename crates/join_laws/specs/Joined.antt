@@ -2,10 +2,7 @@
 use mathlib.Core.List.{List, [], _∷_, _++_}
 use mathlib.Core.Path.{_≡_}
 use Prim.Native.Nat.{ℕ, zero, suc, _+_, _*_, _≤_}
-use lib.Dec.{T}
-use lib.Ieee.{le}
 use lib.ListN.{length, getD, take}
-use Rattle.ray.specs.declared.Vec3.{Vec3}
 use Rattle.aabb.specs.declared.Aabb.{Aabb}
 use Rattle.aabb.specs.Aabb.{unionOf}
 use Rattle.bvh2.specs.Tree.{Tree, leaf, inner, boxOf, relabel, reposition}
@@ -29,13 +26,6 @@ joinedTree n t u =
 unfoldable pub leafPanes : {A : Type 0} → List ℕ → Tree A → List (Aabb × ℕ)
 leafPanes indices (leaf v b p) = (b, getD indices p 0) ∷ []
 leafPanes indices (inner v b l r) = leafPanes indices l ++ leafPanes indices r
-
--- one box holds another: it begins nowhere later and ends nowhere earlier
-abbrev pub NotOver : Vec3 → Vec3 → Type 0
-NotOver p q = T (le (p .x) (q .x)) × T (le (p .y) (q .y)) × T (le (p .z) (q .z))
-
-abbrev pub HoldsBox : Aabb → Aabb → Type 0
-HoldsBox a b = NotOver (a .min) (b .min) × NotOver (b .max) (a .max)
 
 -- ---- a call
 module _ (c : JoinCall) where

@@ -1,24 +1,14 @@
--- Words written one behind the other, and the numbers that a box is written as.
-use mathlib.Core.Bool.{true, not, _&&_}
+-- Words written one behind the other.
 use mathlib.Core.List.{List, [], _∷_, _++_}
-use mathlib.Core.Path.{_≡_, refl, sym, ap, subst, _∙_}
-use Prim.Native.Nat.{ℕ, _+_, _≤_, _^_}
+use mathlib.Core.Path.{_≡_, refl, ap, _∙_}
+use Prim.Native.Nat.{ℕ, _+_, _≤_}
 use native.Mathlib.Omega.{arith}
-use lib.Dec.{T}
-use lib.Ieee.{isNan}
-use lib.Ieee.Bits.{is-true}
-use lib.Ieee.Fits.{and-l, and-r}
 use lib.ListN.{length, set}
 use Rattle.lists.specs.Splice.{splice}
 use Rattle.lists.specs.Values.{values}
 use Rattle.lists.proofs.Splice.{length-splice, set-splice, written-next}
 use Rattle.lists.proofs.Values.{values-length, values-next}
-use Rattle.float.proofs.Magnitude.{atmost-no-nan}
-use Rattle.ray.specs.declared.Vec3.{Vec3}
-use Rattle.ray.specs.Ray.{boundedVec}
-use Rattle.ray.proofs.Bounds.{bounded}
 use Rattle.aabb.specs.declared.Aabb.{Aabb}
-use Rattle.aabb.specs.Aabb.{inOrder, acceptedBox}
 use Rattle.bvh2.specs.Encode.{cornerWords, boxedWords}
 
 -- one more word behind those written
@@ -40,19 +30,6 @@ three-written s at x y z h =
     let a : set s at x ≡ splice s at (x ∷ []) = set-splice s at x (omega arith) in
     let b = write-next s at 1 (x ∷ []) (set s at x) y refl (omega arith) a in
     write-next s at 2 (x ∷ y ∷ []) (set (set s at x) (at + 1) y) z refl (omega arith) b
-
--- a bounded corner has no NaN
-pub corner-numbers : (p : Vec3) → boundedVec p ≡ true → T (not (isNan (p .x))) × T (not (isNan (p .y))) × T (not (isNan (p .z)))
-corner-numbers p e =
-    let h = bounded p (subst T (sym e) tt) in
-    (atmost-no-nan (p .x) (2 ^ 40) 1 (h .x), atmost-no-nan (p .y) (2 ^ 40) 1 (h .y), atmost-no-nan (p .z) (2 ^ 40) 1 (h .z))
-
--- and an accepted box has bounded corners
-pub corners-bounded : (b : Aabb) → acceptedBox b ≡ true → (boundedVec (b .min) ≡ true) × (boundedVec (b .max) ≡ true)
-unfolding acceptedBox
-corners-bounded b e =
-    let ends = and-l (boundedVec (b .min) && boundedVec (b .max)) (inOrder b) (subst T (sym e) tt) in
-    (is-true _ (and-l (boundedVec (b .min)) (boundedVec (b .max)) ends), is-true _ (and-r (boundedVec (b .min)) (boundedVec (b .max)) ends))
 
 -- the words of a node: its corners, then its link
 pub node-written : (s : List ℕ) (at : ℕ) (b : Aabb) (link : ℕ) (t u : List ℕ) → at + 7 ≤ length s → t ≡ splice s at (cornerWords (b .min) [])

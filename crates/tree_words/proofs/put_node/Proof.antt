@@ -2,7 +2,8 @@ use mathlib.Core.Path.{_∙_}
 use native.Mathlib.Omega.{arith}
 use lib.ListN.{length-set}
 use borrow.Author.Needs.{needs}
-use Rattle.tree_words.proofs.Writing.{corners-bounded, node-written}
+use Rattle.aabb.proofs.Union.{corners-bounded}
+use Rattle.tree_words.proofs.Writing.{node-written}
 use Rattle.tree_words.proofs.put_node.Statement.{statement}
 use Rattle.tree_words.proofs.put_node.Tie as tie
 
