@@ -12,11 +12,11 @@ use Rattle.tree_words.proofs.Writing.{three-written}
 use Rattle.tree_words.proofs.put_corner.Statement.{statement}
 use Rattle.tree_words.proofs.put_corner.Tie as tie
 
-numbers : {p : Vec3} → boundedVec p ≡ true → T (not (isNan (p .x))) × T (not (isNan (p .y))) × T (not (isNan (p .z)))
-numbers {p} e = no-nans p (bounded p (subst T (sym e) tt))
+numbers : (p : Vec3) → boundedVec p ≡ true → T (not (isNan (p .x))) × T (not (isNan (p .y))) × T (not (isNan (p .z)))
+numbers p e = no-nans p (bounded p (subst T (sym e) tt))
 
 float-to-bits-words : tie.Need-float-to-bits-words
-float-to-bits-words c = numbers (c .before .pre .1) .0
+float-to-bits-words c = numbers _ (c .before .pre .1) .0
 
 mul-words : tie.Need-mul-words
 mul-words c = search needs
@@ -25,7 +25,7 @@ slice-write-words : tie.Need-slice-write-words
 slice-write-words c = search needs
 
 float-to-bits-words-2 : tie.Need-float-to-bits-words-2
-float-to-bits-words-2 c = numbers (c .before .before .pre .1) .1
+float-to-bits-words-2 c = numbers _ (c .before .before .pre .1) .1
 
 add-words : tie.Need-add-words
 add-words c = search needs
@@ -37,7 +37,7 @@ slice-write-words-2 : tie.Need-slice-write-words-2
 slice-write-words-2 c = simp length-set (omega arith)
 
 float-to-bits-words-3 : tie.Need-float-to-bits-words-3
-float-to-bits-words-3 c = numbers (c .before .before .before .pre .1) .2
+float-to-bits-words-3 c = numbers _ (c .before .before .before .pre .1) .2
 
 add-words-2 : tie.Need-add-words-2
 add-words-2 c = search needs
