@@ -1,0 +1,4 @@
+pub mod Causes
+pub mod Depths
+pub mod Marks
+pub mod Room

@@ -9,6 +9,7 @@ ghost use Rattle.causes.specs.Causes.{firstCause};
 ghost use Rattle.bvh2.specs.Words.{treeNodes, linkOf};
 ghost use Rattle.bvh2.specs.Causes.{TreeSized, LinkInside, Accepted};
 ghost use Rattle.bvh2.specs.FirstCause.{sizesCause, structureCause};
+ghost use Rattle.bvh2_check.specs.Marking.{markCount};
 ghost use Rattle.tree_words.specs.Nodes.{inTurn};
 ghost use Rattle.join.specs.Join.{movedLink, movedNode, underRoot, joinedWords, joinedIndices, marksNeeded};
 ghost use Rattle.join.specs.Join.{roomFor, sizeTests, treeTests, edgeToSpare, sumsFit, joinOf, joiningAnswer};
@@ -42,6 +43,17 @@ fn lesser(a: u32, b: u32) -> u32
     a
 }
 
+// How many marks a tree of n leaves needs.
+fn marks_for(n: usize) -> usize
+    requires { ⌜ n ≤ 65536 ⌝ }
+    ensures { λ r. ⌜ r ≡ markCount n ⌝ }
+{
+    if n == 0 {
+        return 0;
+    }
+    3 * n - 1
+}
+
 // Whether marks, words and indices are long enough for trees of n and m leaves.
 fn has_room(n: usize, m: usize, marks: usize, words: usize, indices: usize) -> bool
     requires { ⌜ n + m ≤ 65536 ⌝ }
@@ -50,11 +62,10 @@ fn has_room(n: usize, m: usize, marks: usize, words: usize, indices: usize) -> b
     if n + m == 0 {
         return true;
     }
-    let mut most = n;
-    if n < m {
-        most = m;
+    if marks < marks_for(n) {
+        return false;
     }
-    if marks < 3 * most - 1 {
+    if marks < marks_for(m) {
         return false;
     }
     if words < (2 * (n + m) - 1) * 7 {

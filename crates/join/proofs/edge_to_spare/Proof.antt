@@ -1,32 +1,38 @@
+use borrow.Author.Tests.{not-true, not-false}
+use native.Mathlib.Omega.{arith}
+use Rattle.join.proofs.Depths.{root-in-tree, spare-second, spare-first, first-over, second-left}
 use Rattle.join.proofs.edge_to_spare.Statement.{statement}
 use Rattle.join.proofs.edge_to_spare.Tie as tie
 use Rattle.join.proofs.edge_to_spare.Reads as reads
 use Rattle.join.proofs.edge_to_spare.Lts as lts
 use Rattle.bvh2_check.proofs.within_depth.Reads as within-depth-reads
 
--- src/lib.rt:108:9
 returns : tie.Need-returns
-returns c = ?
+returns c = spare-second _ _ _ _ (c .if1 .taken)
 
--- src/lib.rt:111:9
 returns-2 : tie.Need-returns-2
-returns-2 c = ?
+returns-2 c = spare-first _ _ _ _ (c .before .if1 .left) (c .if2 .taken)
 
--- src/lib.rt:113:9
 within-depth-requires : tie.Need-within-depth-requires
-within-depth-requires c κs = ?
+within-depth-requires c κs = let s = c .before .before .before .before in root-in-tree _ _ (s .pre .0) (omega (arith, c .before .if1 .left))
 
--- src/lib.rt:114:9
 returns-3 : tie.Need-returns-3
-returns-3 c = ?
+returns-3 c =
+    let e = c .before .before in
+    let s = e .before .before .before .before in
+    first-over _ _ _ _ (s .pre .0) (s .pre .1) (e .before .if1 .left) (e .if2 .left) _ (c .before .within-depth .ensures) (not-true _ (c .if3 .taken))
 
--- src/lib.rt:116:5
 within-depth-requires-2 : tie.Need-within-depth-requires-2
-within-depth-requires-2 c κs = ?
+within-depth-requires-2 c κs =
+    let e = c .before .before in
+    let s = e .before .before .before .before in
+    root-in-tree _ _ (s .pre .1) (omega (arith, e .if2 .left))
 
--- src/lib.rt:103:1
 returns-4 : tie.Need-returns-4
-returns-4 c = ?
+returns-4 c =
+    let e = c .before .before .before in
+    let s = e .before .before .before .before in
+    second-left _ _ _ _ (s .pre .0) (s .pre .1) (e .before .if1 .left) (e .if2 .left) _ _ (c .before .before .within-depth .ensures) (not-false _ (c .before .if3 .left)) (c .within-depth2 .ensures)
 
 pub edge-to-spare-spec : {M : Type 1} → statement M
 edge-to-spare-spec =

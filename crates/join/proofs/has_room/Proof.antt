@@ -1,56 +1,56 @@
+use native.Mathlib.Omega.{arith}
+use Rattle.join.proofs.Room.{room-none, marks-short, words-short, room-indices}
 use borrow.Author.Needs.{needs}
 use Rattle.join.proofs.has_room.Statement.{statement}
 use Rattle.join.proofs.has_room.Tie as tie
 use Rattle.join.proofs.has_room.Reads as reads
 use Rattle.join.proofs.has_room.Lts as lts
+use Rattle.join.proofs.marks_for.Reads as marks-for-reads
 
--- src/lib.rt:50:8
 add-if1 : tie.Need-add-if1
 add-if1 c = search needs
 
--- src/lib.rt:51:9
 returns : tie.Need-returns
-returns c = ?
+returns c = room-none _ _ _ _ _ (c .if1 .taken)
 
--- src/lib.rt:57:16
-mul-if3 : tie.Need-mul-if3
-mul-if3 c = ?
+marks-for-requires : tie.Need-marks-for-requires
+marks-for-requires c κs = search needs
 
--- src/lib.rt:57:16
-sub-if3 : tie.Need-sub-if3
-sub-if3 c = ?
-
--- src/lib.rt:58:9
 returns-2 : tie.Need-returns-2
-returns-2 c = ?
+returns-2 c = marks-short _ _ _ _ _ (omega (arith, c .if2 .taken, c .before .marks-for .ensures))
 
--- src/lib.rt:60:22
+marks-for-requires-2 : tie.Need-marks-for-requires-2
+marks-for-requires-2 c κs = search needs
+
+returns-3 : tie.Need-returns-3
+returns-3 c = marks-short _ _ _ _ _ (omega (arith, c .if3 .taken, c .before .marks-for2 .ensures))
+
 add-if4 : tie.Need-add-if4
 add-if4 c = search needs
 
--- src/lib.rt:60:17
 mul-if4 : tie.Need-mul-if4
 mul-if4 c = search needs
 
--- src/lib.rt:60:17
 sub-if4 : tie.Need-sub-if4
 sub-if4 c = search needs
 
--- src/lib.rt:60:16
 mul-if4-2 : tie.Need-mul-if4-2
 mul-if4-2 c = search needs
 
--- src/lib.rt:61:9
-returns-3 : tie.Need-returns-3
-returns-3 c = ?
+returns-4 : tie.Need-returns-4
+returns-4 c =
+    let second = c .before .before in
+    let first = second .before .before in
+    words-short _ _ _ _ _ (omega (arith, c .before .if3 .left, second .marks-for2 .ensures, second .before .if2 .left, first .marks-for .ensures)) (omega (arith, c .if4 .taken))
 
--- src/lib.rt:63:5
 add-result : tie.Need-add-result
 add-result c = search needs
 
--- src/lib.rt:46:1
-returns-4 : tie.Need-returns-4
-returns-4 c = ?
+returns-5 : tie.Need-returns-5
+returns-5 c =
+    let second = c .before .before in
+    let first = second .before .before in
+    room-indices _ _ _ _ _ (omega (arith, c .before .if3 .left, second .marks-for2 .ensures, second .before .if2 .left, first .marks-for .ensures)) (omega (arith, c .if4 .left))
 
 pub has-room-spec : {M : Type 1} → statement M
 has-room-spec =
@@ -58,13 +58,14 @@ has-room-spec =
     (tie.spec
     add-if1
     returns
-    mul-if3
-    sub-if3
+    marks-for-requires
     returns-2
+    marks-for-requires-2
+    returns-3
     add-if4
     mul-if4
     sub-if4
     mul-if4-2
-    returns-3
+    returns-4
     add-result
-    returns-4)
+    returns-5)

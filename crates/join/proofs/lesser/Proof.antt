@@ -1,23 +1,22 @@
+use native.Mathlib.Omega.{arith}
+use mathlib.Core.Path.{_∙_, sym}
+use Rattle.join.proofs.Causes.{lesser-none, lesser-alone, lesser-both}
 use Rattle.join.proofs.lesser.Statement.{statement}
 use Rattle.join.proofs.lesser.Tie as tie
 use Rattle.join.proofs.lesser.Reads as reads
 use Rattle.join.proofs.lesser.Lts as lts
 
--- src/lib.rt:34:9
 returns : tie.Need-returns
-returns c = ?
+returns c = lesser-none _ _ (c .if1 .taken)
 
--- src/lib.rt:37:9
 returns-2 : tie.Need-returns-2
-returns-2 c = ?
+returns-2 c = lesser-alone _ _ (c .before .if1 .left) (c .if2 .taken)
 
--- src/lib.rt:40:9
 returns-3 : tie.Need-returns-3
-returns-3 c = ?
+returns-3 c = let e = lesser-both _ _ (c .before .before .if1 .left) (c .before .if2 .left) in omega (arith, e, c .if3 .taken)
 
--- src/lib.rt:30:1
 returns-4 : tie.Need-returns-4
-returns-4 c = ?
+returns-4 c = let e = lesser-both _ _ (c .before .before .if1 .left) (c .before .if2 .left) in omega (arith, e, c .if3 .left)
 
 pub lesser-spec : {M : Type 1} → statement M
 lesser-spec = tie.close (tie.spec returns returns-2 returns-3 returns-4)

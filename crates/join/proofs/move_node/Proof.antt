@@ -7,23 +7,23 @@ use Rattle.bvh2.proofs.link_word.Reads as link-word-reads
 use Rattle.join.proofs.moved_link.Reads as moved-link-reads
 use Rattle.tree_words.proofs.copy_node.Reads as copy-node-reads
 
--- src/lib.rt:188:27
+
 link-word-requires : tie.Need-link-word-requires
 link-word-requires c κs = search needs
 
--- src/lib.rt:188:9
+
 moved-link-requires : tie.Need-moved-link-requires
 moved-link-requires c κs = ?
 
--- src/lib.rt:189:5
+
 copy-node-requires : tie.Need-copy-node-requires
 copy-node-requires c κs = search needs
 
--- src/lib.rt:176:1
+
 same-length : tie.Need-same-length
 same-length c = search needs
 
--- src/lib.rt:176:1
+
 returns : tie.Need-returns
 returns c = ?
 

@@ -9,59 +9,59 @@ Inv-loop list by out₀ at i₀ out i = ?
 abbrev μ-loop : tie.MeasureT-loop
 μ-loop list by out₀ at i₀ out i = ?
 
--- src/lib.rt:158:5
+
 loop-holds : tie.Need-loop-holds Inv-loop μ-loop
 loop-holds c = ?
 
--- src/lib.rt:159:24
+
 mul-out : tie.Need-mul-out Inv-loop μ-loop
 mul-out c = ?
 
--- src/lib.rt:159:24
+
 shared-slice-read-out : tie.Need-shared-slice-read-out Inv-loop μ-loop
 shared-slice-read-out c = ?
 
--- src/lib.rt:159:24
+
 cast-out : tie.Need-cast-out Inv-loop μ-loop
 cast-out c = ?
 
--- src/lib.rt:159:24
+
 add-out : tie.Need-add-out Inv-loop μ-loop
 add-out c = ?
 
--- src/lib.rt:159:23
+
 cast-out-2 : tie.Need-cast-out-2 Inv-loop μ-loop
 cast-out-2 c = ?
 
--- src/lib.rt:159:13
+
 add-out-2 : tie.Need-add-out-2 Inv-loop μ-loop
 add-out-2 c = ?
 
--- src/lib.rt:159:9
+
 mul-out-2 : tie.Need-mul-out-2 Inv-loop μ-loop
 mul-out-2 c = ?
 
--- src/lib.rt:159:9
+
 slice-write-out : tie.Need-slice-write-out Inv-loop μ-loop
 slice-write-out c = ?
 
--- src/lib.rt:160:9
+
 add-i : tie.Need-add-i Inv-loop μ-loop
 add-i c = ?
 
--- src/lib.rt:158:5
+
 loop-less : tie.Need-loop-less Inv-loop μ-loop
 loop-less c = ?
 
--- src/lib.rt:158:5
+
 loop-again : tie.Need-loop-again Inv-loop μ-loop
 loop-again c = ?
 
--- src/lib.rt:153:1
+
 same-length : tie.Need-same-length Inv-loop μ-loop
 same-length c = ?
 
--- src/lib.rt:153:1
+
 returns : tie.Need-returns Inv-loop μ-loop
 returns c = ?
 

@@ -9,43 +9,43 @@ Inv-loop panes list i₀ i = ?
 abbrev μ-loop : tie.MeasureT-loop
 μ-loop panes list i₀ i = ?
 
--- src/lib.rt:140:5
+
 loop-holds : tie.Need-loop-holds Inv-loop μ-loop
 loop-holds c = ?
 
--- src/lib.rt:142:13
+
 returns : tie.Need-returns Inv-loop μ-loop
 returns c = ?
 
--- src/lib.rt:144:12
+
 mul-if2 : tie.Need-mul-if2 Inv-loop μ-loop
 mul-if2 c = ?
 
--- src/lib.rt:144:12
+
 shared-slice-read-if2 : tie.Need-shared-slice-read-if2 Inv-loop μ-loop
 shared-slice-read-if2 c = ?
 
--- src/lib.rt:144:12
+
 cast-if2 : tie.Need-cast-if2 Inv-loop μ-loop
 cast-if2 c = ?
 
--- src/lib.rt:145:13
+
 returns-2 : tie.Need-returns-2 Inv-loop μ-loop
 returns-2 c = ?
 
--- src/lib.rt:147:9
+
 add-i : tie.Need-add-i Inv-loop μ-loop
 add-i c = ?
 
--- src/lib.rt:140:5
+
 loop-less : tie.Need-loop-less Inv-loop μ-loop
 loop-less c = ?
 
--- src/lib.rt:140:5
+
 loop-again : tie.Need-loop-again Inv-loop μ-loop
 loop-again c = ?
 
--- src/lib.rt:136:1
+
 returns-3 : tie.Need-returns-3 Inv-loop μ-loop
 returns-3 c = ?
 
