@@ -179,7 +179,7 @@ module _ (ws : List ℕ) (n : ℕ) (us : List ℕ) (m : ℕ) where
       ap₂ lesserCause (structure-tests ws n) (structure-tests us m)
       ∙ lesser-first 0
       (
-        (5, linksInside ws n, linksInside us m) ∷ (6, boxesAccepted ws n, boxesAccepted us m) ∷ (7, treeOrNone ws n, treeOrNone us m) ∷ []
+      (5, linksInside ws n, linksInside us m) ∷ (6, boxesAccepted ws n, boxesAccepted us m) ∷ (7, treeOrNone ws n, treeOrNone us m) ∷ []
       )
       (omega arith, (omega arith, (omega arith, tt)))
 

@@ -1,4 +1,5 @@
 pub mod Causes
 pub mod Depths
 pub mod Marks
+pub mod Moving
 pub mod Room

@@ -6,12 +6,14 @@ ghost use Prim.Native.Nat.{_+_, _*_, _-_, _≤_, _<_};
 ghost use lib.ListN.{length, replicate};
 ghost use Rattle.lists.specs.Splice.{splice};
 ghost use Rattle.causes.specs.Causes.{firstCause};
-ghost use Rattle.bvh2.specs.Words.{treeNodes, linkOf};
+ghost use Rattle.aabb.specs.Aabb.{unionOf};
+ghost use Rattle.bvh2.specs.Words.{treeNodes, linkOf, boxAt};
 ghost use Rattle.bvh2.specs.Causes.{TreeSized, LinkInside, Accepted};
-ghost use Rattle.bvh2.specs.FirstCause.{sizesCause, structureCause};
+ghost use Rattle.bvh2.specs.FirstCause.{structureCause};
+ghost use Rattle.bvh2.specs.Encode.{boxedWords};
 ghost use Rattle.bvh2_check.specs.Marking.{markCount};
 ghost use Rattle.tree_words.specs.Nodes.{inTurn};
-ghost use Rattle.join.specs.Join.{movedLink, movedNode, underRoot, joinedWords, joinedIndices, marksNeeded};
+ghost use Rattle.join.specs.Join.{movedLink, movedNode, firstNode, secondNode, underRoot, joinedWords, joinedIndices, marksNeeded};
 ghost use Rattle.join.specs.Join.{roomFor, sizeTests, treeTests, edgeToSpare, sumsFit, joinOf, joiningAnswer};
 ghost use Rattle.join.specs.Steps.{lesserCause, Linked};
 
@@ -213,21 +215,29 @@ fn move_rest(from: &[u32], n: usize, nodes: u32, positions: u32, words: &mut [u3
     }
 }
 
+// The new root, and the old roots behind it.
+fn put_roots(first: &[u32], n: usize, second: &[u32], m: usize, words: &mut [u32])
+    requires { ⌜ Accepted (now first) n × Accepted (now second) m × (0 < n) × (0 < m) × (21 ≤ length (now words)) ⌝ }
+    ensures { λ _. ⌜ now (words .exit) ≡ splice (now (words .entry)) 0
+        (boxedWords (unionOf (boxAt (now (first .entry)) 0) (boxAt (now (second .entry)) 0)) 1
+        ++ (firstNode (now (first .entry)) n (now (second .entry)) m 0 ++ secondNode (now (first .entry)) n (now (second .entry)) m 0)) ⌝ }
+{
+    let a = bvh2::node_box(first, 0);
+    let b = bvh2::node_box(second, 0);
+    tree_words::put_node(words, 0, a.union(b), 1);
+    move_node(first, n, 0, 2, 0, words, 1);
+    move_node(second, m, 0, (2 * n) as u32, n as u32, words, 2);
+}
+
 // Both trees, neither empty, under a new root.
 fn put_under_root(first: &[u32], n: usize, second: &[u32], m: usize, words: &mut [u32])
     requires { ⌜ Accepted (now first) n × Accepted (now second) m × (0 < n) × (0 < m) × (n + m ≤ 65536)
         × (treeNodes (n + m) * 7 ≤ length (now words)) ⌝ }
     ensures { λ _. ⌜ now (words .exit) ≡ splice (now (words .entry)) 0 (underRoot (now (first .entry)) n (now (second .entry)) m) ⌝ }
 {
-    let a = bvh2::node_box(first, 0);
-    let b = bvh2::node_box(second, 0);
-    tree_words::put_node(words, 0, a.union(b), 1);
-    let nodes = (2 * n) as u32;
-    let positions = n as u32;
-    move_node(first, n, 0, 2, 0, words, 1);
-    move_node(second, m, 0, nodes, positions, words, 2);
+    put_roots(first, n, second, m, words);
     move_rest(first, n, 2, 0, words);
-    move_rest(second, m, nodes, positions, words);
+    move_rest(second, m, (2 * n) as u32, n as u32, words);
 }
 
 // The joined tree's words.

@@ -5,18 +5,14 @@ use Rattle.join.proofs.put_indices.Reads as reads
 use Rattle.join.proofs.put_indices.Lts as lts
 use Rattle.join.proofs.put_moved.Reads as put-moved-reads
 
-
 put-moved-requires : tie.Need-put-moved-requires
 put-moved-requires c κs = ?
-
 
 put-moved-requires-2 : tie.Need-put-moved-requires-2
 put-moved-requires-2 c κs = search needs
 
-
 same-length : tie.Need-same-length
 same-length c = search needs
-
 
 returns : tie.Need-returns
 returns c = ?
