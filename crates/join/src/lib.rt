@@ -220,7 +220,7 @@ fn put_roots(first: &[u32], n: usize, second: &[u32], m: usize, words: &mut [u32
     requires { ⌜ Accepted (now first) n × Accepted (now second) m × (0 < n) × (0 < m) × (21 ≤ length (now words)) ⌝ }
     ensures { λ _. ⌜ now (words .exit) ≡ splice (now (words .entry)) 0
         (boxedWords (unionOf (boxAt (now (first .entry)) 0) (boxAt (now (second .entry)) 0)) 1
-        ++ (firstNode (now (first .entry)) n (now (second .entry)) m 0 ++ secondNode (now (first .entry)) n (now (second .entry)) m 0)) ⌝ }
+        ++ firstNode (now (first .entry)) n (now (second .entry)) m 0 ++ secondNode (now (first .entry)) n (now (second .entry)) m 0) ⌝ }
 {
     let a = bvh2::node_box(first, 0);
     let b = bvh2::node_box(second, 0);

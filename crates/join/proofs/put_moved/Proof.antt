@@ -97,7 +97,9 @@ same-length c = kept (c .before)
 returns : tie.Need-returns Inv-loop μ-loop
 returns c =
     let h = c .before in
-    all-moved _ _ _ _ _ _ (h .loop .inv .1) (omega (arith, h .loop .inv .0, c .loop-test .left))
+    let a = h .before .args in
+    let e : h .loop .i ≡ length (a .list .now) = omega (arith, h .loop .inv .0, c .loop-test .left) in
+    all-moved (a .list .now) (a .by) _ _ _ _ (h .loop .inv .1) e
 
 pub put-moved-spec : {M : Type 1} → statement M
 put-moved-spec =
