@@ -2,20 +2,19 @@
 use mathlib.Core.Bool.{Bool, true, false, _&&_}
 use mathlib.Core.List.{List, [], _∷_}
 use mathlib.Core.Logic.{_⊎_, inl, inr}
-use mathlib.Core.Path.{_≡_, refl, sym, ap, ap₂, subst, _∙_}
-use Prim.Native.Nat.{ℕ, zero, suc, _+_, _*_, _<_, _≤_, min, max}
+use mathlib.Core.Path.{_≡_, refl, sym, ap₂, _∙_}
+use Prim.Native.Nat.{ℕ, zero, suc, _+_, _*_, _<_, _≤_, min}
 use native.Mathlib.Omega.{arith}
-use lib.Dec.{T, leb, eqb}
-use lib.ListN.{length}
+use lib.Dec.{leb, eqb}
 use borrow.Author.Tests.{le-leb, lt-leb, leb-false}
 use Rattle.lists.specs.Below.{allBelow}
 use Rattle.lists.proofs.Tells.{clash}
 use Rattle.causes.specs.Causes.{Condition, _unless_, firstCause}
-use Rattle.bvh2.specs.Words.{treeNodes, treeOf}
+use Rattle.bvh2.specs.Words.{treeNodes}
 use Rattle.bvh2.specs.Causes.{TreeSized, Accepted}
-use Rattle.bvh2.specs.FirstCause.{sizeConditions, sizesCause, linksInside, boxesAccepted, isTree, structureConditions, structureCause}
-use Rattle.bvh2.proofs.First.{sizes-none, structure-none}
-use Rattle.join.specs.Join.{roomFor, sizeTests, treeOrNone, edgeToSpare, treeTests, marksNeeded}
+use Rattle.bvh2.specs.FirstCause.{sizeConditions, sizesCause, linksInside, boxesAccepted, structureConditions, structureCause}
+use Rattle.bvh2.proofs.First.{structure-none}
+use Rattle.join.specs.Join.{roomFor, sizeTests, treeOrNone, edgeToSpare, treeTests}
 use Rattle.join.specs.Steps.{lesserCause}
 
 -- ---- the lesser of two causes
@@ -157,7 +156,7 @@ module _ (a n b m : ℕ) where
 -- ---- structure
 
 -- a tree's causes 5 to 7, an empty one's too
-structure-tests : (ws : List ℕ) (n : ℕ)
+pub structure-tests : (ws : List ℕ) (n : ℕ)
     → structureCause ws n ≡ firstCause (5 unless linksInside ws n ∷ 6 unless boxesAccepted ws n ∷ 7 unless treeOrNone ws n ∷ [])
 unfolding structureConditions treeOrNone firstCause allBelow
 structure-tests ws zero = refl

@@ -1,16 +1,21 @@
 -- Words and nodes moved: what is written for each, and that it fits.
+use mathlib.Core.Bool.{Bool}
+use mathlib.Core.Logic.{inl, inr}
 use mathlib.Core.List.{List, [], _∷_, _++_, map}
 use mathlib.Core.Path.{_≡_, refl, sym, ap, ap₂, subst, _∙_}
-use Prim.Native.Nat.{ℕ, zero, suc, _+_, _-_, _*_, _/_, _%_, _<_, _≤_}
+use Prim.Native.Nat.{ℕ, suc, _+_, _-_, _*_, _/_, _%_, _^_, _<_, _≤_}
 use native.Mathlib.Decide.{ℕ-discrete}
 use native.Mathlib.Nat.{add-zero}
 use native.Mathlib.Omega.{arith}
 use lib.ListN.{length, getD, length-append, length-map, List·getD-map}
 use lib.Seq.{ext-getD}
+use lib.Dec.{leb}
+use borrow.Author.Tests.{leb-true}
 use Rattle.lists.specs.Splice.{splice}
 use Rattle.lists.specs.Values.{values}
 use Rattle.lists.proofs.Splice.{length-splice}
 use Rattle.lists.proofs.Values.{values-length, values-at}
+use Rattle.lists.proofs.Tells.{all-at}
 use Rattle.bvh2.specs.Words.{treeNodes, Link, children, position, malformed, linkOf, wordAt, linkAt}
 use Rattle.bvh2.specs.Causes.{LinkInside, Accepted}
 use Rattle.bvh2.proofs.First.{accepted-facts}
@@ -18,7 +23,7 @@ use Rattle.bvh2.proofs.Reading.{word-children, word-position, word-malformed}
 use Rattle.tree_words.specs.Nodes.{inTurn}
 use Rattle.tree_words.proofs.Nodes.{turn-length, turn-next}
 use Rattle.join.specs.Join.{movedLink, movedNode}
-use Rattle.join.specs.Steps.{Linked}
+use Rattle.join.specs.Steps.{LinksInside, StaysWords}
 
 -- ---- a list's words, one by one
 pub map-values : (f : ℕ → ℕ) (l : List ℕ) → values (λ i. f (getD l i 0)) (length l) ≡ map f l
@@ -38,6 +43,13 @@ all-moved l by s at t i e h =
 pub map-none : (l : List ℕ) → map (λ k. k + 0) l ≡ l
 map-none [] = refl
 map-none (x ∷ l) = rw (map-none l, add-zero x)
+
+-- a word moved so is a word
+pub stays-word : (by : ℕ) (l : List ℕ) (i : ℕ) → StaysWords by l → i < length l → getD l i 0 < 2 ^ 32 → getD l i 0 + by < 2 ^ 32
+stays-word by l i (inl e) h w = omega (arith, e)
+stays-word by l i (inr e) h w =
+    let f : ℕ → Bool = λ k. leb (getD l k 0 + by) 0xffff_ffff in
+    omega (arith, leb-true (getD l i 0 + by) 0xffff_ffff (all-at f (length l) e i h))
 
 -- ---- links
 
@@ -62,7 +74,7 @@ module _ (nodes positions : ℕ) (w : ℕ) where
   position-fits h i = omega (arith, link-position w h i .0)
 
 -- a link inside a tree of at most 65,536 leaves
-pub inside-most : (ws : List ℕ) (n v : ℕ) → Linked ws n → v < treeNodes n → LinkInside 65536 (linkAt ws v)
+pub inside-most : (ws : List ℕ) (n v : ℕ) → LinksInside ws n → v < treeNodes n → LinkInside 65536 (linkAt ws v)
 unfolding LinkInside
 inside-most ws n v h l = go (linkAt ws v) (h .inside v l)
   where
@@ -71,7 +83,7 @@ inside-most ws n v h l = go (linkAt ws v) (h .inside v l)
     go (position p) i = let few = h .sized .few in omega arith
     go malformed i = i
 
-pub accepted-linked : (ws : List ℕ) (n : ℕ) → Accepted ws n → 0 < n → Linked ws n
+pub accepted-linked : (ws : List ℕ) (n : ℕ) → Accepted ws n → 0 < n → LinksInside ws n
 accepted-linked ws n a p = let f = accepted-facts ws n a p in record { sized = f .sized; inside = f .inside }
 
 -- ---- nodes

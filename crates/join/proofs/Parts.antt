@@ -1,11 +1,11 @@
 -- The parts of the joined words, written one behind the other.
 use mathlib.Core.Bool.{true}
-use mathlib.Core.List.{List, _++_, append-assoc}
+use mathlib.Core.List.{List, _++_, map}
 use mathlib.Core.Path.{_≡_, refl, sym, ap, _∙_}
 use Prim.Native.Nat.{ℕ, zero, suc, _+_, _-_, _*_, _<_, _≤_}
 use native.Mathlib.Nat.{zero-add}
 use native.Mathlib.Omega.{arith}
-use lib.ListN.{length, length-append}
+use lib.ListN.{length, length-append, length-map}
 use Rattle.lists.specs.Splice.{splice}
 use Rattle.lists.proofs.Splice.{written-next}
 use Rattle.aabb.specs.declared.Aabb.{Aabb}
@@ -17,8 +17,8 @@ use Rattle.bvh2.specs.Encode.{boxedWords}
 use Rattle.bvh2.proofs.First.{accepted-facts}
 use Rattle.tree_words.specs.Nodes.{inTurn}
 use Rattle.tree_words.proofs.Nodes.{turn-length}
-use Rattle.join.specs.Join.{byLeaves, movedNode, firstNode, secondNode, underRoot, joinedWords}
-use Rattle.join.proofs.Moving.{moved-seven}
+use Rattle.join.specs.Join.{byLeaves, firstNode, secondNode, underRoot, joinedWords, joinedIndices}
+use Rattle.join.proofs.Moving.{map-none, moved-seven}
 
 -- the box of an accepted tree's root, and of two
 root-box : (ws : List ℕ) (n : ℕ) → Accepted ws n → 0 < n → acceptedBox (boxAt ws 0) ≡ true
@@ -69,3 +69,33 @@ module _ (ws : List ℕ) (n : ℕ) (us : List ℕ) (m : ℕ) where
       let lra : length (roots ++ a) ≡ (1 + 2 * n) * 7 = omega (arith, length-append roots a, lr, la) in
       written-next s 0 ((1 + 2 * n) * 7) ((treeNodes m - 1) * 7) (roots ++ a) b u v lra lb (omega arith) two
       (g ∙ ap (λ (k : ℕ). splice u k b) (sym (zero-add ((1 + 2 * n) * 7))))
+
+  -- with an empty partner
+  pub second-alone : n ≡ 0 → (s t : List ℕ) → t ≡ splice s 0 (map (λ k. k + 0) us) → t ≡ splice s 0 (joinedWords ws n us m)
+  unfolding byLeaves
+  second-alone e s t f = f ∙ ap (splice s 0) (map-none us) ∙ rw e refl
+
+  pub first-alone : (n ≡ 0 → ⊥) → m ≡ 0 → (s t : List ℕ) → t ≡ splice s 0 (map (λ k. k + 0) ws) → t ≡ splice s 0 (joinedWords ws n us m)
+  unfolding byLeaves
+  first-alone h e s t f = f ∙ ap (splice s 0) (map-none ws ∙ go n m h e)
+    where
+      go : (i j : ℕ) → (i ≡ 0 → ⊥) → j ≡ 0 → ws ≡ byLeaves i j us ws (underRoot ws n us m)
+      go zero j h e = absurd (h refl)
+      go (suc i) zero h e = refl
+      go (suc i) (suc j) h e = absurd (omega arith)
+
+  pub both-joined : (n ≡ 0 → ⊥) → (m ≡ 0 → ⊥) → underRoot ws n us m ≡ joinedWords ws n us m
+  unfolding byLeaves
+  both-joined h k = go n m h k
+    where
+      go : (i j : ℕ) → (i ≡ 0 → ⊥) → (j ≡ 0 → ⊥) → underRoot ws n us m ≡ byLeaves i j us ws (underRoot ws n us m)
+      go zero j h k = absurd (h refl)
+      go (suc i) zero h k = absurd (k refl)
+      go (suc i) (suc j) h k = refl
+
+-- index words of both
+pub both-moved : (l : List ℕ) (panes : ℕ) (k s t u : List ℕ) → length l + length k ≤ length s → t ≡ splice s 0 (map (λ i. i + 0) l)
+    → u ≡ splice t (length l) (map (λ i. i + panes) k) → u ≡ splice s 0 (joinedIndices l panes k)
+both-moved l panes k s t u h e f =
+    written-next s 0 (length l) (length k) l (map (λ i. i + panes) k) t u refl (length-map k (λ i. i + panes)) (omega arith)
+    (e ∙ ap (splice s 0) (map-none l)) (f ∙ ap (λ (a : ℕ). splice t a (map (λ i. i + panes) k)) (sym (zero-add (length l))))

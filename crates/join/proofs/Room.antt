@@ -1,13 +1,12 @@
 -- The lengths that the call needs, by the tests that the code makes.
 use mathlib.Core.Bool.{true, false, _&&_}
-use mathlib.Core.Path.{_≡_, refl, sym, subst}
+use mathlib.Core.Path.{_≡_, sym, subst}
 use Prim.Native.Nat.{ℕ, _+_, _*_, _≤_, _<_}
 use native.Mathlib.Omega.{arith}
 use lib.Dec.{T, leb, leb→le}
 use lib.Ieee.Fits.{and-l, and-r}
 use borrow.Author.Tests.{le-leb, lt-leb}
 use Rattle.bvh2.specs.Words.{treeNodes}
-use Rattle.bvh2_check.specs.Marking.{markCount}
 use Rattle.join.specs.Join.{marksNeeded, roomFor}
 
 module _ (n m marks words indices : ℕ) where

@@ -15,7 +15,7 @@ ghost use Rattle.bvh2_check.specs.Marking.{markCount};
 ghost use Rattle.tree_words.specs.Nodes.{inTurn};
 ghost use Rattle.join.specs.Join.{movedLink, movedNode, firstNode, secondNode, underRoot, joinedWords, joinedIndices, marksNeeded};
 ghost use Rattle.join.specs.Join.{roomFor, sizeTests, treeTests, edgeToSpare, sumsFit, joinOf, joiningAnswer};
-ghost use Rattle.join.specs.Steps.{lesserCause, Linked};
+ghost use Rattle.join.specs.Steps.{lesserCause, LinksInside, StaysWords};
 
 // How the call ends: how many leaves the joined tree has; or refused for the cause of this number.
 pub enum Joining {
@@ -164,7 +164,7 @@ fn sums_fit(panes: usize, list: &[u32]) -> bool
 
 // The list's words, each moved up by so much, from word `at` on.
 fn put_moved(list: &[u32], by: usize, out: &mut [u32], at: usize)
-    requires { ⌜ (at + length (now list) ≤ length (now out)) × (sumsFit by (now list) ≡ true) ⌝ }
+    requires { ⌜ (at + length (now list) ≤ length (now out)) × StaysWords by (now list) ⌝ }
     ensures { λ _. ⌜ now (out .exit) ≡ splice (now (out .entry)) at (map (λ k. k + by) (now (list .entry))) ⌝ }
 {
     let mut i = 0;
@@ -195,7 +195,7 @@ fn move_node(
     words: &mut [u32],
     v: usize,
 )
-    requires { ⌜ Linked (now from) n × (u < treeNodes n) × (nodes ≤ 131072) × (positions ≤ 65536) × (v * 7 + 7 ≤ length (now words)) ⌝ }
+    requires { ⌜ LinksInside (now from) n × (u < treeNodes n) × (nodes ≤ 131072) × (positions ≤ 65536) × (v * 7 + 7 ≤ length (now words)) ⌝ }
     ensures { λ _. ⌜ now (words .exit) ≡ splice (now (words .entry)) (v * 7) (movedNode (now (from .entry)) nodes positions u) ⌝ }
 {
     let link = moved_link(bvh2::link_word(from, u), nodes, positions);
@@ -204,7 +204,7 @@ fn move_node(
 
 // All nodes but the root of a tree of n leaves, each moved up by so many nodes, their links too.
 fn move_rest(from: &[u32], n: usize, nodes: u32, positions: u32, words: &mut [u32])
-    requires { ⌜ Linked (now from) n × (0 < n) × (nodes ≤ 131072) × (positions ≤ 65536) × ((treeNodes n + nodes) * 7 ≤ length (now words)) ⌝ }
+    requires { ⌜ LinksInside (now from) n × (0 < n) × (nodes ≤ 131072) × (positions ≤ 65536) × ((treeNodes n + nodes) * 7 ≤ length (now words)) ⌝ }
     ensures { λ _. ⌜ now (words .exit) ≡ splice (now (words .entry)) ((1 + nodes) * 7)
         (inTurn (λ v. movedNode (now (from .entry)) nodes positions (v + 1)) (treeNodes n - 1)) ⌝ }
 {

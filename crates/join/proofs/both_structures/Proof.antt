@@ -4,10 +4,6 @@ use Rattle.join.proofs.Marks.{both-zeroed}
 use borrow.Author.Needs.{needs}
 use Rattle.join.proofs.both_structures.Statement.{statement}
 use Rattle.join.proofs.both_structures.Tie as tie
-use Rattle.join.proofs.both_structures.Reads as reads
-use Rattle.join.proofs.both_structures.Lts as lts
-use Rattle.bvh2_check.proofs.structure.Reads as structure-reads
-use Rattle.join.proofs.lesser.Reads as lesser-reads
 
 structure-requires : tie.Need-structure-requires
 structure-requires c κs = search needs

@@ -3,9 +3,6 @@ use native.Mathlib.Omega.{arith}
 use Rattle.join.proofs.Depths.{root-in-tree, spare-second, spare-first, first-over, second-left}
 use Rattle.join.proofs.edge_to_spare.Statement.{statement}
 use Rattle.join.proofs.edge_to_spare.Tie as tie
-use Rattle.join.proofs.edge_to_spare.Reads as reads
-use Rattle.join.proofs.edge_to_spare.Lts as lts
-use Rattle.bvh2_check.proofs.within_depth.Reads as within-depth-reads
 
 returns : tie.Need-returns
 returns c = spare-second _ _ _ _ (c .if1 .taken)

@@ -3,9 +3,6 @@ use Rattle.join.proofs.Room.{room-none, marks-short, words-short, room-
 use borrow.Author.Needs.{needs}
 use Rattle.join.proofs.has_room.Statement.{statement}
 use Rattle.join.proofs.has_room.Tie as tie
-use Rattle.join.proofs.has_room.Reads as reads
-use Rattle.join.proofs.has_room.Lts as lts
-use Rattle.join.proofs.marks_for.Reads as marks-for-reads
 
 add-if1 : tie.Need-add-if1
 add-if1 c = search needs

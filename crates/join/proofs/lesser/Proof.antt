@@ -1,10 +1,7 @@
 use native.Mathlib.Omega.{arith}
-use mathlib.Core.Path.{_∙_, sym}
 use Rattle.join.proofs.Causes.{lesser-none, lesser-alone, lesser-both}
 use Rattle.join.proofs.lesser.Statement.{statement}
 use Rattle.join.proofs.lesser.Tie as tie
-use Rattle.join.proofs.lesser.Reads as reads
-use Rattle.join.proofs.lesser.Lts as lts
 
 returns : tie.Need-returns
 returns c = lesser-none _ _ (c .if1 .taken)

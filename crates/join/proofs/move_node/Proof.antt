@@ -1,6 +1,5 @@
 use mathlib.Core.Path.{sym, ap, subst, _∙_}
 use Prim.Native.Nat.{ℕ}
-use native.Mathlib.Omega.{arith}
 use Rattle.bvh2.specs.Words.{linkOf}
 use Rattle.bvh2.specs.Causes.{LinkInside}
 use Rattle.lists.specs.Splice.{splice}
@@ -9,11 +8,6 @@ use Rattle.join.proofs.Moving.{inside-most, node-moved}
 use borrow.Author.Needs.{needs}
 use Rattle.join.proofs.move_node.Statement.{statement}
 use Rattle.join.proofs.move_node.Tie as tie
-use Rattle.join.proofs.move_node.Reads as reads
-use Rattle.join.proofs.move_node.Lts as lts
-use Rattle.bvh2.proofs.link_word.Reads as link-word-reads
-use Rattle.join.proofs.moved_link.Reads as moved-link-reads
-use Rattle.tree_words.proofs.copy_node.Reads as copy-node-reads
 
 link-word-requires : tie.Need-link-word-requires
 link-word-requires c κs = search needs

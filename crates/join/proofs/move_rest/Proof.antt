@@ -1,21 +1,15 @@
 use Rattle.join.proofs.Moving.{rest-kept, rest-next, rest-all}
-use mathlib.Core.List.{List}
-use mathlib.Core.Path.{_≡_, sym, ap, _∙_}
-use Prim.Native.Nat.{ℕ, suc, _+_, _*_, _-_, _≤_, _<_}
+use mathlib.Core.Path.{_≡_, sym}
+use Prim.Native.Nat.{_+_, _*_, _-_, _≤_}
 use native.Mathlib.Omega.{arith}
 use lib.ListN.{length}
 use Rattle.lists.specs.Splice.{splice}
-use Rattle.lists.proofs.Splice.{length-splice, splice-none}
+use Rattle.lists.proofs.Splice.{splice-none}
 use Rattle.bvh2.specs.Words.{treeNodes}
 use Rattle.tree_words.specs.Nodes.{inTurn}
-use Rattle.tree_words.proofs.Nodes.{turn-length, turn-next}
 use Rattle.join.specs.Join.{movedNode}
-use Rattle.join.proofs.Moving.{moved-seven}
 use Rattle.join.proofs.move_rest.Statement.{statement}
 use Rattle.join.proofs.move_rest.Tie as tie
-use Rattle.join.proofs.move_rest.Reads as reads
-use Rattle.join.proofs.move_rest.Lts as lts
-use Rattle.join.proofs.move_node.Reads as move-node-reads
 
 abbrev Inv-loop : tie.InvT-loop
 Inv-loop from n nodes positions words₀ v₀ words v =

@@ -1,13 +1,9 @@
-use mathlib.Core.Path.{sym, ap, _∙_}
-use Prim.Native.Nat.{ℕ, _/_}
+use mathlib.Core.Path.{sym, _∙_}
 use native.Mathlib.Omega.{arith}
 use Rattle.join.proofs.Moving.{moved-children, moved-position, position-fits}
 use borrow.Author.Needs.{needs}
 use Rattle.join.proofs.moved_link.Statement.{statement}
 use Rattle.join.proofs.moved_link.Tie as tie
-use Rattle.join.proofs.moved_link.Reads as reads
-use Rattle.join.proofs.moved_link.Lts as lts
-use Rattle.words.proofs.kind.Reads as kind-reads
 
 kind-requires : tie.Need-kind-requires
 kind-requires c κs = search needs

@@ -1,24 +1,18 @@
-use mathlib.Core.Bool.{Bool}
 use mathlib.Core.List.{List}
 use mathlib.Core.Path.{_≡_, sym, ap, _∙_}
-use Prim.Native.Nat.{ℕ, _+_, _-_, _≤_, _<_}
+use Prim.Native.Nat.{ℕ, _+_, _-_, _^_, _≤_, _<_}
 use native.Mathlib.Omega.{arith}
 use borrow.Author.Needs.{scaled-fits}
-use borrow.Author.Tests.{leb-true}
-use lib.Dec.{leb}
 use lib.ListN.{length, getD}
 use Rattle.lists.specs.Counts.{upto}
 use Rattle.lists.specs.Splice.{splice}
 use Rattle.lists.specs.Values.{values}
 use Rattle.lists.proofs.Splice.{length-splice, splice-none}
-use Rattle.lists.proofs.Tells.{all-at}
 use Rattle.lists.proofs.Values.{values-length}
 use Rattle.tree_words.proofs.Writing.{value-next}
-use Rattle.join.proofs.Moving.{all-moved}
+use Rattle.join.proofs.Moving.{stays-word, all-moved}
 use Rattle.join.proofs.put_moved.Statement.{statement}
 use Rattle.join.proofs.put_moved.Tie as tie
-use Rattle.join.proofs.put_moved.Reads as reads
-use Rattle.join.proofs.put_moved.Lts as lts
 
 -- word i, moved up
 abbrev moved : List ℕ → ℕ → ℕ → ℕ
@@ -44,13 +38,16 @@ kept h = let s = h .before in
 inside : (c : L) → c .before .before .args .at + c .before .loop .i < length (c .before .before .args .out .now)
 inside c = omega (arith, c .before .before .pre .0, c .loop-test .taken)
 
--- the sum is a word
-sum-fits : (c : L) → let s = c .before .before .args in getD (s .list .now) (c .before .loop .i) 0 + s .by ≤ 0xffff_ffff
-sum-fits c =
-    let s = c .before .before in
-    let l = s .args .list .now in
-    let f : ℕ → Bool = λ i. leb (getD l i 0 + s .args .by) 0xffff_ffff in
-    leb-true (getD l (c .before .loop .i) 0 + s .args .by) 0xffff_ffff (all-at f (length l) (s .pre .1) (c .before .loop .i) (c .loop-test .taken))
+abbrev K : Type 0
+K = tie.After-shared-slice-known Inv-loop μ-loop
+
+-- the word is one, and the sum too
+word : (c : K) → getD (c .before .before .before .args .list .now) (c .before .before .loop .i) 0 < 2 ^ 32
+word c = omega (arith, c .shared-slice-known .given (c .before .before .loop .i))
+
+sum-fits : (c : K) → let s = c .before .before .before .args in getD (s .list .now) (c .before .before .loop .i) 0 + s .by < 2 ^ 32
+sum-fits c = let s = c .before .before .before in
+    stays-word (s .args .by) (s .args .list .now) (c .before .before .loop .i) (s .pre .1) (c .before .loop-test .taken) (word c)
 
 loop-holds : tie.Need-loop-holds Inv-loop μ-loop
 unfolding upto
@@ -63,13 +60,13 @@ shared-slice-read-out : tie.Need-shared-slice-read-out Inv-loop μ-loop
 shared-slice-read-out c = c .before .loop-test .taken
 
 cast-out : tie.Need-cast-out Inv-loop μ-loop
-cast-out c = omega (arith, sum-fits (c .before))
+cast-out c = omega (arith, sum-fits c)
 
 add-out : tie.Need-add-out Inv-loop μ-loop
-add-out c = omega (arith, sum-fits (c .before))
+add-out c = omega (arith, sum-fits c)
 
 cast-out-2 : tie.Need-cast-out-2 Inv-loop μ-loop
-cast-out-2 c = omega (arith, sum-fits (c .before))
+cast-out-2 c = omega (arith, sum-fits c)
 
 add-out-2 : tie.Need-add-out-2 Inv-loop μ-loop
 add-out-2 c = omega (arith, inside (c .before), c .before .before .before .good .1 .1 .0 .1)

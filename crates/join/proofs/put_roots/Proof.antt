@@ -1,24 +1,15 @@
 use Prim.Native.Nat.{_≤_}
 use lib.ListN.{length}
 use Rattle.bvh2.proofs.First.{accepted-sized}
-use mathlib.Core.Path.{_≡_, sym, ap, ap₂, subst, _∙_}
-use mathlib.Core.Bool.{true}
+use mathlib.Core.Path.{_≡_, ap, ap₂, _∙_}
 use native.Mathlib.Omega.{arith}
-use Rattle.aabb.specs.declared.Aabb.{Aabb}
 use Rattle.aabb.specs.Aabb.{unionOf, acceptedBox}
 use Rattle.bvh2.specs.Words.{boxAt}
-use Rattle.bvh2.specs.Encode.{boxedWords}
 use Rattle.join.proofs.Moving.{accepted-linked}
 use Rattle.join.proofs.Parts.{roots-box, root-room, roots-written}
 use borrow.Author.Needs.{needs}
 use Rattle.join.proofs.put_roots.Statement.{statement}
 use Rattle.join.proofs.put_roots.Tie as tie
-use Rattle.join.proofs.put_roots.Reads as reads
-use Rattle.join.proofs.put_roots.Lts as lts
-use Rattle.aabb.proofs.Aabb.union.Reads as union-reads
-use Rattle.bvh2.proofs.node_box.Reads as node-box-reads
-use Rattle.join.proofs.move_node.Reads as move-node-reads
-use Rattle.tree_words.proofs.put_node.Reads as put-node-reads
 
 -- the new root's box
 abbrev U : Type 0

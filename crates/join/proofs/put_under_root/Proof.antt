@@ -1,16 +1,11 @@
-use mathlib.Core.Path.{_≡_, _∙_}
+use mathlib.Core.Path.{_≡_}
 use native.Mathlib.Omega.{arith}
 use lib.ListN.{length}
-use Rattle.bvh2.proofs.First.{accepted-sized}
 use Rattle.join.proofs.Moving.{accepted-linked}
 use Rattle.join.proofs.Parts.{whole-written}
 use borrow.Author.Needs.{needs}
 use Rattle.join.proofs.put_under_root.Statement.{statement}
 use Rattle.join.proofs.put_under_root.Tie as tie
-use Rattle.join.proofs.put_under_root.Reads as reads
-use Rattle.join.proofs.put_under_root.Lts as lts
-use Rattle.join.proofs.move_rest.Reads as move-rest-reads
-use Rattle.join.proofs.put_roots.Reads as put-roots-reads
 
 -- the call that writes the roots, and words as long as they were
 abbrev R : Type 0

@@ -10,11 +10,6 @@ use Rattle.join.proofs.Causes.{lesser-zero, sizes-found, sizes-many, si
 use borrow.Author.Needs.{needs}
 use Rattle.join.proofs.size_cause.Statement.{statement}
 use Rattle.join.proofs.size_cause.Tie as tie
-use Rattle.join.proofs.size_cause.Reads as reads
-use Rattle.join.proofs.size_cause.Lts as lts
-use Rattle.bvh2_check.proofs.sizes.Reads as sizes-reads
-use Rattle.join.proofs.has_room.Reads as has-room-reads
-use Rattle.join.proofs.lesser.Reads as lesser-reads
 
 sizes-requires : tie.Need-sizes-requires
 sizes-requires c κs = search needs

@@ -11,8 +11,6 @@ use Rattle.lists.specs.Below.{allBelow}
 use Rattle.lists.proofs.Tells.{all-next, all-reached, one-fails}
 use Rattle.join.proofs.sums_fit.Statement.{statement}
 use Rattle.join.proofs.sums_fit.Tie as tie
-use Rattle.join.proofs.sums_fit.Reads as reads
-use Rattle.join.proofs.sums_fit.Lts as lts
 
 -- word i is one of 32 bits still when it is moved up
 abbrev fits : ℕ → List ℕ → ℕ → Bool

@@ -1,15 +1,8 @@
-use mathlib.Core.Path.{_≡_, sym, ap, _∙_}
 use borrow.Author.Tests.{not-true, not-false}
-use Rattle.bvh2.proofs.First.{structure-none}
-use Rattle.bvh2.specs.Causes.{Accepted}
 use Rattle.join.proofs.Causes.{trees-found, trees-deep, trees-pass, trees-accepted}
 use borrow.Author.Needs.{needs}
 use Rattle.join.proofs.tree_cause.Statement.{statement}
 use Rattle.join.proofs.tree_cause.Tie as tie
-use Rattle.join.proofs.tree_cause.Reads as reads
-use Rattle.join.proofs.tree_cause.Lts as lts
-use Rattle.join.proofs.both_structures.Reads as both-structures-reads
-use Rattle.join.proofs.edge_to_spare.Reads as edge-to-spare-reads
 
 both-structures-requires : tie.Need-both-structures-requires
 both-structures-requires c κs = search needs
