@@ -1,0 +1,4 @@
+pub mod MovedNodes
+pub mod Nodes
+pub mod Standing
+pub mod UnderRoot

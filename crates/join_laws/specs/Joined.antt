@@ -1,14 +1,15 @@
 -- What is claimed of two trees joined (02, [4]). `joinOf c` is what a call answers, and leaves of the slices lent.
 use mathlib.Core.List.{List, [], _∷_, _++_}
 use mathlib.Core.Path.{_≡_}
-use Prim.Native.Nat.{ℕ, zero, suc, _+_, _*_, _≤_}
-use lib.ListN.{length, getD, take}
+use Prim.Native.Nat.{ℕ, zero, suc, _+_, _*_, _≤_, _<_}
+use lib.ListN.{length, getD, take, drop}
 use Rattle.aabb.specs.declared.Aabb.{Aabb}
 use Rattle.aabb.specs.Aabb.{unionOf}
 use Rattle.bvh2.specs.Tree.{Tree, leaf, inner, boxOf, relabel, reposition}
-use Rattle.bvh2.specs.Words.{treeNodes, treeOf}
+use Rattle.bvh2.specs.Words.{treeNodes, boxAt, treeOf}
 use Rattle.bvh2.specs.Causes.{Accepted}
-use Rattle.join.specs.Join.{JoinCall, firstLeaves, secondLeaves, bothLeaves, marksNeeded, joined, joinOf}
+use Rattle.bvh2.specs.Encode.{boxedWords}
+use Rattle.join.specs.Join.{JoinCall, firstLeaves, secondLeaves, bothLeaves, movedNode, marksNeeded, joined, joinOf}
 
 -- ---- the tree that two become
 
@@ -21,6 +22,19 @@ unfoldable pub joinedTree : (n : ℕ) → Tree ℕ → Tree ℕ → Tree ℕ
 unfolding relabel reposition
 joinedTree n t u =
     inner 0 (unionOf (boxOf t) (boxOf u)) (relabel (movedLabel 1 2) t) (reposition (λ p. p + n) (relabel (movedLabel 2 (2 * n)) u))
+
+-- the seven words of node v
+abbrev pub nodeAt : List ℕ → ℕ → List ℕ
+nodeAt ws v = take 7 (drop (v * 7) ws)
+
+-- Node by node, words of both: the new root above nodes 1 and 2; the old roots; the rest of the first, of n leaves, in its order; the rest of the
+-- second, of m.
+pub record InOrder (ws : List ℕ) (n : ℕ) (us : List ℕ) (m : ℕ) (both : List ℕ) : Type 0 where
+  pub root : nodeAt both 0 ≡ boxedWords (unionOf (boxAt ws 0) (boxAt us 0)) 1
+  pub first-root : nodeAt both 1 ≡ movedNode ws 2 0 0
+  pub second-root : nodeAt both 2 ≡ movedNode us (2 * n) n 0
+  pub first-rest : (v : ℕ) → 0 < v → v < treeNodes n → nodeAt both (v + 2) ≡ movedNode ws 2 0 v
+  pub second-rest : (v : ℕ) → 0 < v → v < treeNodes m → nodeAt both (v + 2 * n) ≡ movedNode us (2 * n) n v
 
 -- the leaves from left to right, each by its box and the index word at its position
 unfoldable pub leafPanes : {A : Type 0} → List ℕ → Tree A → List (Aabb × ℕ)
