@@ -31,7 +31,7 @@ not-empty [] e = let z : _≡_ {A = ℕ} 0 1 = cc in omega arith
 not-empty (t ∷ path) e = let z : _≡_ {A = ℕ} 0 1 = cc in omega arith
 
 -- the number of a node that is no root
-other-label : (r nodes v : ℕ) → 0 < v → movedLabel r nodes v ≡ v + nodes
+pub other-label : (r nodes v : ℕ) → 0 < v → movedLabel r nodes v ≡ v + nodes
 other-label r nodes zero h = absurd (omega arith)
 other-label r nodes (suc v) h = refl
 

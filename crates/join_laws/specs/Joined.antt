@@ -41,6 +41,10 @@ unfoldable pub leafPanes : {A : Type 0} → List ℕ → Tree A → List (Aabb �
 leafPanes indices (leaf v b p) = (b, getD indices p 0) ∷ []
 leafPanes indices (inner v b l r) = leafPanes indices l ++ leafPanes indices r
 
+-- the same leaf with its index word counted on from so many panes
+abbrev pub countedOn : (panes : ℕ) → Aabb × ℕ → Aabb × ℕ
+countedOn panes x = (x .0, x .1 + panes)
+
 -- ---- a call
 module _ (c : JoinCall) where
   -- it gives a tree, and not a refusal
