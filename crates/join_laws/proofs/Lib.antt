@@ -1,4 +1,5 @@
-pub mod Given
+pub mod Joinable
+pub mod Joined
 pub mod MovedNodes
 pub mod Nodes
 pub mod Panes
@@ -6,3 +7,4 @@ pub mod Read
 pub mod Standing
 pub mod Tree
 pub mod UnderRoot
+pub mod Written

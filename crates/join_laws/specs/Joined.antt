@@ -1,10 +1,11 @@
 -- What is claimed of two trees joined (02, [4]). `joinOf c` is what a call answers, and leaves of the slices lent.
+use mathlib.Core.Bool.{true}
 use mathlib.Core.List.{List, [], _∷_, _++_}
 use mathlib.Core.Path.{_≡_}
 use Prim.Native.Nat.{ℕ, zero, suc, _+_, _*_, _≤_, _<_}
-use lib.ListN.{length, getD, take, drop}
+use lib.ListN.{length, getD, take, drop, replicate}
 use Rattle.aabb.specs.declared.Aabb.{Aabb}
-use Rattle.aabb.specs.Aabb.{unionOf}
+use Rattle.aabb.specs.Aabb.{unionOf, acceptedBox, HoldsBox, NoMinusZero}
 use Rattle.bvh2.specs.Tree.{Tree, leaf, inner, boxOf, relabel, reposition}
 use Rattle.bvh2.specs.Words.{treeNodes, boxAt, treeOf}
 use Rattle.bvh2.specs.Causes.{Accepted}
@@ -77,3 +78,25 @@ module _ (c : JoinCall) where
     pub marks : marksNeeded (firstLeaves c) (secondLeaves c) ≤ length (c .marks)
     pub words : treeNodes (bothLeaves c) * 7 ≤ length (c .words)
     pub indices : bothLeaves c ≤ length (c .indices)
+
+  -- the root box that it gives is the union of the old ones, is accepted, and holds both; no end of it is -0
+  pub record RootBox : Type 0 where
+    pub union : boxOf treeGiven ≡ unionOf (boxOf firstTree) (boxOf secondTree)
+    pub accepted : acceptedBox (boxOf treeGiven) ≡ true
+    pub holds-first : HoldsBox (boxOf treeGiven) (boxOf firstTree)
+    pub holds-second : HoldsBox (boxOf treeGiven) (boxOf secondTree)
+    pub plain : NoMinusZero (boxOf treeGiven .min) × NoMinusZero (boxOf treeGiven .max)
+
+  -- what lies behind all that it writes is as it was, and the marks that it needs are zero
+  pub record RestKept : Type 0 where
+    pub words : drop (treeNodes (bothLeaves c) * 7) (joinOf c .words) ≡ drop (treeNodes (bothLeaves c) * 7) (c .words)
+    pub indices : drop (bothLeaves c) (joinOf c .indices) ≡ drop (bothLeaves c) (c .indices)
+    pub marks : drop (marksNeeded (firstLeaves c) (secondLeaves c)) (joinOf c .marks) ≡ drop (marksNeeded (firstLeaves c) (secondLeaves c)) (c .marks)
+    pub zeros : take (marksNeeded (firstLeaves c) (secondLeaves c)) (joinOf c .marks) ≡ replicate (marksNeeded (firstLeaves c) (secondLeaves c)) 0
+
+  -- nothing is written
+  pub record NothingWritten : Type 0 where
+    pub answer : joinOf c .answer ≡ joined 0
+    pub marks : joinOf c .marks ≡ c .marks
+    pub words : joinOf c .words ≡ c .words
+    pub indices : joinOf c .indices ≡ c .indices

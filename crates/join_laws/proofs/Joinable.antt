@@ -1,4 +1,4 @@
--- What holds of a call that joins, and what it then writes.
+-- What holds of a call that joins: no test refuses it.
 use mathlib.Core.Bool.{true}
 use mathlib.Core.List.{List, []}
 use mathlib.Core.Path.{_≡_, refl}
@@ -36,7 +36,7 @@ module _ (c : JoinCall) where
   unfolding joinTests sizeTests treeTests sorted placeOf
   in-order = tt
 
-  joins-none : Joins c → joinCause c ≡ 0
+  pub joins-none : Joins c → joinCause c ≡ 0
   unfolding joinOf joinBy
   joins-none j = go (joinCause c) j
     where
@@ -50,7 +50,7 @@ module _ (c : JoinCall) where
     pub few : bothLeaves c ≤ 65536
     pub shallow : 0 < firstLeaves c → 0 < secondLeaves c → suc (max (depth (firstTree c)) (depth (secondTree c))) ≤ 127
 
-  joinable : Joins c → Joinable
+  pub joinable : Joins c → Joinable
   unfolding joinTests sizeTests treeTests
   joinable j =
       let n = firstLeaves c in
