@@ -71,3 +71,7 @@ module _ (c : JoinCall) where
         few = few;
         shallow = edge-spared (c .first) n (c .second) m (whole .1);
       }
+
+  -- A call that joins was given two accepted trees.
+  pub joins-accepted : Joins c → BothAccepted c
+  joins-accepted j = joinable j .accepted

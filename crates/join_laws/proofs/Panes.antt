@@ -43,11 +43,9 @@ module _ (list : List ℕ) (panes : ℕ) (more : List ℕ) where
       → leafPanes (joinedIndices list panes more) (joinedTree (length list) t u) ≡ leafPanes list t ++ map (countedOn panes) (leafPanes more u)
   unfolding joinedTree leafPanes
   joined-panes j k t u w x =
-      let a : leafPanes (joinedIndices list panes more) (relabel (movedLabel 1 2) t) ≡ leafPanes list t =
+      let all = joinedIndices list panes more in
+      let a : leafPanes all (relabel (movedLabel 1 2) t) ≡ leafPanes list t =
       rw (← (reposition-none (λ p. p) (λ p. refl) (relabel (movedLabel 1 2) t)))
-      (panes-moved list (joinedIndices list panes more) (movedLabel 1 2) (λ p. p) (λ i. i) j (length list) first-word t w ∙ map-id (leafPanes list t)) in
-      rw (
-        a,
-        panes-moved more (joinedIndices list panes more) (movedLabel 2 (2 * length list)) (λ p. p + length list) (λ i. i + panes) k (length more)
-            second-word u x,
-      )
+      (panes-moved list all (movedLabel 1 2) (λ p. p) (λ i. i) j (length list) first-word t w ∙ map-id (leafPanes list t)) in
+      let b = panes-moved more all (movedLabel 2 (2 * length list)) (λ p. p + length list) (λ i. i + panes) k (length more) second-word u x in
+      rw (a, b)

@@ -1,17 +1,20 @@
--- The words of two trees under a new root are read as the joined tree, and are accepted.
+-- Words in which two accepted trees stand in order under a new root are read as the joined tree, and are accepted.
 use mathlib.Core.Bool.{true}
-use mathlib.Core.List.{List}
+use mathlib.Core.List.{List, Perm}
 use mathlib.Core.Path.{_≡_, refl, sym, ap, ap₂, _∙_}
 use Prim.Native.Nat.{ℕ, zero, suc, _+_, _*_, _<_, _≤_, max}
 use native.Mathlib.Nat.{add-zero}
 use native.Mathlib.Omega.{arith}
-use lib.Ieee.{binary32}
+use lib.Dec.{T}
+use lib.Ieee.{binary32, fits}
 use lib.Ieee.Bits.{ofBits-toBits, ofBits-fits}
 use lib.ListN.{length}
+use Rattle.lists.specs.Counts.{upto}
+use Rattle.float.specs.Compare.{minOf, maxOf, unsignedZero}
 use Rattle.aabb.specs.declared.Aabb.{Aabb}
 use Rattle.aabb.specs.Aabb.{unionOf, acceptedBox}
 use Rattle.aabb.proofs.Union.{lower-fits, upper-fits, union-accepted}
-use Rattle.bvh2.specs.Tree.{Tree, labelOf, boxOf, leaves, depth, labels, relabel, reposition}
+use Rattle.bvh2.specs.Tree.{Tree, labelOf, boxOf, leaves, depth, labels, positions, relabel, reposition}
 use Rattle.bvh2.specs.Words.{treeNodes, children, linkOf, wordAt, linkAt, floatAt, boxAt, treeOf}
 use Rattle.bvh2.specs.Causes.{Accepted}
 use Rattle.bvh2.specs.Decoded.{BoxesAccepted, Decoded}
@@ -40,23 +43,31 @@ boxed-back b link f g = rw (
   ofBits-toBits binary32 (b .max .z) (g .2),
 )
 
-module _ (ws us : List ℕ) where
-  abbrev union : Aabb
-  union = unionOf (boxAt ws 0) (boxAt us 0)
+float-fits : (ws : List ℕ) (i : ℕ) → T (fits binary32 (floatAt ws 0 i))
+float-fits ws i = ofBits-fits binary32 (wordAt ws 0 i)
 
-  -- its ends are floats of words
-  union-fits : Fits (union .min) × Fits (union .max)
+module _ (ws us : List ℕ) where
+  low-fits : (i : ℕ) → T (fits binary32 (unsignedZero (minOf (floatAt ws 0 i) (floatAt us 0 i))))
+  low-fits i = lower-fits (floatAt ws 0 i) (floatAt us 0 i) (float-fits ws i) (float-fits us i)
+
+  high-fits : (i : ℕ) → T (fits binary32 (unsignedZero (maxOf (floatAt ws 0 i) (floatAt us 0 i))))
+  high-fits i = upper-fits (floatAt ws 0 i) (floatAt us 0 i) (float-fits ws i) (float-fits us i)
+
+  union-back : (link : ℕ) → boxAt (boxedWords (unionOf (boxAt ws 0) (boxAt us 0)) link) 0 ≡ unionOf (boxAt ws 0) (boxAt us 0)
   unfolding unionOf boxAt
-  union-fits =
-      let low : (i : ℕ) → _ = λ i. lower-fits (floatAt ws 0 i) (floatAt us 0 i) (ofBits-fits binary32 (wordAt ws 0 i)) (ofBits-fits binary32 (wordAt us 0 i)) in
-      let high : (i : ℕ) → _ = λ i. upper-fits (floatAt ws 0 i) (floatAt us 0 i) (ofBits-fits binary32 (wordAt ws 0 i)) (ofBits-fits binary32 (wordAt us 0 i)) in
-      ((low 0, low 1, low 2), (high 3, high 4, high 5))
+  union-back link = boxed-back (unionOf (boxAt ws 0) (boxAt us 0)) link (low-fits 0, low-fits 1, low-fits 2) (high-fits 3, high-fits 4, high-fits 5)
 
 pub root-accepted : (ws : List ℕ) (n : ℕ) → Accepted ws n → 0 < n → acceptedBox (boxOf (treeOf ws)) ≡ true
 root-accepted ws n a p = rw (box-is ws 127 0) (accepted-facts ws n a p .boxes 0 (omega arith))
 
 -- ---- two accepted trees, of n and m leaves
 module _ (ws : List ℕ) (n : ℕ) (us : List ℕ) (m : ℕ) (a : Accepted ws n) (b : Accepted us m) (p : 0 < n) (q : 0 < m) (few : n + m ≤ 65536) where
+  abbrev firstMoved : Tree ℕ
+  firstMoved = relabel (movedLabel 1 2) (treeOf ws)
+
+  abbrev secondMoved : Tree ℕ
+  secondMoved = reposition (λ k. k + n) (relabel (movedLabel 2 (2 * n)) (treeOf us))
+
   abbrev tree : Tree ℕ
   tree = joinedTree n (treeOf ws) (treeOf us)
 
@@ -72,6 +83,12 @@ module _ (ws : List ℕ) (n : ℕ) (us : List ℕ) (m : ℕ) (a : Accepted ws n)
   tree-nodes : length (labels tree) ≡ treeNodes (n + m)
   tree-nodes = let e = tree-leaves in let f = labels-length tree in omega arith
 
+  tree-labels : Perm (labels tree) (upto 0 (treeNodes (n + m)))
+  tree-labels = labels-once n (treeOf ws) (treeOf us) m p q (D .nodes) (E .nodes)
+
+  tree-positions : Perm (positions tree) (upto 0 (n + m))
+  tree-positions = positions-once n (treeOf ws) (treeOf us) m (D .held) (E .held)
+
   tree-boxes : BoxesAccepted tree
   unfolding joinedTree BoxesAccepted
   tree-boxes = (
@@ -80,7 +97,29 @@ module _ (ws : List ℕ) (n : ℕ) (us : List ℕ) (m : ℕ) (a : Accepted ws n)
     boxes-reposition (λ k. k + n) (relabel (movedLabel 2 (2 * n)) (treeOf us)) (boxes-relabel (movedLabel 2 (2 * n)) (treeOf us) (E .boxes)),
   )
 
+  tree-label : labelOf tree ≡ 0
+  unfolding joinedTree labelOf
+  tree-label = refl
+
+  first-label : labelOf firstMoved ≡ 1
+  first-label = label-relabel (movedLabel 1 2) (treeOf ws) ∙ ap (movedLabel 1 2) (label-is ws 127 0)
+
+  second-label : labelOf secondMoved ≡ 2
+  second-label =
+      label-reposition (λ k. k + n) (relabel (movedLabel 2 (2 * n)) (treeOf us)) ∙ label-relabel (movedLabel 2 (2 * n)) (treeOf us)
+      ∙ ap (movedLabel 2 (2 * n)) (label-is us 127 0)
+
+  -- words in which the nodes of both stand in order
   module _ (both : List ℕ) (o : InOrder ws n us m both) where
+    root-box : boxAt both 0 ≡ unionOf (boxOf (treeOf ws)) (boxOf (treeOf us))
+    root-box =
+        sym (node-box both 0) ∙ ap (λ (l : List ℕ). boxAt l 0) (o .root) ∙ union-back ws us 1
+        ∙ ap₂ unionOf (sym (box-is ws 127 0)) (sym (box-is us 127 0))
+
+    root-link : linkAt both 0 ≡ children 1
+    unfolding linkOf
+    root-link = sym (node-link both 0) ∙ ap (λ (l : List ℕ). linkAt l 0) (o .root)
+
     first-there : (v : ℕ) → v < treeNodes n → nodeAt both (movedLabel 1 2 v) ≡ movedNode ws 2 0 v
     first-there zero h = o .first-root
     first-there (suc v) h = o .first-rest (suc v) (omega arith) h
@@ -89,19 +128,12 @@ module _ (ws : List ℕ) (n : ℕ) (us : List ℕ) (m : ℕ) (a : Accepted ws n)
     second-there zero h = o .second-root
     second-there (suc v) h = o .second-rest (suc v) (omega arith) h
 
-    root-box : boxAt both 0 ≡ unionOf (boxOf (treeOf ws)) (boxOf (treeOf us))
-    root-box =
-        sym (node-box both 0) ∙ ap (λ (l : List ℕ). boxAt l 0) (o .root) ∙ boxed-back (union ws us) 1 (union-fits ws us .0) (union-fits ws us .1)
-        ∙ ap₂ unionOf (sym (box-is ws 127 0)) (sym (box-is us 127 0))
-
-    root-link : linkAt both 0 ≡ children 1
-    unfolding linkOf
-    root-link = sym (node-link both 0) ∙ ap (λ (l : List ℕ). linkAt l 0) (o .root)
-
-    first-stands : Stands both (relabel (movedLabel 1 2) (treeOf ws))
+    first-stands : Stands both firstMoved
     first-stands =
-        rw (reposition-none (λ k. k + 0) add-zero (relabel (movedLabel 1 2) (treeOf ws)))
-        at (tree-stands ws n a p both 1 2 0 (omega arith) (omega arith) first-there)
+        rw (reposition-none (λ k. k + 0) add-zero firstMoved) at (tree-stands ws n a p both 1 2 0 (omega arith) (omega arith) first-there)
+
+    second-stands : Stands both secondMoved
+    second-stands = tree-stands us m b q both 2 (2 * n) n (omega arith) (omega arith) second-there
 
     joined-stands : Stands both tree
     unfolding joinedTree Stands
@@ -110,30 +142,17 @@ module _ (ws : List ℕ) (n : ℕ) (us : List ℕ) (m : ℕ) (a : Accepted ws n)
       root-link ∙ ap children (sym first-label),
       second-label ∙ ap (λ (k : ℕ). k + 1) (sym first-label),
       first-stands,
-      tree-stands us m b q both 2 (2 * n) n (omega arith) (omega arith) second-there,
+      second-stands,
     )
-      where
-        first-label : labelOf (relabel (movedLabel 1 2) (treeOf ws)) ≡ 1
-        first-label = label-relabel (movedLabel 1 2) (treeOf ws) ∙ ap (movedLabel 1 2) (label-is ws 127 0)
-
-        second-label : labelOf (reposition (λ k. k + n) (relabel (movedLabel 2 (2 * n)) (treeOf us))) ≡ 2
-        second-label =
-            label-reposition (λ k. k + n) (relabel (movedLabel 2 (2 * n)) (treeOf us)) ∙ label-relabel (movedLabel 2 (2 * n)) (treeOf us)
-            ∙ ap (movedLabel 2 (2 * n)) (label-is us 127 0)
 
     module _ (shallow : suc (max (depth (treeOf ws)) (depth (treeOf us))) ≤ 127) where
-      shallow-tree : depth tree ≤ 127
-      shallow-tree = rw (depth-joined n (treeOf ws) (treeOf us)) shallow
+      tree-depth : depth tree ≤ 127
+      tree-depth = rw (depth-joined n (treeOf ws) (treeOf us)) shallow
 
-      root-label : labelOf tree ≡ 0
-      unfolding joinedTree labelOf
-      root-label = refl
+      pub order-decodes : treeOf both ≡ tree
+      order-decodes = stands-decodes both tree joined-stands tree-label tree-depth
 
-      pub joined-decodes : treeOf both ≡ tree
-      joined-decodes = stands-decodes both tree joined-stands root-label shallow-tree
-
-      pub under-accepted : length both ≡ treeNodes (n + m) * 7 → Accepted both (n + m)
-      under-accepted e =
-          rw tree-leaves at (stands-accepted both tree joined-stands root-label shallow-tree (e ∙ ap (λ (k : ℕ). k * 7) (sym tree-nodes))
-          (rw tree-nodes (labels-once n (treeOf ws) (treeOf us) m p q (D .nodes) (E .nodes))) (rw tree-leaves few)
-          (rw tree-leaves (positions-once n (treeOf ws) (treeOf us) m (D .held) (E .held))) tree-boxes)
+      pub order-accepted : length both ≡ treeNodes (n + m) * 7 → Accepted both (n + m)
+      order-accepted e =
+          rw tree-leaves at (stands-accepted both tree joined-stands tree-label tree-depth (rw tree-nodes e) (rw tree-nodes tree-labels)
+          (rw tree-leaves few) (rw tree-leaves tree-positions) tree-boxes)

@@ -18,6 +18,7 @@ use Rattle.bvh2.proofs.Subtree.{root}
 use Rattle.join.specs.Join.{movedNode}
 use Rattle.join_laws.specs.Joined.{nodeAt, movedLabel}
 use Rattle.join_laws.proofs.MovedNodes.{moved-box, moved-pair, moved-held}
+use Rattle.join_laws.proofs.Tree.{other-label}
 
 -- a path goes on to the left child of the node that it leads to
 leads-left : (ws : List ℕ) (u : ℕ) (path : List Turn) (v f : ℕ) → LeadsTo ws u path v → linkAt ws v ≡ children f
@@ -30,17 +31,12 @@ not-empty : (path : List Turn) → [] ≡ path ++ (left ∷ []) → ⊥
 not-empty [] e = let z : _≡_ {A = ℕ} 0 1 = cc in omega arith
 not-empty (t ∷ path) e = let z : _≡_ {A = ℕ} 0 1 = cc in omega arith
 
--- the number of a node that is no root
-pub other-label : (r nodes v : ℕ) → 0 < v → movedLabel r nodes v ≡ v + nodes
-other-label r nodes zero h = absurd (omega arith)
-other-label r nodes (suc v) h = refl
-
 module _ (ws : List ℕ) (n : ℕ) (a : Accepted ws n) (p : 0 < n) where
   -- the root is no node's child
   child-not-root : (v : ℕ) → v < treeNodes n → (f : ℕ) → linkAt ws v ≡ children f → 0 < f
   unfolding LeadsTo
   child-not-root v h (suc f) e = omega arith
-  child-not-root v h zero e = absurd (a 7 (not-one-path v h (λ to. a 7 (not-one-path 0 (omega arith) (λ back. two to back)))))
+  child-not-root v h zero e = absurd (a 7 (not-one-path v h (λ to. a 7 (not-one-path 0 (omega arith) (two to)))))
     where
       two : ExactlyOne (Reaches ws v) → ExactlyOne (Reaches ws 0) → ⊥
       two to back = not-empty (to .0) (back .2 [] refl ∙ sym (back .2 (to .0 ++ (left ∷ [])) (leads-left ws 0 (to .0) v 0 (to .1) e)))

@@ -10,7 +10,11 @@ use Rattle.bvh2.specs.Words.{treeNodes}
 use Rattle.bvh2.proofs.Moved.{leaves-relabel, depth-relabel, positions-relabel, labels-relabel}
 use Rattle.bvh2.proofs.Moved.{leaves-reposition, depth-reposition, positions-reposition, labels-reposition}
 use Rattle.join_laws.specs.Joined.{movedLabel, joinedTree}
-use Rattle.join_laws.proofs.Standing.{other-label}
+
+-- the number of a node that is no root
+pub other-label : (r nodes v : ℕ) → 0 < v → movedLabel r nodes v ≡ v + nodes
+other-label r nodes zero h = absurd (omega arith)
+other-label r nodes (suc v) h = refl
 
 -- consecutive numbers, each moved by as much
 upto-moved : (f : ℕ → ℕ) (a b k : ℕ) → ((i : ℕ) → i < k → f (a + i) ≡ b + i) → map f (upto a k) ≡ upto b k
@@ -46,9 +50,9 @@ module _ (n : ℕ) (t u : Tree ℕ) where
   )
 
   -- the first's positions, then the second's moved
-  pub joined-positions : positions (joinedTree n t u) ≡ positions t ++ map (λ k. k + n) (positions u)
+  pub positions-joined : positions (joinedTree n t u) ≡ positions t ++ map (λ k. k + n) (positions u)
   unfolding joinedTree positions
-  joined-positions = rw (
+  positions-joined = rw (
     positions-relabel (movedLabel 1 2) t,
     positions-reposition (λ k. k + n) (relabel (movedLabel 2 (2 * n)) u),
     positions-relabel (movedLabel 2 (2 * n)) u,
@@ -58,11 +62,11 @@ module _ (n : ℕ) (t u : Tree ℕ) where
   positions-once m p q =
       let e : map (λ k. k + n) (upto 0 m) ≡ upto (0 + n) m = upto-moved (λ k. k + n) 0 (0 + n) m (λ i l. omega arith) in
       let r : Perm (map (λ k. k + n) (positions u)) (upto (0 + n) m) = rw e at (Perm·map (λ k. k + n) q) in
-      rw (joined-positions, upto-append 0 n m) (Perm·append p r)
+      rw (positions-joined, upto-append 0 n m) (Perm·append p r)
 
-  joined-labels : labels (joinedTree n t u) ≡ 0 ∷ (map (movedLabel 1 2) (labels t) ++ map (movedLabel 2 (2 * n)) (labels u))
+  labels-joined : labels (joinedTree n t u) ≡ 0 ∷ (map (movedLabel 1 2) (labels t) ++ map (movedLabel 2 (2 * n)) (labels u))
   unfolding joinedTree labels
-  joined-labels = rw (
+  labels-joined = rw (
     labels-relabel (movedLabel 1 2) t,
     labels-reposition (λ k. k + n) (relabel (movedLabel 2 (2 * n)) u),
     labels-relabel (movedLabel 2 (2 * n)) u,
@@ -76,7 +80,7 @@ module _ (n : ℕ) (t u : Tree ℕ) where
       let x : Perm (map (movedLabel 1 2) (labels t)) (1 ∷ upto 3 k) = rw (labels-moved 1 2 k) at (Perm·map (movedLabel 1 2) p) in
       let y : Perm (map (movedLabel 2 (2 * n)) (labels u)) (2 ∷ upto (3 + k) j) =
       rw (labels-moved 2 (2 * n) j, e) at (Perm·map (movedLabel 2 (2 * n)) q) in
-      rw (joined-labels, upto-append 3 k j)
+      rw (labels-joined, upto-append 3 k j)
       (Perm·cons 0 (Perm·trans (Perm·append x y) (Perm·cons 1 (perm-middle (upto 3 k) (upto (3 + k) j)))))
 
   pub labels-once : (m : ℕ) → 0 < n → 0 < m → Perm (labels t) (upto 0 (treeNodes n)) → Perm (labels u) (upto 0 (treeNodes m))

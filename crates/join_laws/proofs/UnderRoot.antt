@@ -18,27 +18,22 @@ unfolding movedNode upto
 moved-length ws nodes positions v = refl
 
 -- all nodes of a tree of n leaves but its root
-abbrev rest : (ws : List ℕ) (nodes positions n : ℕ) → List ℕ
-rest ws nodes positions n = inTurn (λ v. movedNode ws nodes positions (v + 1)) (treeNodes n - 1)
+module _ (ws : List ℕ) (nodes positions n : ℕ) where
+  abbrev rest : List ℕ
+  rest = inTurn (λ v. movedNode ws nodes positions (v + 1)) (treeNodes n - 1)
 
-rest-length : (ws : List ℕ) (nodes positions n : ℕ) → length (rest ws nodes positions n) ≡ (treeNodes n - 1) * 7
-rest-length ws nodes positions n =
-    in-turn-length (λ v. movedNode ws nodes positions (v + 1)) (λ v. moved-length ws nodes positions (v + 1)) (treeNodes n - 1)
+  rest-length : length rest ≡ (treeNodes n - 1) * 7
+  rest-length = in-turn-length (λ v. movedNode ws nodes positions (v + 1)) (λ v. moved-length ws nodes positions (v + 1)) (treeNodes n - 1)
 
-rest-node : (ws : List ℕ) (nodes positions n v : ℕ) → 0 < v → v < treeNodes n
-    → nodeAt (rest ws nodes positions n) (v - 1) ≡ movedNode ws nodes positions v
-rest-node ws nodes positions n v p h =
-    let e : v - 1 + 1 ≡ v = omega arith in
-    in-turn-node (λ u. movedNode ws nodes positions (u + 1)) (λ u. moved-length ws nodes positions (u + 1)) (treeNodes n - 1) (v - 1) (omega arith)
-    ∙ ap (movedNode ws nodes positions) e
+  rest-node : (v : ℕ) → 0 < v → v < treeNodes n → nodeAt rest (v - 1) ≡ movedNode ws nodes positions v
+  rest-node v p h =
+      let e : v - 1 + 1 ≡ v = omega arith in
+      in-turn-node (λ u. movedNode ws nodes positions (u + 1)) (λ u. moved-length ws nodes positions (u + 1)) (treeNodes n - 1) (v - 1) (omega arith)
+      ∙ ap (movedNode ws nodes positions) e
 
 module _ (ws : List ℕ) (n : ℕ) (us : List ℕ) (m : ℕ) where
   abbrev roots : List ℕ
   roots = boxedWords (unionOf (boxAt ws 0) (boxAt us 0)) 1 ++ movedNode ws 2 0 0 ++ movedNode us (2 * n) n 0
-
-  roots-length : length roots ≡ 21
-  unfolding movedNode upto
-  roots-length = refl
 
   abbrev firsts : List ℕ
   firsts = rest ws 2 0 n
@@ -46,13 +41,17 @@ module _ (ws : List ℕ) (n : ℕ) (us : List ℕ) (m : ℕ) where
   abbrev seconds : List ℕ
   seconds = rest us (2 * n) n m
 
-  module _ (p : 0 < n) (q : 0 < m) where
-    front-length : length (roots ++ firsts) ≡ (3 + (treeNodes n - 1)) * 7
-    front-length =
-        let e = roots-length in
-        let f = rest-length ws 2 0 n in
-        length-append roots firsts ∙ omega arith
+  roots-length : length roots ≡ 21
+  unfolding movedNode upto
+  roots-length = refl
 
+  front-length : length (roots ++ firsts) ≡ (3 + (treeNodes n - 1)) * 7
+  front-length =
+      let e = roots-length in
+      let f = rest-length ws 2 0 n in
+      length-append roots firsts ∙ omega arith
+
+  module _ (p : 0 < n) (q : 0 < m) where
     pub under-length : length (underRoot ws n us m) ≡ treeNodes (n + m) * 7
     unfolding underRoot
     under-length =
@@ -60,6 +59,7 @@ module _ (ws : List ℕ) (n : ℕ) (us : List ℕ) (m : ℕ) where
         let f = rest-length us (2 * n) n m in
         length-append (roots ++ firsts) seconds ∙ omega arith
 
+    -- a node of the roots or of the first tree
     in-front : (v : ℕ) → v < treeNodes n + 2 → nodeAt (underRoot ws n us m) v ≡ nodeAt (roots ++ firsts) v
     unfolding underRoot
     in-front v h = node-before (roots ++ firsts) seconds v (let e = front-length in omega arith)

@@ -28,8 +28,8 @@ joinedTree n t u =
 abbrev pub nodeAt : List ℕ → ℕ → List ℕ
 nodeAt ws v = take 7 (drop (v * 7) ws)
 
--- Node by node, words of both: the new root above nodes 1 and 2; the old roots; the rest of the first, of n leaves, in its order; the rest of the
--- second, of m.
+-- Words that hold two trees, of n and m leaves, node by node: the new root; the old roots; the rest of the first in its order; the rest of the second
+-- in its own.
 pub record InOrder (ws : List ℕ) (n : ℕ) (us : List ℕ) (m : ℕ) (both : List ℕ) : Type 0 where
   pub root : nodeAt both 0 ≡ boxedWords (unionOf (boxAt ws 0) (boxAt us 0)) 1
   pub first-root : nodeAt both 1 ≡ movedNode ws 2 0 0
