@@ -42,16 +42,16 @@ read-from w = pick (w / 0x4000_0000) refl
     pick (suc (suc k)) e = rw (word-malformed w (λ z. omega arith) (λ z. omega arith)) tt
 
 module _ (nodes positions w : ℕ) where
-  moved-children : (f : ℕ) → linkOf w ≡ children f → f + nodes < 0x4000_0000 → linkOf (movedLink nodes positions w) ≡ children (f + nodes)
+  children-moved : (f : ℕ) → linkOf w ≡ children f → f + nodes < 0x4000_0000 → linkOf (movedLink nodes positions w) ≡ children (f + nodes)
   unfolding ReadFrom movedLink
-  moved-children f e h =
+  children-moved f e h =
       let r : ReadFrom (children f) w = rw e at (read-from w) in
       let s : (w + nodes) % 0x4000_0000 ≡ f + nodes = omega arith in
       rw (e, movedLink) (word-children (w + nodes) (omega arith) ∙ ap children s)
 
-  moved-position : (p : ℕ) → linkOf w ≡ position p → p + positions < 0x4000_0000 → linkOf (movedLink nodes positions w) ≡ position (p + positions)
+  position-moved : (p : ℕ) → linkOf w ≡ position p → p + positions < 0x4000_0000 → linkOf (movedLink nodes positions w) ≡ position (p + positions)
   unfolding ReadFrom movedLink
-  moved-position p e h =
+  position-moved p e h =
       let r : ReadFrom (position p) w = rw e at (read-from w) in
       let s : (w + positions) % 0x4000_0000 ≡ p + positions = omega arith in
       rw (e, movedLink) (word-position (w + positions) (omega arith) ∙ ap position s)
@@ -66,7 +66,7 @@ module _ (both ws : List ℕ) (nodes positions u v : ℕ) (e : nodeAt both u ≡
   moved-link = sym (node-link both u) ∙ ap (λ (l : List ℕ). linkAt l 0) e
 
   pub moved-pair : (f : ℕ) → linkAt ws v ≡ children f → f + nodes < 0x4000_0000 → linkAt both u ≡ children (f + nodes)
-  moved-pair f l h = moved-link ∙ moved-children nodes positions (wordAt ws v 6) f l h
+  moved-pair f l h = moved-link ∙ children-moved nodes positions (wordAt ws v 6) f l h
 
   pub moved-held : (p : ℕ) → linkAt ws v ≡ position p → p + positions < 0x4000_0000 → linkAt both u ≡ position (p + positions)
-  moved-held p l h = moved-link ∙ moved-position nodes positions (wordAt ws v 6) p l h
+  moved-held p l h = moved-link ∙ position-moved nodes positions (wordAt ws v 6) p l h

@@ -4,16 +4,17 @@ use mathlib.Core.Path.{_≡_, ap, _∙_}
 use Prim.Native.Nat.{ℕ, zero, suc, _+_, _*_, _<_, _≤_}
 use native.Mathlib.Decide.{decLt}
 use native.Mathlib.Omega.{arith}
-use lib.ListN.{length, getD, take, drop, length-append, length-drop}
+use lib.ListN.{length, getD, take, drop, length-drop}
 use lib.Seq.{take-all, take-append-le, drop-append-le, drop-append-add, getD-take, getD-drop}
 use Rattle.bvh2.specs.Words.{wordAt}
 use Rattle.tree_words.specs.Nodes.{inTurn}
+use Rattle.tree_words.proofs.Nodes.{turn-length}
 use Rattle.join_laws.specs.Joined.{nodeAt}
 
 pub node-word : (ws : List ℕ) (v i : ℕ) → i < 7 → getD (nodeAt ws v) i 0 ≡ wordAt ws v i
 node-word ws v i h = getD-take 7 (drop (v * 7) ws) i 0 h ∙ getD-drop (v * 7) ws i 0
 
-pub node-alone : (node : List ℕ) → length node ≡ 7 → nodeAt node 0 ≡ node
+node-alone : (node : List ℕ) → length node ≡ 7 → nodeAt node 0 ≡ node
 node-alone node e = take-all 7 node (omega arith)
 
 -- ---- one list behind another
@@ -28,23 +29,15 @@ module _ (a b : List ℕ) where
       ap (λ (i : ℕ). take 7 (drop i (a ++ b))) f ∙ ap (take 7) (drop-append-add a b (v * 7))
 
 -- ---- nodes in turn
-module _ (f : ℕ → List ℕ) (sevens : (v : ℕ) → length (f v) ≡ 7) where
-  pub in-turn-length : (k : ℕ) → length (inTurn f k) ≡ k * 7
+module _ (f : ℕ → List ℕ) (seven : (v : ℕ) → length (f v) ≡ 7) where
+  pub turn-node : (k v : ℕ) → v < k → nodeAt (inTurn f k) v ≡ f v
   unfolding inTurn
-  in-turn-length zero = omega arith
-  in-turn-length (suc k) =
-      let e = in-turn-length k in
-      let s = sevens k in
-      length-append (inTurn f k) (f k) ∙ omega arith
-
-  pub in-turn-node : (k v : ℕ) → v < k → nodeAt (inTurn f k) v ≡ f v
-  unfolding inTurn
-  in-turn-node zero v h = absurd (omega arith)
-  in-turn-node (suc k) v h = pick (decLt v k) (in-turn-node k v)
+  turn-node zero v h = absurd (omega arith)
+  turn-node (suc k) v h = pick (decLt v k) (turn-node k v)
     where
       pick : Dec (v < k) → (v < k → nodeAt (inTurn f k) v ≡ f v) → nodeAt (inTurn f k ++ f k) v ≡ f v
-      pick (yes l) before = node-before (inTurn f k) (f k) v (let e = in-turn-length k in omega arith) ∙ before l
+      pick (yes l) before = node-before (inTurn f k) (f k) v (let e = turn-length f seven k in omega arith) ∙ before l
       pick (no l) before =
           let e : v ≡ k + 0 = omega arith in
           let g : k ≡ v = omega arith in
-          ap (nodeAt (inTurn f k ++ f k)) e ∙ node-behind (inTurn f k) (f k) k 0 (in-turn-length k) ∙ node-alone (f k) (sevens k) ∙ ap f g
+          ap (nodeAt (inTurn f k ++ f k)) e ∙ node-behind (inTurn f k) (f k) k 0 (turn-length f seven k) ∙ node-alone (f k) (seven k) ∙ ap f g

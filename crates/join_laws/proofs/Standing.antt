@@ -56,9 +56,9 @@ module _ (ws : List ℕ) (n : ℕ) (a : Accepted ws n) (p : 0 < n) where
 
   module _ (both : List ℕ) (r nodes positions : ℕ) (low : nodes ≤ 131072) (few : positions ≤ 65536)
       (there : (v : ℕ) → v < treeNodes n → nodeAt both (movedLabel r nodes v) ≡ movedNode ws nodes positions v) where
-    node-moved : (v : ℕ) → v < treeNodes n → MovedAt ws both (movedLabel r nodes) (λ q. q + positions) v
+    moved-at : (v : ℕ) → v < treeNodes n → MovedAt ws both (movedLabel r nodes) (λ q. q + positions) v
     unfolding LinkInside
-    node-moved v h = record {
+    moved-at v h = record {
       box = moved-box both ws nodes positions (movedLabel r nodes v) v (there v h);
       pair = λ f e.
           let i : LinkInside n (children f) = rw e at (facts .inside v h) in
@@ -72,7 +72,7 @@ module _ (ws : List ℕ) (n : ℕ) (a : Accepted ws n) (p : 0 < n) where
     pub tree-stands : Stands both (reposition (λ q. q + positions) (relabel (movedLabel r nodes) (treeOf ws)))
     tree-stands =
         stands-moved ws both (movedLabel r nodes) (λ q. q + positions) pairs (treeOf ws) (whole-stands ws 127 0 (whole .whole)) (label-is ws 127 0)
-        (omega (arith, whole .distinct 0, count-labels 0 (treeOf ws))) (λ v c. node-moved v (label-below v c))
+        (omega (arith, whole .distinct 0, count-labels 0 (treeOf ws))) (λ v c. moved-at v (label-below v c))
       where
         pairs : (f : ℕ) → 0 < f → movedLabel r nodes (f + 1) ≡ movedLabel r nodes f + 1
         pairs f h = let e = other-label r nodes f h in other-label r nodes (f + 1) (omega arith) ∙ omega arith

@@ -9,13 +9,11 @@ use Rattle.aabb.specs.Aabb.{unionOf}
 use Rattle.bvh2.specs.Words.{treeNodes, boxAt}
 use Rattle.bvh2.specs.Encode.{boxedWords}
 use Rattle.tree_words.specs.Nodes.{inTurn}
+use Rattle.tree_words.proofs.Nodes.{turn-length}
 use Rattle.join.specs.Join.{movedNode, underRoot}
+use Rattle.join.proofs.Moving.{moved-seven}
 use Rattle.join_laws.specs.Joined.{nodeAt, InOrder}
-use Rattle.join_laws.proofs.Nodes.{node-before, node-behind, in-turn-length, in-turn-node}
-
-moved-length : (ws : List ℕ) (nodes positions v : ℕ) → length (movedNode ws nodes positions v) ≡ 7
-unfolding movedNode upto
-moved-length ws nodes positions v = refl
+use Rattle.join_laws.proofs.Nodes.{node-before, node-behind, turn-node}
 
 -- all nodes of a tree of n leaves but its root
 module _ (ws : List ℕ) (nodes positions n : ℕ) where
@@ -23,12 +21,12 @@ module _ (ws : List ℕ) (nodes positions n : ℕ) where
   rest = inTurn (λ v. movedNode ws nodes positions (v + 1)) (treeNodes n - 1)
 
   rest-length : length rest ≡ (treeNodes n - 1) * 7
-  rest-length = in-turn-length (λ v. movedNode ws nodes positions (v + 1)) (λ v. moved-length ws nodes positions (v + 1)) (treeNodes n - 1)
+  rest-length = turn-length (λ v. movedNode ws nodes positions (v + 1)) (λ v. moved-seven ws nodes positions (v + 1)) (treeNodes n - 1)
 
   rest-node : (v : ℕ) → 0 < v → v < treeNodes n → nodeAt rest (v - 1) ≡ movedNode ws nodes positions v
   rest-node v p h =
       let e : v - 1 + 1 ≡ v = omega arith in
-      in-turn-node (λ u. movedNode ws nodes positions (u + 1)) (λ u. moved-length ws nodes positions (u + 1)) (treeNodes n - 1) (v - 1) (omega arith)
+      turn-node (λ u. movedNode ws nodes positions (u + 1)) (λ u. moved-seven ws nodes positions (u + 1)) (treeNodes n - 1) (v - 1) (omega arith)
       ∙ ap (movedNode ws nodes positions) e
 
 module _ (ws : List ℕ) (n : ℕ) (us : List ℕ) (m : ℕ) where
