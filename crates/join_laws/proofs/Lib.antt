@@ -1,0 +1,10 @@
+pub mod Joinable
+pub mod Joined
+pub mod MovedNodes
+pub mod Nodes
+pub mod Panes
+pub mod Read
+pub mod Standing
+pub mod Tree
+pub mod UnderRoot
+pub mod Written

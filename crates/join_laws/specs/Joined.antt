@@ -1,14 +1,16 @@
 -- What is claimed of two trees joined (02, [4]). `joinOf c` is what a call answers, and leaves of the slices lent.
+use mathlib.Core.Bool.{true}
 use mathlib.Core.List.{List, [], _∷_, _++_}
 use mathlib.Core.Path.{_≡_}
-use Prim.Native.Nat.{ℕ, zero, suc, _+_, _*_, _≤_}
-use lib.ListN.{length, getD, take}
+use Prim.Native.Nat.{ℕ, zero, suc, _+_, _*_, _≤_, _<_}
+use lib.ListN.{length, getD, take, drop, replicate}
 use Rattle.aabb.specs.declared.Aabb.{Aabb}
-use Rattle.aabb.specs.Aabb.{unionOf}
+use Rattle.aabb.specs.Aabb.{unionOf, acceptedBox, HoldsBox, NoMinusZero}
 use Rattle.bvh2.specs.Tree.{Tree, leaf, inner, boxOf, relabel, reposition}
-use Rattle.bvh2.specs.Words.{treeNodes, treeOf}
+use Rattle.bvh2.specs.Words.{treeNodes, boxAt, treeOf}
 use Rattle.bvh2.specs.Causes.{Accepted}
-use Rattle.join.specs.Join.{JoinCall, firstLeaves, secondLeaves, bothLeaves, marksNeeded, joined, joinOf}
+use Rattle.bvh2.specs.Encode.{boxedWords}
+use Rattle.join.specs.Join.{JoinCall, firstLeaves, secondLeaves, bothLeaves, movedNode, marksNeeded, joined, joinOf}
 
 -- ---- the tree that two become
 
@@ -22,10 +24,27 @@ unfolding relabel reposition
 joinedTree n t u =
     inner 0 (unionOf (boxOf t) (boxOf u)) (relabel (movedLabel 1 2) t) (reposition (λ p. p + n) (relabel (movedLabel 2 (2 * n)) u))
 
+-- the seven words of node v
+abbrev pub nodeAt : List ℕ → ℕ → List ℕ
+nodeAt ws v = take 7 (drop (v * 7) ws)
+
+-- Words that hold two trees, of n and m leaves, node by node: the new root; the old roots; the rest of the first in its order; the rest of the second
+-- in its own.
+pub record InOrder (ws : List ℕ) (n : ℕ) (us : List ℕ) (m : ℕ) (both : List ℕ) : Type 0 where
+  pub root : nodeAt both 0 ≡ boxedWords (unionOf (boxAt ws 0) (boxAt us 0)) 1
+  pub first-root : nodeAt both 1 ≡ movedNode ws 2 0 0
+  pub second-root : nodeAt both 2 ≡ movedNode us (2 * n) n 0
+  pub first-rest : (v : ℕ) → 0 < v → v < treeNodes n → nodeAt both (v + 2) ≡ movedNode ws 2 0 v
+  pub second-rest : (v : ℕ) → 0 < v → v < treeNodes m → nodeAt both (v + 2 * n) ≡ movedNode us (2 * n) n v
+
 -- the leaves from left to right, each by its box and the index word at its position
 unfoldable pub leafPanes : {A : Type 0} → List ℕ → Tree A → List (Aabb × ℕ)
 leafPanes indices (leaf v b p) = (b, getD indices p 0) ∷ []
 leafPanes indices (inner v b l r) = leafPanes indices l ++ leafPanes indices r
+
+-- the same leaf with its index word counted on from so many panes
+abbrev pub countedOn : (panes : ℕ) → Aabb × ℕ → Aabb × ℕ
+countedOn panes x = (x .0, x .1 + panes)
 
 -- ---- a call
 module _ (c : JoinCall) where
@@ -59,3 +78,25 @@ module _ (c : JoinCall) where
     pub marks : marksNeeded (firstLeaves c) (secondLeaves c) ≤ length (c .marks)
     pub words : treeNodes (bothLeaves c) * 7 ≤ length (c .words)
     pub indices : bothLeaves c ≤ length (c .indices)
+
+  -- the root box that it gives is the union of the old ones, is accepted, and holds both; no end of it is -0
+  pub record RootBox : Type 0 where
+    pub union : boxOf treeGiven ≡ unionOf (boxOf firstTree) (boxOf secondTree)
+    pub accepted : acceptedBox (boxOf treeGiven) ≡ true
+    pub holds-first : HoldsBox (boxOf treeGiven) (boxOf firstTree)
+    pub holds-second : HoldsBox (boxOf treeGiven) (boxOf secondTree)
+    pub plain : NoMinusZero (boxOf treeGiven .min) × NoMinusZero (boxOf treeGiven .max)
+
+  -- what lies behind all that it writes is as it was, and the marks that it needs are zero
+  pub record RestKept : Type 0 where
+    pub words : drop (treeNodes (bothLeaves c) * 7) (joinOf c .words) ≡ drop (treeNodes (bothLeaves c) * 7) (c .words)
+    pub indices : drop (bothLeaves c) (joinOf c .indices) ≡ drop (bothLeaves c) (c .indices)
+    pub marks : drop (marksNeeded (firstLeaves c) (secondLeaves c)) (joinOf c .marks) ≡ drop (marksNeeded (firstLeaves c) (secondLeaves c)) (c .marks)
+    pub zeros : take (marksNeeded (firstLeaves c) (secondLeaves c)) (joinOf c .marks) ≡ replicate (marksNeeded (firstLeaves c) (secondLeaves c)) 0
+
+  -- nothing is written
+  pub record NothingWritten : Type 0 where
+    pub answer : joinOf c .answer ≡ joined 0
+    pub marks : joinOf c .marks ≡ c .marks
+    pub words : joinOf c .words ≡ c .words
+    pub indices : joinOf c .indices ≡ c .indices
