@@ -51,7 +51,7 @@ both-pass a b = told (and-tells (true-tells a) (true-tells b))
 
 -- the tree is read whole
 module _ (ws : List ℕ) (n : ℕ) (whole : AllRead ws (treeOf ws)) where
-  pub deep-path-depth : DeepPath ws n → 126 < depth (treeOf ws)
+  deep-path-depth : DeepPath ws n → 126 < depth (treeOf ws)
   deep-path-depth p = go (decLt 126 (depth (treeOf ws)))
     where
       go : Dec (126 < depth (treeOf ws)) → 126 < depth (treeOf ws)
@@ -61,7 +61,7 @@ module _ (ws : List ℕ) (n : ℕ) (whole : AllRead ws (treeOf ws)) where
           let i = at-short ws 126 0 (p .path) (p .node) (at-path ws 126 0 short (p .path) (p .node) (p .leads)) in
           absurd (omega (arith, p .edges))
 
-  pub depth-deep-path : AllInside ws n → 0 < n → 126 < depth (treeOf ws) → DeepPath ws n
+  depth-deep-path : AllInside ws n → 0 < n → 126 < depth (treeOf ws) → DeepPath ws n
   depth-deep-path inside some h = go (whole-or-long ws n inside 126 0 (omega arith))
     where
       go : AllRead ws (treeAt ws 126 0) ⊎ Long ws n 126 0 → DeepPath ws n
@@ -99,13 +99,16 @@ own-fail ws zero k f = absurd f
 own-fail ws (suc n) k f = f
 
 -- with leaves it is read once
-tree-tells : (ws : List ℕ) (n : ℕ) → Tells (0 < n → Once ws n) (treeOrNone ws n)
+abbrev pub OnceOrNone : List ℕ → ℕ → Type 0
+OnceOrNone ws n = 0 < n → Once ws n
+
+tree-tells : (ws : List ℕ) (n : ℕ) → Tells (OnceOrNone ws n) (treeOrNone ws n)
 unfolding treeOrNone
 tree-tells ws zero = passes (λ some. absurd (omega arith))
 tree-tells ws (suc n) = tells-as (once-tells ws (suc n)) (λ o some. o) (λ f. f (omega arith))
 
 -- the edge to a new root is too much exactly if both trees have leaves, and the greater depth with it is over 127
-pub edge-lacks : (ws : List ℕ) (n : ℕ) (us : List ℕ) (m : ℕ)
+edge-lacks : (ws : List ℕ) (n : ℕ) (us : List ℕ) (m : ℕ)
     → edgeToSpare ws n us m ≡ false ↔ (0 < n) × (0 < m) × (127 < suc (max (depth (treeOf ws)) (depth (treeOf us))))
 unfolding edgeToSpare byLeaves
 edge-lacks ws zero us m = (λ e. clash (sym e), λ h. absurd (omega (arith, h .0)))
@@ -144,6 +147,27 @@ module _ (c : JoinCall) where
   unfolding joinTests sizeTests treeTests sorted
   join-in-order = tt
 
+  -- ---- too deep, where each tree that has leaves is read once
+  module _ (first-once : OnceOrNone ws n) (second-once : OnceOrNone us m) where
+    -- a path of more than 126 edges makes it so,
+    pub first-too-deep : 0 < m → DeepPath ws n → TooDeep c
+    first-too-deep also p =
+        let some : 0 < n = omega (arith, p .there) in
+        (some, also, omega (arith, deep-path-depth ws n (first-once some .whole) p))
+
+    pub second-too-deep : 0 < n → DeepPath us m → TooDeep c
+    second-too-deep some p =
+        let also : 0 < m = omega (arith, p .there) in
+        (some, also, omega (arith, deep-path-depth us m (second-once also .whole) p))
+
+    -- and there is one, if no link leads outside
+    pub too-deep-refused : AllInside ws n → AllInside us m → TooDeep c → JoinRefusal c 7
+    too-deep-refused inside also deep = pick (decLt 126 (depth (treeOf ws)))
+      where
+        pick : Dec (126 < depth (treeOf ws)) → JoinRefusal c 7
+        pick (yes h) = first-deep (deep .1) (depth-deep-path ws n (first-once (deep .0) .whole) inside (deep .0) h)
+        pick (no h) = second-deep (deep .0) (depth-deep-path us m (second-once (deep .1) .whole) also (deep .1) (omega (arith, deep .2)))
+
   -- ---- a test that fails shows its cause
   sizes-show : Shows (JoinRefusal c) ofSizes
   unfolding sizeTests roomFor
@@ -159,19 +183,12 @@ module _ (c : JoinCall) where
     ),
   )
 
-  -- no link of either tree leads outside, and each is read once where it has leaves
-  deep-shows : AllInside ws n → AllInside us m → (0 < n → Once ws n) × (0 < m → Once us m) → TooDeep c → JoinRefusal c 7
-  deep-shows inside also once deep = pick (decLt 126 (depth (treeOf ws)))
-    where
-      pick : Dec (126 < depth (treeOf ws)) → JoinRefusal c 7
-      pick (yes h) = first-deep (deep .1) (depth-deep-path ws n (once .0 (deep .0) .whole) inside (deep .0) h)
-      pick (no h) = second-deep (deep .0) (depth-deep-path us m (once .1 (deep .1) .whole) also (deep .1) (omega (arith, deep .2)))
-
   edge-shows : (linksInside ws n ≡ true) × (linksInside us m ≡ true) → treeOrNone ws n && treeOrNone us m ≡ true
       → edgeToSpare ws n us m ≡ false → JoinRefusal c 7
   edge-shows links trees e =
-      deep-shows (told (all-inside-tells ws n) (links .0)) (told (all-inside-tells us m) (links .1))
-      (told (and-tells (tree-tells ws n) (tree-tells us m)) trees) (edge-lacks ws n us m .0 e)
+      let once = told (and-tells (tree-tells ws n) (tree-tells us m)) trees in
+      too-deep-refused (once .0) (once .1) (told (all-inside-tells ws n) (links .0)) (told (all-inside-tells us m) (links .1))
+      (edge-lacks ws n us m .0 e)
 
   trees-show : Shows (JoinRefusal c) ofTrees
   unfolding treeTests
@@ -238,12 +255,13 @@ module _ (c : JoinCall) where
         (refl, either-second (boxesAccepted ws n), (refl, λ e. either-first _ (either-second (treeOrNone ws n) e), tt)),
       )
 
-  -- the joined tree's: where both are trees, the depth of each is that of its longest path
-  deep-fails : ((0 < n → Once ws n) × (0 < m → Once us m) → TooDeep c) → Fails 7 (joinTests c)
+  -- the joined tree's, if it is too deep wherever both are trees
+  deep-fails : (OnceOrNone ws n → OnceOrNone us m → TooDeep c) → Fails 7 (joinTests c)
   unfolding treeTests placeOf
   deep-fails h =
       let trees = and-tells (tree-tells ws n) (tree-tells us m) in
-      let seven = tells-false (and-tells trees (true-tells (edgeToSpare ws n us m))) (λ t. clash (sym (edge-lacks ws n us m .1 (h (t .0))) ∙ t .1)) in
+      let lacks : OnceOrNone ws n × OnceOrNone us m → edgeToSpare ws n us m ≡ false = λ once. edge-lacks ws n us m .1 (h (once .0) (once .1)) in
+      let seven = tells-false (and-tells trees (true-tells (edgeToSpare ws n us m))) (λ t. clash (sym (lacks (t .0)) ∙ t .1)) in
       trees-fail 7 (inr (inr (inl (seven, tt))))
 
   -- the room's: where some slice is short
@@ -262,12 +280,8 @@ module _ (c : JoinCall) where
   join-fails j (marks-short h) = room-fails (λ r. omega (arith, h, r .marks))
   join-fails j (words-short h) = room-fails (λ r. omega (arith, h, r .words))
   join-fails j (indices-short h) = room-fails (λ r. omega (arith, h, r .indices))
-  join-fails j (first-deep also p) =
-      let some : 0 < n = omega (arith, p .there) in
-      deep-fails (λ once. (some, also, omega (arith, deep-path-depth ws n (once .0 some .whole) p)))
-  join-fails j (second-deep some p) =
-      let also : 0 < m = omega (arith, p .there) in
-      deep-fails (λ once. (some, also, omega (arith, deep-path-depth us m (once .1 also .whole) p)))
+  join-fails j (first-deep also p) = deep-fails (λ o u. first-too-deep o u also p)
+  join-fails j (second-deep some p) = deep-fails (λ o u. second-too-deep o u some p)
   join-fails j (sum-over p) =
       fails-later 13 (ofSizes ++ ofTrees) ofSums
       (inl (one-fails (λ i. leb (getD (c .secondIndices) i 0 + c .panes) 0xffff_ffff) m (p .place) (p .there) (lt-leb _ _ (p .over)), tt))
