@@ -1,2 +1,3 @@
 pub mod Causes
 pub mod Refusals
+pub mod Unless

@@ -1,6 +1,6 @@
 -- The number with which a join is refused is the first cause's, in the order of causes (02, [4]); and what each refusal leaves.
 use mathlib.Core.Bool.{Bool, true, false, _||_}
-use mathlib.Core.List.{List, [], _∷_, List·Memᴰ, List·Memᴰ·head, List·Memᴰ·tail, Memᴰ·cast}
+use mathlib.Core.List.{List, [], _∷_}
 use mathlib.Core.Logic.{_⊎_, inl, inr, _↔_}
 use mathlib.Core.Path.{_≡_, refl, sym, ap, subst, _∙_}
 use Prim.Native.Nat.{ℕ, zero, suc, _+_, _≤_, _<_}
@@ -9,7 +9,9 @@ use lib.Dec.{T, leb, ltb, ltb→lt}
 use lib.ListN.{length, take, drop, replicate, length-replicate}
 use lib.Seq.{drop-at}
 use borrow.Author.Tests.{le-leb, lt-leb}
+use Rattle.lists.specs.Counts.{count}
 use Rattle.lists.specs.Splice.{splice}
+use Rattle.lists.proofs.Counts.{same-self}
 use Rattle.lists.proofs.Splice.{length-splice, splice-taken}
 use Rattle.causes.specs.Causes.{Condition, _unless_, firstCause, placeOf, Before}
 use Rattle.causes.proofs.Causes.{allNumbers, first-among}
@@ -28,11 +30,11 @@ abbrev numbersOf : List Condition → List ℕ
 numbersOf [] = []
 numbersOf (k unless b ∷ l) = k ∷ numbersOf l
 
-first-listed : (l : List Condition) → 0 < firstCause l → List·Memᴰ (firstCause l) (numbersOf l)
-unfolding firstCause
+first-listed : (l : List Condition) → 0 < firstCause l → 0 < count (firstCause l) (numbersOf l)
+unfolding firstCause count
 first-listed [] h = absurd (omega arith)
-first-listed (k unless true ∷ l) h = List·Memᴰ·tail (first-listed l h)
-first-listed (k unless false ∷ l) h = List·Memᴰ·head refl
+first-listed (k unless true ∷ l) h = omega (arith, first-listed l h)
+first-listed (k unless false ∷ l) h = omega (arith, same-self k)
 
 -- what lies behind a part written at the start is as it was
 splice-dropped : {A : Type 0} (s b : List A) (n : ℕ) → length b ≡ n → drop n (splice s 0 b) ≡ drop n s
@@ -103,11 +105,11 @@ module _ (c : JoinCall) where
           }
 
   -- Every refusal has one of seven numbers.
-  pub refusal-numbers : (k : ℕ) → joinOf c .answer ≡ refusedJoin k → List·Memᴰ k (1 ∷ 2 ∷ 4 ∷ 5 ∷ 6 ∷ 7 ∷ 13 ∷ [])
+  pub refusal-numbers : (k : ℕ) → joinOf c .answer ≡ refusedJoin k → 0 < count k (1 ∷ 2 ∷ 4 ∷ 5 ∷ 6 ∷ 7 ∷ 13 ∷ [])
   unfolding joinTests sizeTests treeTests
   refusal-numbers k e =
       let l = left-by k e in
-      Memᴰ·cast (sym (l .found)) (first-listed (joinTests c) (omega (arith, l .some, l .found)))
+      rw (l .found) at (first-listed (joinTests c) (omega (arith, l .some, l .found)))
 
   -- It leaves both outputs as they were;
   pub refused-outputs : (k : ℕ) → joinOf c .answer ≡ refusedJoin k → (joinOf c .words ≡ c .words) × (joinOf c .indices ≡ c .indices)
