@@ -39,7 +39,7 @@ either-first b e = ap (λ (x : Bool). x && b) e
 either-second : (a : Bool) {b : Bool} → b ≡ false → a && b ≡ false
 either-second a {b} e = tells-false (and-tells (true-tells a) (true-tells b)) (λ h. clash (sym e ∙ h .1))
 
--- so that one that fails shows what the first shows by failing, or what the second does behind it
+-- and shows by failing what the first does, or, where that passes, what the second does
 either-shows : {A : Type 0} (a b : Bool) → (a ≡ false → A) → (a ≡ true → b ≡ false → A) → a && b ≡ false → A
 either-shows true b f g e = g refl e
 either-shows false b f g e = f refl
@@ -47,7 +47,7 @@ either-shows false b f g e = f refl
 both-pass : (a b : Bool) → a && b ≡ true → (a ≡ true) × (b ≡ true)
 both-pass a b = told (and-tells (true-tells a) (true-tells b))
 
--- ---- a path of more than 126 edges
+-- ---- a path of more than 126 edges: there is one exactly if the tree is deeper than that
 
 -- the tree is read whole
 module _ (ws : List ℕ) (n : ℕ) (whole : AllRead ws (treeOf ws)) where
@@ -84,7 +84,7 @@ fails-with i (k unless a ∷ l) (j unless b ∷ m) w (inr f) = inr (fails-with i
 
 -- ---- one tree by itself
 
--- 5 to 7: those of `structureConditions`, with none that fails of a tree without leaves
+-- 5 to 7: those of `structureConditions`, written for an empty tree too, where all pass
 abbrev ownTests : List ℕ → ℕ → List Condition
 ownTests ws n = 5 unless linksInside ws n ∷ 6 unless boxesAccepted ws n ∷ 7 unless treeOrNone ws n ∷ []
 
@@ -107,7 +107,7 @@ unfolding treeOrNone
 tree-tells ws zero = passes (λ some. absurd (omega arith))
 tree-tells ws (suc n) = tells-as (once-tells ws (suc n)) (λ o some. o) (λ f. f (omega arith))
 
--- the edge to a new root is too much exactly if both trees have leaves, and the greater depth with it is over 127
+-- there is no edge to spare exactly if both trees have leaves, and the greater depth with the new edge is over 127
 edge-lacks : (ws : List ℕ) (n : ℕ) (us : List ℕ) (m : ℕ)
     → edgeToSpare ws n us m ≡ false ↔ (0 < n) × (0 < m) × (127 < suc (max (depth (treeOf ws)) (depth (treeOf us))))
 unfolding edgeToSpare byLeaves
@@ -147,9 +147,9 @@ module _ (c : JoinCall) where
   unfolding joinTests sizeTests treeTests sorted
   join-in-order = tt
 
-  -- ---- too deep, where each tree that has leaves is read once
+  -- ---- too deep: by paths and by depths, where each tree that has leaves is read once
   module _ (first-once : OnceOrNone ws n) (second-once : OnceOrNone us m) where
-    -- a path of more than 126 edges makes it so,
+    -- a path of more than 126 edges makes the joined tree too deep,
     pub first-too-deep : 0 < m → DeepPath ws n → TooDeep c
     first-too-deep also p =
         let some : 0 < n = omega (arith, p .there) in
@@ -160,7 +160,7 @@ module _ (c : JoinCall) where
         let also : 0 < m = omega (arith, p .there) in
         (some, also, omega (arith, deep-path-depth us m (second-once also .whole) p))
 
-    -- and there is one, if no link leads outside
+    -- and too deep a tree has one, if no link leads outside
     pub too-deep-refused : AllInside ws n → AllInside us m → TooDeep c → JoinRefusal c 7
     too-deep-refused inside also deep = pick (decLt 126 (depth (treeOf ws)))
       where
@@ -229,7 +229,7 @@ module _ (c : JoinCall) where
   unfolding joinTests
   trees-fail k f = fails-first k (ofSizes ++ ofTrees) ofSums (fails-later k ofSizes ofTrees f)
 
-  -- one tree's, if the tests fail wherever its own do
+  -- a cause of one tree, whose own tests have theirs among these
   own-cause-fails : (vs : List ℕ) (k : ℕ) → FailsWith (sizeConditions (length vs) k) ofSizes → FailsWith (ownTests vs k) ofTrees
       → (j : ℕ) → Cause vs k j → Fails j (joinTests c)
   own-cause-fails vs k sizes trees j q =
@@ -255,7 +255,7 @@ module _ (c : JoinCall) where
         (refl, either-second (boxesAccepted ws n), (refl, λ e. either-first _ (either-second (treeOrNone ws n) e), tt)),
       )
 
-  -- the joined tree's, if it is too deep wherever both are trees
+  -- a path that is too long, where it makes the joined tree too deep
   deep-fails : (OnceOrNone ws n → OnceOrNone us m → TooDeep c) → Fails 7 (joinTests c)
   unfolding treeTests placeOf
   deep-fails h =
@@ -264,7 +264,7 @@ module _ (c : JoinCall) where
       let seven = tells-false (and-tells trees (true-tells (edgeToSpare ws n us m))) (λ t. clash (sym (lacks (t .0)) ∙ t .1)) in
       trees-fail 7 (inr (inr (inl (seven, tt))))
 
-  -- the room's: where some slice is short
+  -- a slice that is short
   room-fails : (HasRoom c → ⊥) → Fails 4 (joinTests c)
   unfolding sizeTests roomFor placeOf
   room-fails h =

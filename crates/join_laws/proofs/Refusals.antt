@@ -78,6 +78,7 @@ module _ (c : JoinCall) where
   abbrev needed : ℕ
   needed = marksNeeded (firstLeaves c) (secondLeaves c)
 
+  -- the end of a call that is refused with number k
   record LeftBy (k : ℕ) (end : JoinEnd) : Type 0 where
     found : joinCause c ≡ k
     some : 0 < k
