@@ -1,11 +1,13 @@
 -- Why a call of `join` is refused (02, [4]): each constructor is one way for the cause of that number to hold.
 use mathlib.Core.List.{List}
-use Prim.Native.Nat.{ℕ, _+_, _*_, _<_}
+use Prim.Native.Nat.{ℕ, suc, _+_, _*_, _<_, max}
 use lib.ListN.{length, getD}
 use Rattle.causes.specs.Causes.{First}
+use Rattle.bvh2.specs.Tree.{depth}
 use Rattle.bvh2.specs.Words.{treeNodes}
 use Rattle.bvh2.specs.Causes.{Turn, Reaches, Cause}
 use Rattle.join.specs.Join.{JoinCall, firstLeaves, secondLeaves, bothLeaves, marksNeeded}
+use Rattle.join_laws.specs.Joined.{firstTree, secondTree}
 
 -- some path of a tree of n leaves has more than 126 edges: one more is over 127
 pub record DeepPath (ws : List ℕ) (n : ℕ) : Type 0 where
@@ -14,6 +16,10 @@ pub record DeepPath (ws : List ℕ) (n : ℕ) : Type 0 where
   pub there : node < treeNodes n
   pub leads : Reaches ws node path
   pub edges : 126 < length path
+
+-- both trees have leaves, and the greater depth with the edge to the new root is over 127
+abbrev pub TooDeep : JoinCall → Type 0
+TooDeep c = (0 < firstLeaves c) × (0 < secondLeaves c) × (127 < suc (max (depth (firstTree c)) (depth (secondTree c))))
 
 -- a second index word and the first's panes make more than 32 bits hold
 pub record SumOver (c : JoinCall) : Type 0 where
