@@ -5,7 +5,7 @@ use Prim.Native.Nat.{_^_}
 use lib.Dec.{T}
 use lib.Ieee.{Float, binary32, fits, isNan, lt, le}
 use lib.Ieee.Bits.{is-true}
-use lib.Ieee.Fits.{and-l, and-r}
+use Rattle.lists.proofs.Tells.{both-pass}
 use Rattle.float.specs.Compare.{minOf, maxOf, unsignedZero, inBounds}
 use Rattle.float.proofs.Magnitude.{atmost-no-nan}
 use Rattle.float.proofs.Order.{le-of-lt, le-of-not-lt, le-self, le-transitive}
@@ -83,20 +83,17 @@ unfolding fits
 upper-fits a b p q = unsigned-fits binary32 (maxOf a b) tt (max-cases (λ x. T (fits binary32 x)) a b (λ e. p) (λ e. q))
 
 -- ---- whole boxes
-both : (a b : Bool) → a && b ≡ true → (a ≡ true) × (b ≡ true)
-both a b e = let t = subst T (sym e) tt in (is-true a (and-l a b t), is-true b (and-r a b t))
-
 -- the components of a bounded vector
 components : (v : Vec3) → boundedVec v ≡ true → (inBounds (v .x) ≡ true) × (inBounds (v .y) ≡ true) × (inBounds (v .z) ≡ true)
 unfolding boundedVec
 components v e =
-    let xy = both (inBounds (v .x) && inBounds (v .y)) (inBounds (v .z)) e in
-    let x = both (inBounds (v .x)) (inBounds (v .y)) (xy .0) in
+    let xy = both-pass (inBounds (v .x) && inBounds (v .y)) (inBounds (v .z)) e in
+    let x = both-pass (inBounds (v .x)) (inBounds (v .y)) (xy .0) in
     (x .0, x .1, xy .1)
 
 pub corners-bounded : (b : Aabb) → acceptedBox b ≡ true → (boundedVec (b .min) ≡ true) × (boundedVec (b .max) ≡ true)
 unfolding acceptedBox
-corners-bounded b e = both (boundedVec (b .min)) (boundedVec (b .max)) (both (boundedVec (b .min) && boundedVec (b .max)) (inOrder b) e .0)
+corners-bounded b e = both-pass (boundedVec (b .min)) (boundedVec (b .max)) (both-pass (boundedVec (b .min) && boundedVec (b .max)) (inOrder b) e .0)
 
 number : (x : Float) → inBounds x ≡ true → T (not (isNan x))
 number x e = atmost-no-nan x (2 ^ 40) 1 (in-bounds-within x (subst T (sym e) tt))

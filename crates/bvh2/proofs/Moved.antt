@@ -91,7 +91,7 @@ module _ {A : Type 0} (f : ℕ → ℕ) where
 module _ (ws moved : List ℕ) (move place : ℕ → ℕ) where
   pub record MovedAt (v : ℕ) : Type 0 where
     pub box : boxAt moved (move v) ≡ boxAt ws v
-    pub pair : (f : ℕ) → linkAt ws v ≡ children f → linkAt moved (move v) ≡ children (move f)
+    pub pair : (f : ℕ) → 0 < f → linkAt ws v ≡ children f → linkAt moved (move v) ≡ children (move f)
     pub held : (p : ℕ) → linkAt ws v ≡ position p → linkAt moved (move v) ≡ position (place p)
 
   -- a pair of children, of which neither is node 0, stays a pair
@@ -119,7 +119,7 @@ module _ (ws moved : List ℕ) (move place : ℕ → ℕ) where
   unfolding Stands relabel reposition
   inner-moved pairs v b l r a s z x y = (
     a .box ∙ s .0,
-    a .pair (labelOf l) (s .1) ∙ ap children (sym (label-moved l)),
+    a .pair (labelOf l) (not-first l z) (s .1) ∙ ap children (sym (label-moved l)),
     label-moved r ∙ ap move (s .2) ∙ pairs (labelOf l) (not-first l z) ∙ ap (λ (k : ℕ). k + 1) (sym (label-moved l)),
     x,
     y,

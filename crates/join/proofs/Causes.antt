@@ -105,8 +105,8 @@ module _ (a n b m : ℕ) where
       lesser-first 0 ((1, eqb a (treeNodes n * 7), eqb b (treeNodes m * 7)) ∷ (2, leb n 65536, leb m 65536) ∷ []) (omega arith, (omega arith, tt))
 
   -- one leaf too many of a single tree is one too many of both
-  leaves-over : leb n 65536 && leb m 65536 ≡ false → leb (n + m) 65536 ≡ false
-  leaves-over e = go (leb n 65536) refl (leb m 65536) refl e
+  each-over : leb n 65536 && leb m 65536 ≡ false → leb (n + m) 65536 ≡ false
+  each-over e = go (leb n 65536) refl (leb m 65536) refl e
     where
       go : (p : Bool) → leb n 65536 ≡ p → (q : Bool) → leb m 65536 ≡ q → p && q ≡ false → leb (n + m) 65536 ≡ false
       go false i q j h = lt-leb (n + m) 65536 (omega (arith, leb-false n 65536 i))
@@ -123,7 +123,7 @@ module _ (a n b m : ℕ) where
             → k ≡ firstCause (1 unless p ∷ 2 unless q ∷ [])
             → k ≡ firstCause (1 unless p ∷ 2 unless leb (n + m) 65536 ∷ 4 unless roomFor n m marks words indices ∷ [])
         go false i q j f = f
-        go true i false j f = f ∙ rw (leaves-over j) refl
+        go true i false j f = f ∙ rw (each-over j) refl
         go true i true j f = absurd (h f)
 
     -- and where none is, that of all leaves comes next, and then that of the room

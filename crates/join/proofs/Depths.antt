@@ -45,7 +45,7 @@ module _ (ws : List ℕ) (n : ℕ) (us : List ℕ) (m : ℕ) where
       go zero h = absurd (h refl)
       go (suc k) h = rw e refl
 
-  spare-both : (n ≡ 0 → ⊥) → (m ≡ 0 → ⊥) → edgeToSpare ws n us m ≡ leb (suc (max (depth (treeOf ws)) (depth (treeOf us)))) 127
+  pub spare-both : (n ≡ 0 → ⊥) → (m ≡ 0 → ⊥) → edgeToSpare ws n us m ≡ leb (suc (max (depth (treeOf ws)) (depth (treeOf us)))) 127
   unfolding edgeToSpare byLeaves
   spare-both h k = go n m h k
     where

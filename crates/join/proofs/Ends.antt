@@ -1,15 +1,14 @@
 -- How the call ends, by the causes that were found.
 use mathlib.Core.Bool.{Bool, true, false, _&&_}
 use mathlib.Core.List.{List, [], _∷_, _++_}
-use mathlib.Core.Path.{_≡_, refl, sym, subst, _∙_}
+use mathlib.Core.Path.{_≡_, refl, sym, _∙_}
 use Prim.Native.Nat.{ℕ, zero, suc, _+_, _*_, _<_, _≤_}
 use native.Mathlib.Omega.{arith}
 use lib.Dec.{T, leb, eqb}
-use lib.Ieee.Bits.{is-true}
-use lib.Ieee.Fits.{and-l, and-r}
 use lib.ListN.{length}
 use borrow.Author.Tests.{le-leb, lt-leb, eqb-true, leb-true}
 use Rattle.lists.specs.Splice.{splice}
+use Rattle.lists.proofs.Tells.{both-pass}
 use Rattle.causes.specs.Causes.{Condition, _unless_, firstCause, placeOf}
 use Rattle.causes.proofs.Causes.{Passed, sorted, first-later, first-here, append-first, append-later, none-passed, passed-none}
 use Rattle.bvh2.specs.Words.{treeNodes}
@@ -21,12 +20,9 @@ use Rattle.join.specs.Join.{treeOrNone, edgeToSpare, treeTests, sumsFit}
 use Rattle.join.proofs.Causes.{structure-tests}
 use Rattle.join.specs.Join.{zeroedMarks, joinTests, joinCause, joined, refusedJoin, joinBy, joinOf}
 
-both : (a b : Bool) → a && b ≡ true → (a ≡ true) × (b ≡ true)
-both a b e = let t = subst T (sym e) tt in (is-true a (and-l a b t), is-true b (and-r a b t))
-
 -- a tree of which no test fails is accepted
-of-tests : (ws : List ℕ) (n : ℕ) → TreeSized ws n → linksInside ws n ≡ true → boxesAccepted ws n ≡ true → treeOrNone ws n ≡ true → Accepted ws n
-of-tests ws n s l b t =
+pub tests-accepted : (ws : List ℕ) (n : ℕ) → TreeSized ws n → linksInside ws n ≡ true → boxesAccepted ws n ≡ true → treeOrNone ws n ≡ true → Accepted ws n
+tests-accepted ws n s l b t =
     structure-none ws n s .0
     (structure-tests ws n ∙ passed-none (5 unless linksInside ws n ∷ 6 unless boxesAccepted ws n ∷ 7 unless treeOrNone ws n ∷ []) (l, (b, (t, tt))))
 
@@ -81,7 +77,7 @@ module _ (c : JoinCall) where
         let p = passed in
         let x = eqb (length (c .first)) (treeNodes (firstLeaves c) * 7) in
         let y = eqb (length (c .second)) (treeNodes (secondLeaves c) * 7) in
-        let b = both x y (p .0) in
+        let b = both-pass x y (p .0) in
         let few = leb-true (bothLeaves c) 65536 (p .1 .0) in (
           record { fit = eqb-true (length (c .first)) (treeNodes (firstLeaves c) * 7) (b .0); few = omega (arith, few) },
           record { fit = eqb-true (length (c .second)) (treeNodes (secondLeaves c) * 7) (b .1); few = omega (arith, few) },
@@ -94,13 +90,13 @@ module _ (c : JoinCall) where
     unfolding treeTests
     both-accepted z =
         let p = none-passed 0 trees trees-sorted z in
-        let links = both (linksInside (c .first) (firstLeaves c)) (linksInside (c .second) (secondLeaves c)) (p .0) in
-        let boxes = both (boxesAccepted (c .first) (firstLeaves c)) (boxesAccepted (c .second) (secondLeaves c)) (p .1 .0) in
+        let links = both-pass (linksInside (c .first) (firstLeaves c)) (linksInside (c .second) (secondLeaves c)) (p .0) in
+        let boxes = both-pass (boxesAccepted (c .first) (firstLeaves c)) (boxesAccepted (c .second) (secondLeaves c)) (p .1 .0) in
         let first = treeOrNone (c .first) (firstLeaves c) in
         let second = treeOrNone (c .second) (secondLeaves c) in
-        let whole = both first second (both (first && second) (edgeToSpare (c .first) (firstLeaves c) (c .second) (secondLeaves c)) (p .1 .1 .0) .0) in (
-          of-tests (c .first) (firstLeaves c) (lengths .0) (links .0) (boxes .0) (whole .0),
-          of-tests (c .second) (secondLeaves c) (lengths .1) (links .1) (boxes .1) (whole .1),
+        let whole = both-pass first second (both-pass (first && second) (edgeToSpare (c .first) (firstLeaves c) (c .second) (secondLeaves c)) (p .1 .1 .0) .0) in (
+          tests-accepted (c .first) (firstLeaves c) (lengths .0) (links .0) (boxes .0) (whole .0),
+          tests-accepted (c .second) (secondLeaves c) (lengths .1) (links .1) (boxes .1) (whole .1),
         )
 
   -- ---- the endings

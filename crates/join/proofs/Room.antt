@@ -19,13 +19,13 @@ module _ (n m marks words indices : ℕ) where
         le-leb (n + m) indices (omega arith),
       )
 
-  pub marks-short : marks < marksNeeded n m → false ≡ roomFor n m marks words indices
+  pub marks-lacking : marks < marksNeeded n m → false ≡ roomFor n m marks words indices
   unfolding roomFor
-  marks-short h = rw (lt-leb (marksNeeded n m) marks h)
+  marks-lacking h = rw (lt-leb (marksNeeded n m) marks h)
 
-  pub words-short : marksNeeded n m ≤ marks → words < treeNodes (n + m) * 7 → false ≡ roomFor n m marks words indices
+  pub words-lacking : marksNeeded n m ≤ marks → words < treeNodes (n + m) * 7 → false ≡ roomFor n m marks words indices
   unfolding roomFor
-  words-short g h = rw (le-leb (marksNeeded n m) marks g, lt-leb (treeNodes (n + m) * 7) words h)
+  words-lacking g h = rw (le-leb (marksNeeded n m) marks g, lt-leb (treeNodes (n + m) * 7) words h)
 
   pub room-indices : marksNeeded n m ≤ marks → treeNodes (n + m) * 7 ≤ words → leb (n + m) indices ≡ roomFor n m marks words indices
   unfolding roomFor

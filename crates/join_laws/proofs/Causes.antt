@@ -10,7 +10,7 @@ use borrow.Author.Tests.{leb-false, lt-leb}
 use lib.Dec.{T, eqb, leb}
 use lib.ListN.{length, getD}
 use Rattle.lists.specs.Below.{allBelow}
-use Rattle.lists.proofs.Tells.{Tells, passes, clash, told, denied, tells-false, tells-as, true-tells}
+use Rattle.lists.proofs.Tells.{Tells, passes, both-pass, clash, told, denied, tells-false, tells-as, true-tells}
 use Rattle.lists.proofs.Tells.{eqb-tells, leb-tells, and-tells, where-fails, one-fails}
 use Rattle.causes.specs.Causes.{Condition, _unless_, placeOf}
 use Rattle.causes.proofs.Causes.{sorted}
@@ -43,9 +43,6 @@ either-second a {b} e = tells-false (and-tells (true-tells a) (true-tells b)) (�
 either-shows : {A : Type 0} (a b : Bool) → (a ≡ false → A) → (a ≡ true → b ≡ false → A) → a && b ≡ false → A
 either-shows true b f g e = g refl e
 either-shows false b f g e = f refl
-
-both-pass : (a b : Bool) → a && b ≡ true → (a ≡ true) × (b ≡ true)
-both-pass a b = told (and-tells (true-tells a) (true-tells b))
 
 -- ---- a path of more than 126 edges: there is one exactly if the tree is deeper than that
 

@@ -1,35 +1,20 @@
 -- What holds of a call that joins: no test refuses it.
-use mathlib.Core.Bool.{true}
-use mathlib.Core.List.{List, []}
-use mathlib.Core.Path.{_≡_, refl}
+use mathlib.Core.Path.{_≡_, refl, sym, _∙_}
 use Prim.Native.Nat.{ℕ, zero, suc, _+_, _*_, _<_, _≤_, max}
 use native.Mathlib.Omega.{arith}
 use lib.Dec.{T}
 use lib.ListN.{length}
 use Rattle.lists.proofs.Tells.{told, true-tells, and-tells, eqb-tells, leb-tells}
 use Rattle.causes.specs.Causes.{placeOf}
-use Rattle.causes.proofs.Causes.{Passed, sorted, none-passed, passed-none}
+use Rattle.causes.proofs.Causes.{Passed, sorted, none-passed}
 use Rattle.bvh2.specs.Tree.{depth}
-use Rattle.bvh2.specs.Words.{treeNodes, treeOf}
-use Rattle.bvh2.specs.Causes.{TreeSized, Accepted}
-use Rattle.bvh2.specs.FirstCause.{linksInside, boxesAccepted, structureConditions}
-use Rattle.bvh2.proofs.First.{structure-none}
-use Rattle.join.specs.Join.{JoinCall, firstLeaves, secondLeaves, bothLeaves, byLeaves}
+use Rattle.bvh2.specs.Words.{treeNodes}
+use Rattle.bvh2.specs.FirstCause.{linksInside, boxesAccepted}
+use Rattle.join.specs.Join.{JoinCall, firstLeaves, secondLeaves, bothLeaves}
 use Rattle.join.specs.Join.{sizeTests, treeOrNone, edgeToSpare, treeTests, joinTests, joinCause, joined, joinBy, joinOf}
+use Rattle.join.proofs.Depths.{spare-both}
+use Rattle.join.proofs.Ends.{tests-accepted}
 use Rattle.join_laws.specs.Joined.{Joins, firstTree, secondTree, BothAccepted}
-
--- ---- the tests of a call that joins
-tree-accepted : (ws : List ℕ) (n : ℕ) → TreeSized ws n → linksInside ws n ≡ true → boxesAccepted ws n ≡ true → treeOrNone ws n ≡ true → Accepted ws n
-unfolding structureConditions treeOrNone
-tree-accepted ws zero s l b t = structure-none ws 0 s .0 (passed-none [] tt)
-tree-accepted ws (suc n) s l b t = structure-none ws (suc n) s .0 (passed-none (structureConditions ws (suc n)) (l, (b, (t, tt))))
-
-edge-spared : (ws : List ℕ) (n : ℕ) (us : List ℕ) (m : ℕ) → edgeToSpare ws n us m ≡ true → 0 < n → 0 < m
-    → suc (max (depth (treeOf ws)) (depth (treeOf us))) ≤ 127
-unfolding edgeToSpare byLeaves
-edge-spared ws zero us m e p q = absurd (omega arith)
-edge-spared ws (suc n) us zero e p q = absurd (omega arith)
-edge-spared ws (suc n) us (suc m) e p q = told (leb-tells (suc (max (depth (treeOf ws)) (depth (treeOf us)))) 127) e
 
 module _ (c : JoinCall) where
   in-order : T (sorted 0 (joinTests c))
@@ -65,11 +50,13 @@ module _ (c : JoinCall) where
       (true-tells (edgeToSpare (c .first) n (c .second) m))) (p .1 .1 .1 .1 .1 .0) in
       record {
         accepted = (
-          tree-accepted (c .first) n (record { fit = fit .0; few = omega arith }) (links .0) (boxes .0) (whole .0 .0),
-          tree-accepted (c .second) m (record { fit = fit .1; few = omega arith }) (links .1) (boxes .1) (whole .0 .1),
+          tests-accepted (c .first) n (record { fit = fit .0; few = omega arith }) (links .0) (boxes .0) (whole .0 .0),
+          tests-accepted (c .second) m (record { fit = fit .1; few = omega arith }) (links .1) (boxes .1) (whole .0 .1),
         );
         few = few;
-        shallow = edge-spared (c .first) n (c .second) m (whole .1);
+        shallow = λ p q.
+            told (leb-tells (suc (max (depth (firstTree c)) (depth (secondTree c)))) 127)
+            (sym (spare-both (c .first) n (c .second) m (λ z. omega (arith, p, z)) (λ z. omega (arith, q, z))) ∙ whole .1);
       }
 
   -- A call that joins was given two accepted trees.

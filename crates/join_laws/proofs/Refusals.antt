@@ -3,16 +3,14 @@ use mathlib.Core.Bool.{Bool, true, false, _||_}
 use mathlib.Core.List.{List, [], _∷_}
 use mathlib.Core.Logic.{_⊎_, inl, inr, _↔_}
 use mathlib.Core.Path.{_≡_, refl, sym, ap, subst, _∙_}
-use Prim.Native.Nat.{ℕ, zero, suc, _+_, _≤_, _<_}
+use Prim.Native.Nat.{ℕ, zero, suc, _≤_, _<_}
 use native.Mathlib.Omega.{arith}
 use lib.Dec.{T, leb, ltb, ltb→lt}
 use lib.ListN.{length, take, drop, replicate, length-replicate}
-use lib.Seq.{drop-at}
 use borrow.Author.Tests.{le-leb, lt-leb}
 use Rattle.lists.specs.Counts.{count}
-use Rattle.lists.specs.Splice.{splice}
 use Rattle.lists.proofs.Counts.{same-self}
-use Rattle.lists.proofs.Splice.{length-splice, splice-taken}
+use Rattle.lists.proofs.Splice.{length-splice, splice-taken, splice-rest}
 use Rattle.causes.specs.Causes.{Condition, _unless_, firstCause, placeOf, Before}
 use Rattle.causes.proofs.Causes.{allNumbers, first-among}
 use Rattle.causes.proofs.First.{ByCause, refused-first, given-none}
@@ -22,8 +20,6 @@ use Rattle.join_laws.specs.Joined.{Joins}
 use Rattle.join_laws.specs.Refusals.{JoinRefusal, FirstJoinRefusal}
 use Rattle.join_laws.specs.Refusals.{marks-short}
 use Rattle.join_laws.proofs.Causes.{join-in-order, join-shows, join-fails}
-
--- ---- laws of causes and of splices
 
 -- the number found is one of the list's
 abbrev numbersOf : List Condition → List ℕ
@@ -35,13 +31,6 @@ unfolding firstCause count
 first-listed [] h = absurd (omega arith)
 first-listed (k unless true ∷ l) h = omega (arith, first-listed l h)
 first-listed (k unless false ∷ l) h = omega (arith, same-self k)
-
--- what lies behind a part written at the start is as it was
-splice-dropped : {A : Type 0} (s b : List A) (n : ℕ) → length b ≡ n → drop n (splice s 0 b) ≡ drop n s
-unfolding splice
-splice-dropped s b n e =
-    let f : 0 + length b ≡ n = omega arith in
-    drop-at b (drop (0 + length b) s) n e ∙ ap (λ (k : ℕ). drop k s) f
 
 -- ---- a call
 
@@ -147,4 +136,4 @@ module _ (c : JoinCall) where
       let z : length zeros ≡ needed = length-replicate needed 0 in
       let r = late-marks k e h in
       rw (left-by k e .marks-zeroed h)
-      (length-splice (c .marks) 0 zeros (omega arith), splice-taken (c .marks) zeros needed z, splice-dropped (c .marks) zeros needed z)
+      (length-splice (c .marks) 0 zeros (omega arith), splice-taken (c .marks) zeros needed z, splice-rest (c .marks) zeros needed z)

@@ -2,12 +2,10 @@
 use mathlib.Core.List.{List, [], _++_, map, append-nil}
 use mathlib.Core.Path.{_≡_, refl, sym, ap, _∙_}
 use Prim.Native.Nat.{ℕ, zero, suc, _+_, _*_}
-use native.Mathlib.Nat.{zero-add}
 use native.Mathlib.Omega.{arith}
-use lib.ListN.{length, drop, replicate, length-append, length-map, length-replicate, drop-of-length-le}
-use lib.Seq.{drop-at}
+use lib.ListN.{length, replicate, length-append, length-map, length-replicate, drop-of-length-le}
 use Rattle.lists.specs.Splice.{splice}
-use Rattle.lists.proofs.Splice.{splice-taken, splice-none}
+use Rattle.lists.proofs.Splice.{splice-taken, splice-rest, splice-none}
 use Rattle.bvh2.specs.Words.{treeNodes}
 use Rattle.bvh2.specs.Causes.{TreeSized}
 use Rattle.bvh2.proofs.First.{accepted-sized}
@@ -16,11 +14,6 @@ use Rattle.join.specs.Join.{JoinEnd, joined, joinBy, joinOf}
 use Rattle.join_laws.specs.Joined.{Joins, wordsGiven, indicesGiven, RestKept, NothingWritten}
 use Rattle.join_laws.proofs.Joinable.{joins-none, joinable}
 use Rattle.join_laws.proofs.UnderRoot.{under-length}
-
--- what is written at the start leaves the rest
-splice-rest : {A : Type 0} (s b : List A) (n : ℕ) → length b ≡ n → drop n (splice s 0 b) ≡ drop n s
-unfolding splice
-splice-rest s b n e = drop-at b (drop (0 + length b) s) n e ∙ ap (λ (k : ℕ). drop k s) (zero-add (length b) ∙ e)
 
 length-none : {A : Type 0} (l : List A) → length l ≡ 0 → l ≡ []
 length-none l e = drop-of-length-le l {i = 0} (omega arith)

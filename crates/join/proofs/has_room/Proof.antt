@@ -1,5 +1,5 @@
 use native.Mathlib.Omega.{arith}
-use Rattle.join.proofs.Room.{room-none, marks-short, words-short, room-indices}
+use Rattle.join.proofs.Room.{room-none, marks-lacking, words-lacking, room-indices}
 use borrow.Author.Needs.{needs}
 use Rattle.join.proofs.has_room.Statement.{statement}
 use Rattle.join.proofs.has_room.Tie as tie
@@ -14,13 +14,13 @@ marks-for-requires : tie.Need-marks-for-requires
 marks-for-requires c κs = search needs
 
 returns-2 : tie.Need-returns-2
-returns-2 c = marks-short _ _ _ _ _ (omega (arith, c .if2 .taken, c .before .marks-for .ensures))
+returns-2 c = marks-lacking _ _ _ _ _ (omega (arith, c .if2 .taken, c .before .marks-for .ensures))
 
 marks-for-requires-2 : tie.Need-marks-for-requires-2
 marks-for-requires-2 c κs = search needs
 
 returns-3 : tie.Need-returns-3
-returns-3 c = marks-short _ _ _ _ _ (omega (arith, c .if3 .taken, c .before .marks-for2 .ensures))
+returns-3 c = marks-lacking _ _ _ _ _ (omega (arith, c .if3 .taken, c .before .marks-for2 .ensures))
 
 add-if4 : tie.Need-add-if4
 add-if4 c = search needs
@@ -38,7 +38,7 @@ returns-4 : tie.Need-returns-4
 returns-4 c =
     let second = c .before .before in
     let first = second .before .before in
-    words-short _ _ _ _ _ (omega (arith, c .before .if3 .left, second .marks-for2 .ensures, second .before .if2 .left, first .marks-for .ensures)) (omega (arith, c .if4 .taken))
+    words-lacking _ _ _ _ _ (omega (arith, c .before .if3 .left, second .marks-for2 .ensures, second .before .if2 .left, first .marks-for .ensures)) (omega (arith, c .if4 .taken))
 
 add-result : tie.Need-add-result
 add-result c = search needs
