@@ -103,7 +103,8 @@ module _ (a b : Aabb) (h : acceptedBox a ≡ true) (k : acceptedBox b ≡ true) 
   ordered : (p q u v : Float) → inBounds p ≡ true → inBounds q ≡ true → inBounds u ≡ true → inBounds v ≡ true → T (le p u)
       → le (unsignedZero (minOf p q)) (unsignedZero (maxOf u v)) ≡ true
   ordered p q u v hp hq hu hv l =
-      is-true _ (le-transitive _ _ _ (le-transitive _ _ _ (lower-first p q (number p hp) (number q hq)) l) (upper-first u v (number u hu) (number v hv)))
+      let low = lower-first p q (number p hp) (number q hq) in
+      is-true _ (le-transitive _ _ _ (le-transitive _ _ _ low l) (upper-first u v (number u hu) (number v hv)))
 
   pub union-accepted : acceptedBox (unionOf a b) ≡ true
   unfolding acceptedBox unionOf boundedVec inOrder

@@ -115,7 +115,8 @@ module _ (a n b m : ℕ) where
 
   module _ (marks words indices : ℕ) where
     -- a cause found so is the first of the call's,
-    pub sizes-found : (k : ℕ) → k ≡ lesserCause (sizesCause a n) (sizesCause b m) → (k ≡ 0 → ⊥) → k ≡ firstCause (sizeTests a n b m marks words indices)
+    pub sizes-found : (k : ℕ) → k ≡ lesserCause (sizesCause a n) (sizesCause b m) → (k ≡ 0 → ⊥)
+        → k ≡ firstCause (sizeTests a n b m marks words indices)
     unfolding sizeTests firstCause
     sizes-found k e h = go (eqb a (treeNodes n * 7) && eqb b (treeNodes m * 7)) refl (leb n 65536 && leb m 65536) refl (e ∙ sizes-both)
       where
@@ -187,7 +188,8 @@ module _ (ws : List ℕ) (n : ℕ) (us : List ℕ) (m : ℕ) where
   unfolding treeTests firstCause
   trees-found k e h = go links boxes trees (edgeToSpare ws n us m) (e ∙ structures-both)
     where
-      go : (x y z w : Bool) → k ≡ firstCause (5 unless x ∷ 6 unless y ∷ 7 unless z ∷ []) → k ≡ firstCause (5 unless x ∷ 6 unless y ∷ 7 unless (z && w) ∷ [])
+      go : (x y z w : Bool) → k ≡ firstCause (5 unless x ∷ 6 unless y ∷ 7 unless z ∷ [])
+          → k ≡ firstCause (5 unless x ∷ 6 unless y ∷ 7 unless (z && w) ∷ [])
       go false y z w f = f
       go true false z w f = f
       go true true false w f = f

@@ -68,4 +68,6 @@ module _ (ws : List ℕ) (n : ℕ) (us : List ℕ) (m : ℕ) where
 
         same : Dec (126 < depth (treeOf us)) → leb (depth (treeOf us)) 126 ≡ leb (suc (max (depth (treeOf ws)) (depth (treeOf us)))) 127
         same (yes l) = lt-leb (depth (treeOf us)) 126 l ∙ sym (lt-leb (suc (max (depth (treeOf ws)) (depth (treeOf us)))) 127 (omega (arith, l)))
-        same (no l) = le-leb (depth (treeOf us)) 126 (omega (arith, l)) ∙ sym (le-leb (suc (max (depth (treeOf ws)) (depth (treeOf us)))) 127 (omega (arith, d, l)))
+        same (no l) =
+            le-leb (depth (treeOf us)) 126 (omega (arith, l))
+            ∙ sym (le-leb (suc (max (depth (treeOf ws)) (depth (treeOf us)))) 127 (omega (arith, d, l)))

@@ -21,7 +21,8 @@ use Rattle.join.proofs.Causes.{structure-tests}
 use Rattle.join.specs.Join.{zeroedMarks, joinTests, joinCause, joined, refusedJoin, joinBy, joinOf}
 
 -- a tree of which no test fails is accepted
-pub tests-accepted : (ws : List ℕ) (n : ℕ) → TreeSized ws n → linksInside ws n ≡ true → boxesAccepted ws n ≡ true → treeOrNone ws n ≡ true → Accepted ws n
+pub tests-accepted : (ws : List ℕ) (n : ℕ) → TreeSized ws n → linksInside ws n ≡ true → boxesAccepted ws n ≡ true → treeOrNone ws n ≡ true
+    → Accepted ws n
 tests-accepted ws n s l b t =
     structure-none ws n s .0
     (structure-tests ws n ∙ passed-none (5 unless linksInside ws n ∷ 6 unless boxesAccepted ws n ∷ 7 unless treeOrNone ws n ∷ []) (l, (b, (t, tt))))
@@ -29,7 +30,8 @@ tests-accepted ws n s l b t =
 module _ (c : JoinCall) where
   -- what is looked at, in three parts
   abbrev sizes : List Condition
-  sizes = sizeTests (length (c .first)) (firstLeaves c) (length (c .second)) (secondLeaves c) (length (c .marks)) (length (c .words)) (length (c .indices))
+  sizes =
+      sizeTests (length (c .first)) (firstLeaves c) (length (c .second)) (secondLeaves c) (length (c .marks)) (length (c .words)) (length (c .indices))
 
   abbrev trees : List Condition
   trees = treeTests (c .first) (firstLeaves c) (c .second) (secondLeaves c)
@@ -94,7 +96,8 @@ module _ (c : JoinCall) where
         let boxes = both-pass (boxesAccepted (c .first) (firstLeaves c)) (boxesAccepted (c .second) (secondLeaves c)) (p .1 .0) in
         let first = treeOrNone (c .first) (firstLeaves c) in
         let second = treeOrNone (c .second) (secondLeaves c) in
-        let whole = both-pass first second (both-pass (first && second) (edgeToSpare (c .first) (firstLeaves c) (c .second) (secondLeaves c)) (p .1 .1 .0) .0) in (
+        let edge = edgeToSpare (c .first) (firstLeaves c) (c .second) (secondLeaves c) in
+        let whole = both-pass first second (both-pass (first && second) edge (p .1 .1 .0) .0) in (
           tests-accepted (c .first) (firstLeaves c) (lengths .0) (links .0) (boxes .0) (whole .0),
           tests-accepted (c .second) (secondLeaves c) (lengths .1) (links .1) (boxes .1) (whole .1),
         )
@@ -129,7 +132,8 @@ module _ (c : JoinCall) where
       (secondLeaves c))
       h
     where
-      go : (x y z : Bool) → (firstCause (5 unless x ∷ 6 unless y ∷ 7 unless z ∷ []) ≡ 0 → ⊥) → 4 < firstCause (5 unless x ∷ 6 unless y ∷ 7 unless z ∷ [])
+      go : (x y z : Bool) → (firstCause (5 unless x ∷ 6 unless y ∷ 7 unless z ∷ []) ≡ 0 → ⊥)
+          → 4 < firstCause (5 unless x ∷ 6 unless y ∷ 7 unless z ∷ [])
       go false y z h = omega arith
       go true false z h = omega arith
       go true true false h = omega arith

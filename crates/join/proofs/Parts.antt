@@ -64,10 +64,11 @@ module _ (ws : List ℕ) (n : ℕ) (us : List ℕ) (m : ℕ) where
       let la : length a ≡ (treeNodes n - 1) * 7 = turn-length (λ k. firstNode ws n us m (k + 1)) (λ k. first-seven (k + 1)) (treeNodes n - 1) in
       let lb : length b ≡ (treeNodes m - 1) * 7 = turn-length (λ k. secondNode ws n us m (k + 1)) (λ k. second-seven (k + 1)) (treeNodes m - 1) in
       let one = length-append newRoot (firstNode ws n us m 0) in
-      let lr : length roots ≡ 21 = omega (arith, length-append (newRoot ++ firstNode ws n us m 0) (secondNode ws n us m 0), one, first-seven 0, second-seven 0) in
-      let two = written-next s 0 21 ((treeNodes n - 1) * 7) roots a t u lr la (omega arith) e f in
+      let two = length-append (newRoot ++ firstNode ws n us m 0) (secondNode ws n us m 0) in
+      let lr : length roots ≡ 21 = omega (arith, one, two, first-seven 0, second-seven 0) in
+      let more = written-next s 0 21 ((treeNodes n - 1) * 7) roots a t u lr la (omega arith) e f in
       let lra : length (roots ++ a) ≡ (1 + 2 * n) * 7 = omega (arith, length-append roots a, lr, la) in
-      written-next s 0 ((1 + 2 * n) * 7) ((treeNodes m - 1) * 7) (roots ++ a) b u v lra lb (omega arith) two
+      written-next s 0 ((1 + 2 * n) * 7) ((treeNodes m - 1) * 7) (roots ++ a) b u v lra lb (omega arith) more
       (g ∙ ap (λ (k : ℕ). splice u k b) (sym (zero-add ((1 + 2 * n) * 7))))
 
   -- with an empty partner

@@ -39,5 +39,8 @@ module _ (n m marks words indices : ℕ) where
       let y = leb (treeNodes (n + m) * 7) words in
       let z = leb (n + m) indices in
       let t = subst T (sym e) tt in
-      let xy = and-l (x && y) z t in
-      (leb→le (marksNeeded n m) marks (and-l x y xy), leb→le (treeNodes (n + m) * 7) words (and-r x y xy), leb→le (n + m) indices (and-r (x && y) z t))
+      let xy = and-l (x && y) z t in (
+        leb→le (marksNeeded n m) marks (and-l x y xy),
+        leb→le (treeNodes (n + m) * 7) words (and-r x y xy),
+        leb→le (n + m) indices (and-r (x && y) z t),
+      )

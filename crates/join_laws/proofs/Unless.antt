@@ -1,5 +1,5 @@
--- Two accepted trees, with room for what they become, are joined unless there are too many leaves, the tree is too deep or an index sum passes 32 bits
--- (02, [4]).
+-- Two accepted trees, with room for what they become, are joined unless there are too many leaves, the tree is too deep or an index sum passes
+-- 32 bits (02, [4]).
 use mathlib.Core.List.{List, [], _∷_}
 use mathlib.Core.Logic.{_↔_}
 use mathlib.Core.Path.{_≡_}

@@ -139,13 +139,17 @@ within-depth-within-depth-requires : (t : ℕ) → within-depth-lts.Need-within-
 within-depth-within-depth-requires t c κs = (falls-by t c, record { leaves = _; edges = _; subtree = fork t c .left })
 
 within-depth-add-within-depth : (t : ℕ) → within-depth-lts.Need-add-within-depth (claims t) (within-depth-at t) within-depth.Post
-within-depth-add-within-depth t c = let h = fork t (c .before .before) in omega (arith, h .second, node (h .right) .below, tree t (entry t (kind-of t (c .before .before))) .subtree .few)
+within-depth-add-within-depth t c =
+    let b = c .before .before in
+    omega (arith, node (fork t b .right) .below, tree t (entry t (kind-of t b)) .subtree .few)
 
 within-depth-sub-within-depth-2 : (t : ℕ) → within-depth-lts.Need-sub-within-depth-2 (claims t) (within-depth-at t) within-depth.Post
 within-depth-sub-within-depth-2 t c = omega arith
 
 within-depth-within-depth-requires-2 : (t : ℕ) → within-depth-lts.Need-within-depth-requires-2 (claims t) (within-depth-at t) within-depth.Post
-within-depth-within-depth-requires-2 t c κs = (falls-by t (c .before .before), record { leaves = _; edges = _; subtree = fork t (c .before .before) .right })
+within-depth-within-depth-requires-2 t c κs =
+    let b = c .before .before in
+    (falls-by t b, record { leaves = _; edges = _; subtree = fork t b .right })
 
 within-depth-returns-3 : (t : ℕ) → within-depth-lts.Need-returns-3 (claims t) (within-depth-at t) within-depth.Post
 within-depth-returns-3 t c =

@@ -29,7 +29,8 @@ returns-4 : tie.Need-returns-4
 returns-4 c =
     let e = c .before .before .before in
     let s = e .before .before .before .before in
-    second-left _ _ _ _ (s .pre .0) (s .pre .1) (e .before .if1 .left) (e .if2 .left) _ _ (c .before .before .within-depth .ensures) (not-false _ (c .before .if3 .left)) (c .within-depth2 .ensures)
+    second-left _ _ _ _ (s .pre .0) (s .pre .1) (e .before .if1 .left) (e .if2 .left) _ _ (c .before .before .within-depth .ensures)
+    (not-false _ (c .before .if3 .left)) (c .within-depth2 .ensures)
 
 pub edge-to-spare-spec : {M : Type 1} → statement M
 edge-to-spare-spec =

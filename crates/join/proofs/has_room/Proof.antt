@@ -38,7 +38,8 @@ returns-4 : tie.Need-returns-4
 returns-4 c =
     let second = c .before .before in
     let first = second .before .before in
-    words-lacking _ _ _ _ _ (omega (arith, c .before .if3 .left, second .marks-for2 .ensures, second .before .if2 .left, first .marks-for .ensures)) (omega (arith, c .if4 .taken))
+    words-lacking _ _ _ _ _ (omega (arith, c .before .if3 .left, second .marks-for2 .ensures, second .before .if2 .left, first .marks-for .ensures))
+    (omega (arith, c .if4 .taken))
 
 add-result : tie.Need-add-result
 add-result c = search needs
@@ -47,7 +48,8 @@ returns-5 : tie.Need-returns-5
 returns-5 c =
     let second = c .before .before in
     let first = second .before .before in
-    room-indices _ _ _ _ _ (omega (arith, c .before .if3 .left, second .marks-for2 .ensures, second .before .if2 .left, first .marks-for .ensures)) (omega (arith, c .if4 .left))
+    room-indices _ _ _ _ _ (omega (arith, c .before .if3 .left, second .marks-for2 .ensures, second .before .if2 .left, first .marks-for .ensures))
+    (omega (arith, c .if4 .left))
 
 pub has-room-spec : {M : Type 1} → statement M
 has-room-spec =

@@ -51,7 +51,9 @@ move-node-requires c κs =
     (s .pre .0, c .before .loop-test .taken, s .pre .2, s .pre .3, omega (arith, inside (c .before), kept (c .before .before)))
 
 add-v : tie.Need-add-v Inv-loop μ-loop
-add-v c = let s = c .before .before .before .before .before .before .before .before in omega (arith, s .pre .0 .sized .few, c .before .before .before .before .loop-test .taken)
+add-v c =
+    let l = c .before .before .before .before in
+    omega (arith, l .before .before .before .before .pre .0 .sized .few, l .loop-test .taken)
 
 loop-less : tie.Need-loop-less Inv-loop μ-loop
 loop-less c = omega (arith, c .before .before .before .before .loop-test .taken)

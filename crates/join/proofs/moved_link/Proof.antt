@@ -15,7 +15,10 @@ returns : tie.Need-returns
 returns c = moved-children _ _ _ (sym (c .before .kind .ensures) ∙ c .if1 .taken)
 
 add-result-2 : tie.Need-add-result-2
-add-result-2 c = let s = c .before .before in omega (arith, s .pre .2, position-fits (s .args .nodes) (s .args .positions) (s .args .link) (λ e. c .if1 .left (c .before .kind .ensures ∙ e)) (s .pre .0))
+add-result-2 c =
+    let s = c .before .before in
+    let a = s .args in
+    omega (arith, s .pre .2, position-fits (a .nodes) (a .positions) (a .link) (λ e. c .if1 .left (c .before .kind .ensures ∙ e)) (s .pre .0))
 
 returns-2 : tie.Need-returns-2
 returns-2 c = moved-position _ _ _ (λ e. c .if1 .left (c .before .kind .ensures ∙ e)) (c .before .before .pre .0)

@@ -86,8 +86,8 @@ returns c =
     let p = m1 .before .before .before .before in
     let s = start (p .before) in
     let a = s .args in
-    roots-written (a .first .now) (a .n) (a .second .now) (a .m) _ _ _ _ _ (union-is (p .before)) (s .pre .4) (p .put-node .ensures) (m1 .move-node .ensures)
-    (m2 .move-node2 .ensures)
+    roots-written (a .first .now) (a .n) (a .second .now) (a .m) _ _ _ _ _ (union-is (p .before)) (s .pre .4) (p .put-node .ensures)
+    (m1 .move-node .ensures) (m2 .move-node2 .ensures)
 
 pub put-roots-spec : {M : Type 1} → statement M
 put-roots-spec =

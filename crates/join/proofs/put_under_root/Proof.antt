@@ -57,8 +57,8 @@ returns c =
     let r = f .before .before .before .before in
     let s = start r in
     let a = s .args in
-    whole-written (a .first .now) (a .n) (a .second .now) (a .m) _ _ _ _ (s .pre .2) (s .pre .3) (s .pre .5) (r .put-roots .ensures) (f .move-rest .ensures)
-    (l .move-rest2 .ensures)
+    whole-written (a .first .now) (a .n) (a .second .now) (a .m) _ _ _ _ (s .pre .2) (s .pre .3) (s .pre .5) (r .put-roots .ensures)
+    (f .move-rest .ensures) (l .move-rest2 .ensures)
 
 pub put-under-root-spec : {M : Type 1} → statement M
 put-under-root-spec =

@@ -24,7 +24,10 @@ H = tie.At-loop Inv-loop μ-loop
 
 -- words have kept their length
 kept : (h : H) → length (h .loop .words) ≡ length (h .before .args .words .now)
-kept h = ap length (h .loop .inv .1) ∙ length-splice _ _ _ (omega (arith, values-length (wordAt (h .before .args .from .now) (h .before .args .u)) (h .loop .i), h .loop .inv .0, h .before .pre .1))
+kept h =
+    let s = h .before in
+    let e = values-length (wordAt (s .args .from .now) (s .args .u)) (h .loop .i) in
+    ap length (h .loop .inv .1) ∙ length-splice _ _ _ (omega (arith, e, h .loop .inv .0, s .pre .1))
 
 abbrev L : Type 0
 L = tie.In-loop Inv-loop μ-loop
