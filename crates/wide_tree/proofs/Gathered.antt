@@ -5,6 +5,7 @@ use Prim.Native.Nat.{ℕ}
 use lib.ListN.{length, length-map}
 use Rattle.aabb.specs.declared.Aabb.{Aabb}
 use Rattle.bvh2.specs.Tree.{Tree, leaf, inner, boxOf, positions, relabel}
+use Rattle.bvh2.proofs.Moved.{box-relabel, positions-relabel}
 use Rattle.cost.specs.Table.{Kind, LEAF, INTERNAL, DISTRIBUTE, table}
 use Rattle.cost.proofs.Labels.{table-relabel}
 use Rattle.children.specs.Gather.{opened, gather, part}
