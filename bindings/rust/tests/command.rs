@@ -235,6 +235,22 @@ fn refused_reports() {
     assert!(status == 1 && out.is_empty() && err.contains("not sound"));
 }
 
+/// The worked house and its corridor as one model: a ray up from the corridor's floor meets the last pane of both.
+#[test]
+fn the_worked_corridor() {
+    let at = folder("worked_corridor");
+    let house = concat!(env!("CARGO_MANIFEST_DIR"), "/../../examples/house");
+    let text = |name: &str| std::fs::read_to_string(format!("{house}/{name}.txt")).unwrap();
+    std::fs::write(at.join("site.txt"), text("house") + &text("corridor")).unwrap();
+    std::fs::write(at.join("up.txt"), "14 4 1 0 0 1 0 inf\n").unwrap();
+    assert_eq!(printed(&at, &format!("tree {house}/house.txt -o house.tree")), "42 leaves\n");
+    assert_eq!(printed(&at, &format!("tree {house}/corridor.txt -o corridor.tree")), "3 leaves\n");
+    assert_eq!(printed(&at, "join house.tree corridor.tree --panes 42 -o site.tree"), "45 leaves\n");
+    assert_eq!(printed(&at, "convert site.tree -o site"), "converted 5 nodes 45 positions\n");
+    let nearest = printed(&at, "closest site.record site.list site.txt up.txt");
+    assert_eq!(nearest, "0 tests 1 hit 6 pane 44 at 1.4000001\n");
+}
+
 /// The worked house's report has a line for each ray and each box, and the losses of both add up to the same.
 #[test]
 fn the_worked_house() {
