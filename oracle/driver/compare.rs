@@ -6,7 +6,7 @@ use crate::convert::{Converted, convert};
 use crate::generate::{BOXES, Shape, tree};
 use crate::calls::{agreed_walk, told};
 use crate::join::{self, Seen};
-use crate::joins::{CAUSES, drawn, small, some_panes, spoil};
+use crate::join_draws::{CAUSES, drawn, small, some_panes, spoil};
 use crate::loss::Call;
 use crate::queries::{aimed, scene};
 use crate::record::{Verdict, check};

@@ -14,6 +14,9 @@ use crate::zeros::entered;
 use obvhs::ray::Ray;
 use std::fmt::{Display, Formatter, Result};
 
+/// The greatest index word.
+pub const MOST_INDEX: u64 = u32::MAX as u64;
+
 /// What a join is asked of.
 #[derive(Clone, Default)]
 pub struct Call {

@@ -1,6 +1,6 @@
 //! Stored joins by lengths: trees made by a rule, so that they need not be stored, up to as many leaves as are joined and more.
 use crate::accept::MOST_LEAVES;
-use crate::join::{Call, Seen};
+use crate::join::{Call, MOST_INDEX, Seen};
 use crate::made::digest;
 use crate::rng::Rng;
 use crate::store::*;
@@ -11,9 +11,6 @@ const WIDTH: usize = 29;
 
 /// Words that are lent where there is no room for what is needed.
 const FEW: usize = 40;
-
-/// One more than the greatest index word.
-const INDICES: u64 = 1 << 32;
 
 /// A join of two trees made by the rule: their words and leaves, and the seven words of their roots.
 #[derive(Clone)]
@@ -86,7 +83,7 @@ impl Ruled {
 
 /// The same join with another cause, in each tree where it is a tree's: 1, 5, 6, 7 and 13.
 fn with_causes(r: &Ruled, trees: &[usize]) -> Vec<(u32, Ruled)> {
-    let mut all = vec![(13, Ruled { panes: INDICES, ..r.clone() }), (13, Ruled { panes: INDICES - 2, ..r.clone() })];
+    let mut all = vec![(13, Ruled { panes: MOST_INDEX + 1, ..r.clone() }), (13, Ruled { panes: MOST_INDEX - 1, ..r.clone() })];
     for &k in trees {
         for (cause, i, x) in [(5, 6, 2 << 30), (5, 6, 3 << 30 | 1), (6, 0, 0x7fc0_0000), (6, 5, 0x7f80_0000), (7, 6, inner(0))] {
             let mut s = r.clone();
@@ -131,8 +128,8 @@ fn with_itself() -> Vec<Ruled> {
     for (n, number) in [(2, 0), (3, 0), (half, 0), (half + 1, 2)] {
         let r = Ruled::new(n, n, Some(0));
         let greatest = 5 * (n as u64 - 1) + 2;
-        let fits = Ruled { panes: INDICES - 1 - greatest, ..r.clone() };
-        let over = Ruled { panes: INDICES - greatest, ..r.clone() };
+        let fits = Ruled { panes: MOST_INDEX - greatest, ..r.clone() };
+        let over = Ruled { panes: MOST_INDEX + 1 - greatest, ..r.clone() };
         let ends = [(r.clone(), number), (Ruled::new(n, n, Some(3)), number), (fits, number), (over, if number == 0 { 13 } else { 2 })];
         ends.iter().for_each(|(s, number)| assert_eq!(s.number(), *number));
         all.extend(ends.into_iter().map(|(s, _)| s));

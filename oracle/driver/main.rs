@@ -11,6 +11,7 @@ mod corners;
 mod differences;
 mod generate;
 mod join;
+mod join_draws;
 mod join_sizes;
 mod joins;
 mod large;
