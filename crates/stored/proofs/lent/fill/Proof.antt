@@ -3,8 +3,8 @@ use mathlib.Core.Path.{_≡_}
 use Prim.Native.Nat.{_-_}
 use lib.ListN.{length}
 use borrow.Author.Needs.{needs}
-use Rattle.replay_losses.proofs.alike.fill.Statement.{statement}
-use Rattle.replay_losses.proofs.alike.fill.Tie as tie
+use Rattle.stored.proofs.lent.fill.Statement.{statement}
+use Rattle.stored.proofs.lent.fill.Tie as tie
 
 abbrev Inv-loop : tie.InvT-loop
 Inv-loop words₀ x i₀ words i = length words ≡ length words₀

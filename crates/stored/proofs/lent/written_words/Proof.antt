@@ -3,8 +3,8 @@ use mathlib.Core.Path.{sym}
 use native.Mathlib.Omega.{arith}
 use lib.Seq.{length-take-le}
 use borrow.Author.Needs.{needs}
-use Rattle.replay_conversion.proofs.lent.written_words.Statement.{statement}
-use Rattle.replay_conversion.proofs.lent.written_words.Tie as tie
+use Rattle.stored.proofs.lent.written_words.Statement.{statement}
+use Rattle.stored.proofs.lent.written_words.Tie as tie
 
 returns : tie.Need-returns
 returns c = search needs

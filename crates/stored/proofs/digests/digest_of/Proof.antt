@@ -1,9 +1,9 @@
--- `of_words`: the measure is the words that are left.
+-- `digest_of`: the measure is the words that are left.
 use Prim.Native.Nat.{_-_}
 use lib.ListN.{length}
 use borrow.Author.Needs.{needs}
-use Rattle.replay_large.proofs.digests.of_words.Statement.{statement}
-use Rattle.replay_large.proofs.digests.of_words.Tie as tie
+use Rattle.stored.proofs.digests.digest_of.Statement.{statement}
+use Rattle.stored.proofs.digests.digest_of.Tie as tie
 
 abbrev Inv-loop : tie.InvT-loop
 Inv-loop words digest₀ i₀ digest i = Unit {0}
@@ -14,14 +14,14 @@ abbrev μ-loop : tie.MeasureT-loop
 loop-holds : tie.Need-loop-holds Inv-loop μ-loop
 loop-holds c = search needs
 
-mul-more : tie.Need-mul-more Inv-loop μ-loop
-mul-more c = search needs
+mul-digest-with : tie.Need-mul-digest-with Inv-loop μ-loop
+mul-digest-with c = search needs
 
-shared-slice-read-more : tie.Need-shared-slice-read-more Inv-loop μ-loop
-shared-slice-read-more c = search needs
+shared-slice-read-digest-with : tie.Need-shared-slice-read-digest-with Inv-loop μ-loop
+shared-slice-read-digest-with c = search needs
 
-more-requires : tie.Need-more-requires Inv-loop μ-loop
-more-requires c κs = search needs
+digest-with-requires : tie.Need-digest-with-requires Inv-loop μ-loop
+digest-with-requires c κs = search needs
 
 add-i : tie.Need-add-i Inv-loop μ-loop
 add-i c = search needs
@@ -35,16 +35,16 @@ loop-again c = search needs
 returns : tie.Need-returns Inv-loop μ-loop
 returns c = search needs
 
-pub of-words-spec : {M : Type 1} → statement M
-of-words-spec =
+pub digest-of-spec : {M : Type 1} → statement M
+digest-of-spec =
     tie.close
     (tie.spec
     Inv-loop
     μ-loop
     loop-holds
-    mul-more
-    shared-slice-read-more
-    more-requires
+    mul-digest-with
+    shared-slice-read-digest-with
+    digest-with-requires
     add-i
     loop-less
     loop-again

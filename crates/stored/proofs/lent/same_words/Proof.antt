@@ -2,8 +2,8 @@
 use Prim.Native.Nat.{_-_}
 use lib.ListN.{length}
 use borrow.Author.Needs.{needs}
-use Rattle.replay_conversion.proofs.lent.same_words.Statement.{statement}
-use Rattle.replay_conversion.proofs.lent.same_words.Tie as tie
+use Rattle.stored.proofs.lent.same_words.Statement.{statement}
+use Rattle.stored.proofs.lent.same_words.Tie as tie
 
 abbrev Inv-loop : tie.InvT-loop
 Inv-loop case from words i₀ i = Unit {0}

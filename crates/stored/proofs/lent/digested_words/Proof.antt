@@ -1,19 +1,19 @@
--- `same_list`: the first part is as long as it was asked to be.
+-- `digested_words`: the first part is as long as it was asked to be.
 use mathlib.Core.Path.{sym}
 use native.Mathlib.Omega.{arith}
 use lib.Seq.{length-take-le}
 use borrow.Author.Needs.{needs}
-use Rattle.replay_large.proofs.rays.same_list.Statement.{statement}
-use Rattle.replay_large.proofs.rays.same_list.Tie as tie
+use Rattle.stored.proofs.lent.digested_words.Statement.{statement}
+use Rattle.stored.proofs.lent.digested_words.Tie as tie
 
 returns : tie.Need-returns
 returns c = search needs
 
-slice-aggregate-of-words : tie.Need-slice-aggregate-of-words
-slice-aggregate-of-words c = sym (length-take-le _ _ (omega arith))
+slice-aggregate-digest-of : tie.Need-slice-aggregate-digest-of
+slice-aggregate-digest-of c = sym (length-take-le _ _ (omega arith))
 
-of-words-requires : tie.Need-of-words-requires
-of-words-requires c κs = search needs
+digest-of-requires : tie.Need-digest-of-requires
+digest-of-requires c κs = search needs
 
 returns-2 : tie.Need-returns-2
 returns-2 c = search needs
@@ -36,13 +36,13 @@ all-are-requires c κs = search needs
 returns-3 : tie.Need-returns-3
 returns-3 c = search needs
 
-pub same-list-spec : {M : Type 1} → statement M
-same-list-spec =
+pub digested-words-spec : {M : Type 1} → statement M
+digested-words-spec =
     tie.close
     (tie.spec
     returns
-    slice-aggregate-of-words
-    of-words-requires
+    slice-aggregate-digest-of
+    digest-of-requires
     returns-2
     mul-all-are
     sub-all-are
