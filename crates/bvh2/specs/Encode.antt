@@ -1,23 +1,16 @@
 -- Internal: a labelled tree as words (01, "Words, bytes and bounds"): the node labelled v is written from word 7v on. proofs/Encode has that such
 -- words decode to the tree again.
 use mathlib.Core.Path.{_≡_}
-use mathlib.Core.List.{List, [], _∷_, Perm}
+use mathlib.Core.List.{List, Perm}
 use Prim.Native.Nat.{ℕ, _+_, _*_, _<_}
 use lib.ListN.{length, replicate}
 use lib.Dec.{T}
-use lib.Ieee.{binary32, toBits, fits}
+use lib.Ieee.{binary32, fits}
 use Rattle.lists.specs.Counts.{upto}
 use Rattle.lists.specs.Splice.{splice}
 use Rattle.ray.specs.declared.Vec3.{Vec3}
-use Rattle.aabb.specs.declared.Aabb.{Aabb}
 use Rattle.bvh2.specs.Tree.{Tree, leaf, inner, labelOf, boxOf, labels}
-
-abbrev pub cornerWords : Vec3 → List ℕ → List ℕ
-cornerWords p rest = toBits binary32 (p .x) ∷ toBits binary32 (p .y) ∷ toBits binary32 (p .z) ∷ rest
-
--- the seven words of a node, by its box and its link word
-abbrev pub boxedWords : Aabb → ℕ → List ℕ
-boxedWords b link = cornerWords (b .min) (cornerWords (b .max) (link ∷ []))
+use Rattle.bvh2.specs.Words.{boxedWords}
 
 -- the link word of a tree's root: a leaf's position with kind 1, or the number of the left child
 unfoldable pub linkWord : Tree ℕ → ℕ

@@ -13,7 +13,7 @@ use Rattle.aabb.specs.Aabb.{unionOf, acceptedBox}
 use Rattle.aabb.proofs.Union.{union-accepted}
 use Rattle.bvh2.specs.Words.{treeNodes, boxAt}
 use Rattle.bvh2.specs.Causes.{Accepted}
-use Rattle.bvh2.specs.Encode.{boxedWords}
+use Rattle.bvh2.specs.Words.{boxedWords}
 use Rattle.bvh2.proofs.First.{accepted-facts}
 use Rattle.tree_words.specs.Nodes.{inTurn}
 use Rattle.tree_words.proofs.Nodes.{turn-length}

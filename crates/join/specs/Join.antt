@@ -12,8 +12,7 @@ use Rattle.aabb.specs.Aabb.{unionOf}
 use Rattle.bvh2.specs.Tree.{depth}
 use Rattle.bvh2.specs.Words.{treeNodes, children, position, malformed, linkOf, wordAt, boxAt, treeOf}
 use Rattle.bvh2.specs.FirstCause.{linksInside, boxesAccepted, isTree}
-use Rattle.bvh2.specs.Encode.{boxedWords}
-use Rattle.bvh2_check.specs.Marking.{markCount}
+use Rattle.bvh2.specs.Words.{boxedWords}
 use Rattle.tree_words.specs.Nodes.{inTurn}
 use Rattle.join.specs.declared.Joining.{Joining}
 use Rattle.join.specs.declared.Joining.the-variants as J
@@ -84,9 +83,9 @@ joinedIndices l panes k = l ++ map (λ i. i + panes) k
 
 -- ---- what refuses the call
 
--- the marks needed are the greater tree's, since each tree is looked at by itself
+-- the marks needed: one for each node and each position of the greater tree, since each tree is looked at by itself
 abbrev pub marksNeeded : (first second : ℕ) → ℕ
-marksNeeded n m = markCount (max n m)
+marksNeeded n m = 3 * max n m - 1
 
 unfoldable pub roomFor : (firstLeaves secondLeaves marks words indices : ℕ) → Bool
 roomFor n m marks words indices = leb (marksNeeded n m) marks && leb (treeNodes (n + m) * 7) words && leb (n + m) indices

@@ -10,7 +10,7 @@ ghost use Rattle.aabb.specs.Aabb.{unionOf};
 ghost use Rattle.bvh2.specs.Words.{treeNodes, linkOf, boxAt};
 ghost use Rattle.bvh2.specs.Causes.{TreeSized, LinkInside, Accepted};
 ghost use Rattle.bvh2.specs.FirstCause.{structureCause};
-ghost use Rattle.bvh2.specs.Encode.{boxedWords};
+ghost use Rattle.bvh2.specs.Words.{boxedWords};
 ghost use Rattle.bvh2_check.specs.Marking.{markCount};
 ghost use Rattle.tree_words.specs.Nodes.{inTurn};
 ghost use Rattle.join.specs.Join.{movedLink, movedNode, firstNode, secondNode, underRoot, joinedWords, joinedIndices, marksNeeded};

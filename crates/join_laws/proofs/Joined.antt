@@ -1,6 +1,6 @@
 -- Two trees joined (02, [4]): what a call that joins gives is accepted, and is both trees under a new root.
 use mathlib.Core.List.{List, _++_, map}
-use mathlib.Core.Path.{_≡_, refl, ap, _∙_}
+use mathlib.Core.Path.{_≡_, sym, ap, _∙_}
 use Prim.Native.Nat.{ℕ, zero, suc, _+_, _<_, _≤_, max}
 use native.Mathlib.Nat.{zero-add, add-zero}
 use native.Mathlib.Omega.{arith}
@@ -13,6 +13,7 @@ use Rattle.bvh2.specs.Decoded.{LabelsWithin}
 use Rattle.bvh2.proofs.Decoded.{accepted-decoded}
 use Rattle.bvh2.proofs.Subtree.{root}
 use Rattle.join.specs.Join.{JoinCall, firstLeaves, secondLeaves, bothLeaves, byLeaves, underRoot, joinedWords}
+use Rattle.join.proofs.Parts.{both-joined}
 use Rattle.join_laws.specs.Joined.{joinedTree, InOrder, leafPanes, countedOn}
 use Rattle.join_laws.specs.Joined.{Joins, wordsGiven, indicesGiven, firstTree, secondTree, treeGiven, RootBox}
 use Rattle.join_laws.proofs.Joinable.{Joinable, joinable}
@@ -21,13 +22,6 @@ use Rattle.join_laws.proofs.Read.{root-accepted, order-decodes, order-a
 use Rattle.join_laws.proofs.Tree.{depth-joined, positions-joined}
 use Rattle.join_laws.proofs.UnderRoot.{under-length, under-order}
 use Rattle.join_laws.proofs.Written.{words-given, joined-indices}
-
--- both have leaves
-both-joined : (ws : List ℕ) (n : ℕ) (us : List ℕ) (m : ℕ) → 0 < n → 0 < m → joinedWords ws n us m ≡ underRoot ws n us m
-unfolding byLeaves
-both-joined ws zero us m p q = absurd (omega arith)
-both-joined ws (suc n) us zero p q = absurd (omega arith)
-both-joined ws (suc n) us (suc m) p q = refl
 
 -- whichever have leaves
 all-accepted : (ws : List ℕ) (n : ℕ) (us : List ℕ) (m : ℕ) → Accepted ws n → Accepted us m → n + m ≤ 65536
@@ -55,7 +49,9 @@ module _ (c : JoinCall) (joins : Joins c) where
 
   module _ (p : 0 < firstLeaves c) (q : 0 < secondLeaves c) where
     under-given : wordsGiven c ≡ underRoot (c .first) (firstLeaves c) (c .second) (secondLeaves c)
-    under-given = words-given c joins ∙ both-joined (c .first) (firstLeaves c) (c .second) (secondLeaves c) p q
+    under-given =
+        words-given c joins
+        ∙ sym (both-joined (c .first) (firstLeaves c) (c .second) (secondLeaves c) (λ z. omega (arith, p, z)) (λ z. omega (arith, q, z)))
 
     -- The new root, the old roots, the rest of the first in its order, the rest of the second: seven words each.
     pub joined-order : InOrder (c .first) (firstLeaves c) (c .second) (secondLeaves c) (wordsGiven c)

@@ -18,7 +18,8 @@ use Rattle.bvh2.specs.Tree.{Tree, labelOf, boxOf, leaves, depth, labels, positi
 use Rattle.bvh2.specs.Words.{treeNodes, children, linkOf, wordAt, linkAt, floatAt, boxAt, treeOf}
 use Rattle.bvh2.specs.Causes.{Accepted}
 use Rattle.bvh2.specs.Decoded.{BoxesAccepted, Decoded}
-use Rattle.bvh2.specs.Encode.{boxedWords, Fits}
+use Rattle.bvh2.specs.Words.{boxedWords}
+use Rattle.bvh2.specs.Encode.{Fits}
 use Rattle.bvh2.proofs.Decoded.{accepted-decoded, decoded-leaves, labels-length}
 use Rattle.bvh2.proofs.First.{accepted-facts}
 use Rattle.bvh2.proofs.Moved.{label-relabel, label-reposition}

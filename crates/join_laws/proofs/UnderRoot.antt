@@ -7,7 +7,7 @@ use lib.ListN.{length, length-append}
 use Rattle.lists.specs.Counts.{upto}
 use Rattle.aabb.specs.Aabb.{unionOf}
 use Rattle.bvh2.specs.Words.{treeNodes, boxAt}
-use Rattle.bvh2.specs.Encode.{boxedWords}
+use Rattle.bvh2.specs.Words.{boxedWords}
 use Rattle.tree_words.specs.Nodes.{inTurn}
 use Rattle.tree_words.proofs.Nodes.{turn-length}
 use Rattle.join.specs.Join.{movedNode, underRoot}

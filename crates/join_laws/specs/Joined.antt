@@ -9,7 +9,7 @@ use Rattle.aabb.specs.Aabb.{unionOf, acceptedBox, HoldsBox, NoMinusZero}
 use Rattle.bvh2.specs.Tree.{Tree, leaf, inner, boxOf, relabel, reposition}
 use Rattle.bvh2.specs.Words.{treeNodes, boxAt, treeOf}
 use Rattle.bvh2.specs.Causes.{Accepted}
-use Rattle.bvh2.specs.Encode.{boxedWords}
+use Rattle.bvh2.specs.Words.{boxedWords}
 use Rattle.join.specs.Join.{JoinCall, firstLeaves, secondLeaves, bothLeaves, movedNode, marksNeeded, joined, joinOf}
 
 -- ---- the tree that two become

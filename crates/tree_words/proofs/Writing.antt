@@ -9,7 +9,7 @@ use Rattle.lists.specs.Values.{values}
 use Rattle.lists.proofs.Splice.{length-splice, set-splice, written-next}
 use Rattle.lists.proofs.Values.{values-length, values-next}
 use Rattle.aabb.specs.declared.Aabb.{Aabb}
-use Rattle.bvh2.specs.Encode.{cornerWords, boxedWords}
+use Rattle.bvh2.specs.Words.{cornerWords, boxedWords}
 
 -- one more word behind those written
 pub write-next : {A : Type 0} (s : List A) (at k : ℕ) (a t : List A) (x : A) → length a ≡ k → at + (k + 1) ≤ length s → t ≡ splice s at a

@@ -1,4 +1,4 @@
--- Internal: nodes one behind the other, as words.
+-- Nodes one behind the other, as words (02, [4]).
 use mathlib.Core.List.{List, [], _++_}
 use Prim.Native.Nat.{ℕ, zero, suc}
 

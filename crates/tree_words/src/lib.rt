@@ -9,7 +9,7 @@ ghost use Rattle.lists.specs.Values.{values};
 ghost use Rattle.aabb.specs.Aabb.{acceptedBox};
 ghost use Rattle.ray.specs.Ray.{boundedVec};
 ghost use Rattle.bvh2.specs.Words.{wordAt};
-ghost use Rattle.bvh2.specs.Encode.{cornerWords, boxedWords};
+ghost use Rattle.bvh2.specs.Words.{cornerWords, boxedWords};
 use aabb::Aabb;
 use ray::Vec3;
 
