@@ -87,10 +87,11 @@ joinedIndices l panes k = l ++ map (λ i. i + panes) k
 abbrev pub marksNeeded : (first second : ℕ) → ℕ
 marksNeeded n m = 3 * max n m - 1
 
+-- room for them, for the joined words and for the index words
 unfoldable pub roomFor : (firstLeaves secondLeaves marks words indices : ℕ) → Bool
 roomFor n m marks words indices = leb (marksNeeded n m) marks && leb (treeNodes (n + m) * 7) words && leb (n + m) indices
 
--- 1, 2 and 4: the lengths of both trees' words, the number of leaves, the room for marks, words and indices
+-- 1, 2 and 4: the lengths of both trees' words, the number of leaves, the room
 unfoldable pub sizeTests : (firstWords firstLeaves secondWords secondLeaves marks words indices : ℕ) → List Condition
 unfolding roomFor
 sizeTests a n b m marks words indices =
@@ -119,6 +120,7 @@ treeTests ws n us m =
 abbrev pub sumsFit : (panes : ℕ) → List ℕ → Bool
 sumsFit panes l = allBelow (λ i. leb (getD l i 0 + panes) 0xffff_ffff) (length l)
 
+-- all of them, in the order of causes, and the number of the first that holds
 unfoldable pub joinTests : JoinCall → List Condition
 unfolding sizeTests treeTests allBelow
 joinTests c =
@@ -135,6 +137,7 @@ pub data JoinAnswer : Type 0 where
   joined : (leaves : ℕ) → JoinAnswer
   refusedJoin : (number : ℕ) → JoinAnswer
 
+-- an answer with the three slices as they are left
 pub record JoinEnd : Type 0 where
   pub answer : JoinAnswer
   pub marks : List ℕ
@@ -161,6 +164,7 @@ joinBy (suc k) c = record {
   indices = c .indices;
 }
 
+-- so does the first cause decide
 unfoldable pub joinOf : JoinCall → JoinEnd
 unfolding joinTests firstCause joinBy
 joinOf c = joinBy (joinCause c) c
