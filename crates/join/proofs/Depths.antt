@@ -19,7 +19,7 @@ use Rattle.bvh2.proofs.Once.{whole-tells}
 use Rattle.bvh2.proofs.Stands.{depth-tells}
 use Rattle.bvh2.proofs.Subtree.{root}
 use Rattle.bvh2_check.specs.Marking.{InTree}
-use Rattle.join.specs.Join.{byLeaves, edgeToSpare}
+use Rattle.join.specs.Join.{edgeToSpare}
 
 pub root-in-tree : (ws : List ℕ) (n : ℕ) → Accepted ws n → 0 < n → InTree ws 0
 root-in-tree ws n a p = record { leaves = n; edges = 127; subtree = root ws n (accepted-decoded ws n p .0 a) }
@@ -34,11 +34,11 @@ shallow ws n a p = go (isWhole ws (treeAt ws 126 0)) refl (depth-tells ws 127 12
 
 module _ (ws : List ℕ) (n : ℕ) (us : List ℕ) (m : ℕ) where
   pub spare-second : n ≡ 0 → true ≡ edgeToSpare ws n us m
-  unfolding edgeToSpare byLeaves
+  unfolding edgeToSpare
   spare-second e = rw e refl
 
   pub spare-first : (n ≡ 0 → ⊥) → m ≡ 0 → true ≡ edgeToSpare ws n us m
-  unfolding edgeToSpare byLeaves
+  unfolding edgeToSpare
   spare-first h e = go n h
     where
       go : (k : ℕ) → (k ≡ 0 → ⊥) → true ≡ edgeToSpare ws k us m
@@ -46,7 +46,7 @@ module _ (ws : List ℕ) (n : ℕ) (us : List ℕ) (m : ℕ) where
       go (suc k) h = rw e refl
 
   pub spare-both : (n ≡ 0 → ⊥) → (m ≡ 0 → ⊥) → edgeToSpare ws n us m ≡ leb (suc (max (depth (treeOf ws)) (depth (treeOf us)))) 127
-  unfolding edgeToSpare byLeaves
+  unfolding edgeToSpare
   spare-both h k = go n m h k
     where
       go : (i j : ℕ) → (i ≡ 0 → ⊥) → (j ≡ 0 → ⊥) → edgeToSpare ws i us j ≡ leb (suc (max (depth (treeOf ws)) (depth (treeOf us)))) 127

@@ -17,7 +17,7 @@ use Rattle.bvh2.specs.Words.{boxedWords}
 use Rattle.bvh2.proofs.First.{accepted-facts}
 use Rattle.tree_words.specs.Nodes.{inTurn}
 use Rattle.tree_words.proofs.Nodes.{turn-length}
-use Rattle.join.specs.Join.{byLeaves, firstNode, secondNode, underRoot, joinedWords, joinedIndices}
+use Rattle.join.specs.Join.{firstNode, secondNode, underRoot, joinedWords, joinedIndices}
 use Rattle.join.proofs.Moving.{map-none, moved-seven}
 
 -- the box of an accepted tree's root, and of two
@@ -73,23 +73,20 @@ module _ (ws : List ℕ) (n : ℕ) (us : List ℕ) (m : ℕ) where
 
   -- with an empty partner
   pub second-alone : n ≡ 0 → (s t : List ℕ) → t ≡ splice s 0 (map (λ k. k + 0) us) → t ≡ splice s 0 (joinedWords ws n us m)
-  unfolding byLeaves
   second-alone e s t f = f ∙ ap (splice s 0) (map-none us) ∙ rw e refl
 
   pub first-alone : (n ≡ 0 → ⊥) → m ≡ 0 → (s t : List ℕ) → t ≡ splice s 0 (map (λ k. k + 0) ws) → t ≡ splice s 0 (joinedWords ws n us m)
-  unfolding byLeaves
   first-alone h e s t f = f ∙ ap (splice s 0) (map-none ws ∙ go n m h e)
     where
-      go : (i j : ℕ) → (i ≡ 0 → ⊥) → j ≡ 0 → ws ≡ byLeaves i j us ws (underRoot ws n us m)
+      go : (i j : ℕ) → (i ≡ 0 → ⊥) → j ≡ 0 → ws ≡ joinedWords ws i us j
       go zero j h e = absurd (h refl)
       go (suc i) zero h e = refl
       go (suc i) (suc j) h e = absurd (omega arith)
 
   pub both-joined : (n ≡ 0 → ⊥) → (m ≡ 0 → ⊥) → underRoot ws n us m ≡ joinedWords ws n us m
-  unfolding byLeaves
   both-joined h k = go n m h k
     where
-      go : (i j : ℕ) → (i ≡ 0 → ⊥) → (j ≡ 0 → ⊥) → underRoot ws n us m ≡ byLeaves i j us ws (underRoot ws n us m)
+      go : (i j : ℕ) → (i ≡ 0 → ⊥) → (j ≡ 0 → ⊥) → underRoot ws i us j ≡ joinedWords ws i us j
       go zero j h k = absurd (h refl)
       go (suc i) zero h k = absurd (k refl)
       go (suc i) (suc j) h k = refl

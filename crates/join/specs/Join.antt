@@ -38,12 +38,6 @@ secondLeaves c = length (c .secondIndices)
 abbrev pub bothLeaves : JoinCall → ℕ
 bothLeaves c = firstLeaves c + secondLeaves c
 
--- one thing where the first tree is empty, another where only the second is, a third where both have leaves
-unfoldable pub byLeaves : {A : Type 0} → (first second : ℕ) → (ofSecond ofFirst ofBoth : A) → A
-byLeaves zero m s f b = s
-byLeaves (suc n) zero s f b = f
-byLeaves (suc n) (suc m) s f b = b
-
 -- ---- the tree in words
 
 -- a link word: that of a pair of children moved up by so many nodes, a leaf's by so many positions
@@ -73,9 +67,11 @@ module _ (ws : List ℕ) (n : ℕ) (us : List ℕ) (m : ℕ) where
       boxedWords (unionOf (boxAt ws 0) (boxAt us 0)) 1 ++ firstNode 0 ++ secondNode 0 ++ inTurn (λ v. firstNode (v + 1)) (treeNodes n - 1)
       ++ inTurn (λ v. secondNode (v + 1)) (treeNodes m - 1)
 
-  -- with an empty partner a tree stays as it is
-  abbrev pub joinedWords : List ℕ
-  joinedWords = byLeaves n m us ws underRoot
+-- with an empty partner a tree stays as it is
+abbrev pub joinedWords : List ℕ → ℕ → List ℕ → ℕ → List ℕ
+joinedWords ws zero us m = us
+joinedWords ws (suc n) us zero = ws
+joinedWords ws (suc n) us (suc m) = underRoot ws (suc n) us (suc m)
 
 -- the first's index words, then the second's, counted on from the first's panes
 abbrev pub joinedIndices : List ℕ → (panes : ℕ) → List ℕ → List ℕ
@@ -104,10 +100,12 @@ unfolding isTree
 treeOrNone ws zero = true
 treeOrNone ws (suc n) = isTree (suc n) ws (treeOf ws)
 
--- the edge to a new root makes no path longer than 127
+-- the edge to a new root, where there is one, makes no path longer than 127
 unfoldable pub edgeToSpare : List ℕ → ℕ → List ℕ → ℕ → Bool
-unfolding byLeaves depth
-edgeToSpare ws n us m = byLeaves n m true true (leb (suc (max (depth (treeOf ws)) (depth (treeOf us)))) 127)
+unfolding depth
+edgeToSpare ws zero us m = true
+edgeToSpare ws (suc n) us zero = true
+edgeToSpare ws (suc n) us (suc m) = leb (suc (max (depth (treeOf ws)) (depth (treeOf us)))) 127
 
 -- 5 to 7, each of both trees before the next
 unfoldable pub treeTests : List ℕ → ℕ → List ℕ → ℕ → List Condition
@@ -150,7 +148,7 @@ zeroedMarks c = splice (c .marks) 0 (replicate (marksNeeded (firstLeaves c) (sec
 
 -- Words and indices stand in front of what was there. A refusal leaves both as they were, and the marks too unless it is one of 5 or more.
 unfoldable pub joinBy : (cause : ℕ) → JoinCall → JoinEnd
-unfolding byLeaves underRoot splice
+unfolding underRoot splice
 joinBy zero c = record {
   answer = joined (bothLeaves c);
   marks = zeroedMarks c;

@@ -24,7 +24,7 @@ use Rattle.bvh2.proofs.First.{structure-shows, cause-fails, all-inside-tells}
 use Rattle.bvh2.proofs.Once.{Once, once-tells}
 use Rattle.bvh2.proofs.Paths.{AllInside, at-path, at-short, Long, whole-or-long}
 use Rattle.bvh2.proofs.Stands.{depth-tells}
-use Rattle.join.specs.Join.{JoinCall, firstLeaves, secondLeaves, byLeaves}
+use Rattle.join.specs.Join.{JoinCall, firstLeaves, secondLeaves}
 use Rattle.join.specs.Join.{roomFor, sizeTests, treeOrNone, edgeToSpare, treeTests, sumsFit, joinTests}
 use Rattle.join_laws.specs.Joined.{HasRoom}
 use Rattle.join_laws.specs.Refusals.{TooDeep, DeepPath, JoinRefusal, first-refused, second-refused, leaves-over}
@@ -107,7 +107,7 @@ tree-tells ws (suc n) = tells-as (once-tells ws (suc n)) (λ o some. o) (λ f. f
 -- there is no edge to spare exactly if both trees have leaves, and the greater depth with the new edge is over 127
 edge-lacks : (ws : List ℕ) (n : ℕ) (us : List ℕ) (m : ℕ)
     → edgeToSpare ws n us m ≡ false ↔ (0 < n) × (0 < m) × (127 < suc (max (depth (treeOf ws)) (depth (treeOf us))))
-unfolding edgeToSpare byLeaves
+unfolding edgeToSpare
 edge-lacks ws zero us m = (λ e. clash (sym e), λ h. absurd (omega (arith, h .0)))
 edge-lacks ws (suc n) us zero = (λ e. clash (sym e), λ h. absurd (omega (arith, h .1)))
 edge-lacks ws (suc n) us (suc m) =

@@ -12,7 +12,7 @@ use Rattle.bvh2.specs.Causes.{Accepted}
 use Rattle.bvh2.specs.Decoded.{LabelsWithin}
 use Rattle.bvh2.proofs.Decoded.{accepted-decoded}
 use Rattle.bvh2.proofs.Subtree.{root}
-use Rattle.join.specs.Join.{JoinCall, firstLeaves, secondLeaves, bothLeaves, byLeaves, underRoot, joinedWords}
+use Rattle.join.specs.Join.{JoinCall, firstLeaves, secondLeaves, bothLeaves, underRoot, joinedWords}
 use Rattle.join.proofs.Parts.{both-joined}
 use Rattle.join_laws.specs.Joined.{joinedTree, InOrder, leafPanes, countedOn}
 use Rattle.join_laws.specs.Joined.{Joins, wordsGiven, indicesGiven, firstTree, secondTree, treeGiven, RootBox}
@@ -26,7 +26,6 @@ use Rattle.join_laws.proofs.Written.{words-given, joined-indices}
 -- whichever have leaves
 all-accepted : (ws : List ℕ) (n : ℕ) (us : List ℕ) (m : ℕ) → Accepted ws n → Accepted us m → n + m ≤ 65536
     → (0 < n → 0 < m → suc (max (depth (treeOf ws)) (depth (treeOf us))) ≤ 127) → Accepted (joinedWords ws n us m) (n + m)
-unfolding byLeaves
 all-accepted ws zero us m a b few h = rw (zero-add m) b
 all-accepted ws (suc n) us zero a b few h = rw (add-zero (suc n)) a
 all-accepted ws (suc n) us (suc m) a b few h =

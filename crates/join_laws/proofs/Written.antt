@@ -9,7 +9,7 @@ use Rattle.lists.proofs.Splice.{splice-taken, splice-rest, splice-none}
 use Rattle.bvh2.specs.Words.{treeNodes}
 use Rattle.bvh2.specs.Causes.{TreeSized}
 use Rattle.bvh2.proofs.First.{accepted-sized}
-use Rattle.join.specs.Join.{JoinCall, firstLeaves, secondLeaves, bothLeaves, byLeaves, joinedWords, joinedIndices, marksNeeded}
+use Rattle.join.specs.Join.{JoinCall, firstLeaves, secondLeaves, bothLeaves, joinedWords, joinedIndices, marksNeeded}
 use Rattle.join.specs.Join.{JoinEnd, joined, joinBy, joinOf}
 use Rattle.join_laws.specs.Joined.{Joins, wordsGiven, indicesGiven, RestKept, NothingWritten}
 use Rattle.join_laws.proofs.Joinable.{joins-none, joinable}
@@ -23,7 +23,6 @@ splice-nothing s b e = ap (splice s 0) (length-none b e) ∙ splice-none s 0
 
 joined-length : (ws : List ℕ) (n : ℕ) (us : List ℕ) (m : ℕ) → length ws ≡ treeNodes n * 7 → length us ≡ treeNodes m * 7
     → length (joinedWords ws n us m) ≡ treeNodes (n + m) * 7
-unfolding byLeaves
 joined-length ws zero us m e f = omega arith
 joined-length ws (suc n) us zero e f = omega arith
 joined-length ws (suc n) us (suc m) e f = under-length ws (suc n) us (suc m) (omega arith) (omega arith)
@@ -31,7 +30,6 @@ joined-length ws (suc n) us (suc m) e f = under-length ws (suc n) us (suc m) (om
 -- an empty second leaves the first's words, which are none where that is empty too
 second-none : (ws : List ℕ) (n : ℕ) (us : List ℕ) (m : ℕ) → length ws ≡ treeNodes n * 7 → length us ≡ treeNodes m * 7 → m ≡ 0
     → joinedWords ws n us m ≡ ws
-unfolding byLeaves
 second-none ws zero us m e f z = length-none us (omega arith) ∙ sym (length-none ws (omega arith))
 second-none ws (suc n) us zero e f z = refl
 second-none ws (suc n) us (suc m) e f z = absurd (omega arith)
@@ -100,7 +98,6 @@ module _ (c : JoinCall) where
 
     -- An empty first gives the second, its index words counted on.
     pub empty-first : firstLeaves c ≡ 0 → (wordsGiven c ≡ c .second) × (indicesGiven c ≡ map (λ k. k + c .panes) (c .secondIndices))
-    unfolding byLeaves
     empty-first e = (
       words-given ∙ ap (λ (n : ℕ). joinedWords (c .first) n (c .second) (secondLeaves c)) e,
       joined-indices ∙ ap (λ (l : List ℕ). l ++ map (λ k. k + c .panes) (c .secondIndices)) (length-none (c .firstIndices) e),

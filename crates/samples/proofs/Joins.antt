@@ -12,11 +12,11 @@ use Rattle.bvh2.specs.Tree.{depth, labels, positions}
 use Rattle.bvh2.specs.Words.{linkOf, boxAt, readLink}
 use Rattle.bvh2.specs.FirstCause.{isInside, isPosition, isWhole, eachOnce, isTree}
 use Rattle.tree_words.specs.Nodes.{inTurn}
-use Rattle.join.specs.Join.{byLeaves, movedLink, movedNode, underRoot, roomFor, sizeTests, treeOrNone, edgeToSpare, treeTests, joinTests, joinBy, joinOf}
+use Rattle.join.specs.Join.{movedLink, movedNode, underRoot, roomFor, sizeTests, treeOrNone, edgeToSpare, treeTests, joinTests, joinBy, joinOf}
 use Rattle.samples.specs.Joins.{JoinSamples}
 
 pub joins : JoinSamples
-unfolding joinOf joinBy joinTests treeTests edgeToSpare treeOrNone sizeTests roomFor underRoot movedNode movedLink byLeaves inTurn isTree eachOnce
+unfolding joinOf joinBy joinTests treeTests edgeToSpare treeOrNone sizeTests roomFor underRoot movedNode movedLink inTurn isTree eachOnce
     isWhole isPosition isInside readLink boxAt linkOf depth labels positions firstCause acceptedBox inOrder unionOf boundedVec inBounds unsignedZero
     maxOf minOf splice upto count same allBelow round neg ofBits toBits lt le eq isNan
 joins = record {
