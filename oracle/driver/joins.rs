@@ -117,12 +117,17 @@ fn odd_lengths() -> Vec<Tree> {
     all.filter(|t| ![(0, 0), (1, 7), (2, 21), (3, 35)].contains(&fits(t))).collect()
 }
 
+/// How many times causes are stored in these ways: a chain is long, and is stored once.
+fn times(ways: [(u32, usize); 2], each: usize) -> usize {
+    if ways.contains(&(7, 2)) { 1 } else { each }
+}
+
 /// Each cause alone, in each way, so many times.
 fn alone(rng: &mut Rng, each: usize) -> Vec<(Call, u32)> {
     let mut all = vec![];
     for (cause, ways) in CAUSES {
         for way in 0..ways {
-            for _ in 0..if (cause, way) == (7, 2) { 1 } else { each } {
+            for _ in 0..times([(cause, way); 2], each) {
                 let mut c = small(rng);
                 spoil(rng, &mut c, cause, way);
                 all.push((c, cause));
@@ -132,21 +137,28 @@ fn alone(rng: &mut Rng, each: usize) -> Vec<(Call, u32)> {
     all
 }
 
-/// Every two causes in every two ways, so within a tree and across: the one earlier in their order is given.
-fn pairs(rng: &mut Rng) -> Vec<(Call, u32)> {
+/// A call with two causes, each in one of its ways, of which each alone refuses it.
+fn pair(rng: &mut Rng, (first, way): (u32, usize), (second, other): (u32, usize)) -> Call {
+    let mut a = small(rng);
+    let mut b = a.clone();
+    spoil(rng, &mut b, second, other);
+    assert_eq!(b.refusal(), second);
+    let alike = rng.word();
+    spoil(&mut Rng::new(alike), &mut a, first, way);
+    spoil(&mut Rng::new(alike), &mut b, first, way);
+    assert_eq!(a.refusal(), first);
+    b
+}
+
+/// Every two causes in every two ways, so within a tree and across, so many times: the one earlier in their order is given.
+fn pairs(rng: &mut Rng, each: usize) -> Vec<(Call, u32)> {
     let mut all = vec![];
     for (i, (first, ways)) in CAUSES.into_iter().enumerate() {
         for (second, others) in CAUSES.into_iter().skip(i + 1) {
-            for (way, other) in (0..ways).flat_map(|w| (0..others).map(move |o| (w, o))) {
-                let mut a = small(rng);
-                let mut b = a.clone();
-                spoil(rng, &mut b, second, other);
-                assert_eq!(b.refusal(), second);
-                let alike = rng.word();
-                spoil(&mut Rng::new(alike), &mut a, first, way);
-                spoil(&mut Rng::new(alike), &mut b, first, way);
-                assert_eq!(a.refusal(), first);
-                all.push((b, first));
+            for (one, other) in (0..ways).flat_map(|w| (0..others).map(move |o| ((first, w), (second, o)))) {
+                for _ in 0..times([one, other], each) {
+                    all.push((pair(rng, one, other), first));
+                }
             }
         }
     }
@@ -198,7 +210,7 @@ impl Stored<'_> {
 pub fn groups(seed: u64) -> Vec<Group> {
     let mut rng = Rng::new(seed);
     let random: Vec<Call> = (0..70).map(|k| drawn(&mut rng, k)).collect();
-    let numbered = [samples(), chains(), alone(&mut rng, 8), pairs(&mut rng)].concat();
+    let numbered = [samples(), chains(), alone(&mut rng, 8), pairs(&mut rng, 3)].concat();
     let (joined, refused) = (Group::new(JOINS, 0), Group::new(JOINS, 0));
     let mut all = Stored { rng: &mut rng, seen: Seen::default(), joined, refused };
     numbered.iter().for_each(|(c, number)| all.add(c, *number));

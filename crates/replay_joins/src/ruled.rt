@@ -1,7 +1,5 @@
 // The stored cases of joins by lengths: trees made by a rule, of as many leaves as are joined and more, and digests of what is written.
-ghost use mathlib.Core.Path.{_≡_};
 ghost use Prim.Native.Nat.{_≤_};
-ghost use lib.ListN.{length};
 use crate::calls::HEAD;
 use crate::calls::SPARE;
 use crate::calls::answers;
@@ -192,20 +190,6 @@ fn with_itself(
     of_parts(case, tree, 0, list, marks, words, indices)
 }
 
-// Words for two trees, or to lend.
-fn large_space() -> [u32; LARGE]
-    ensures { λ r. ⌜ 917568 ≡ length r ⌝ }
-{
-    [WORD; LARGE]
-}
-
-// Words for one tree.
-fn half_space() -> [u32; HALF]
-    ensures { λ r. ⌜ 458784 ≡ length r ⌝ }
-{
-    [WORD; HALF]
-}
-
 // Whether a case has a tree to join with itself: the lengths of both are the same.
 fn is_twice(case: &[u8]) -> bool {
     if word(case, 0) != word(case, 2) {
@@ -226,8 +210,8 @@ fn with_few(case: &[u8], trees: &mut [u32], list: &[u32]) -> bool {
 // words are lent, both trees are one, and two trees stand where a joined one would: the stack has no room for more.
 pub fn sized(case: &[u8]) -> bool {
     let mut list = [0u32; LEAVES];
-    let mut large = large_space();
-    let mut half = half_space();
+    let mut large = [WORD; LARGE];
+    let mut half = [WORD; HALF];
     let mut marks = [WORD; MARKS];
     let mut indices = [WORD; LEAVES];
     put_indices(&mut list);
