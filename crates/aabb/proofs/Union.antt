@@ -55,16 +55,16 @@ module _ (a b : Float) (p : T (not (isNan a))) (q : T (not (isNan b))) where
   max-number = max-cases (λ x. T (not (isNan x))) a b (λ e. p) (λ e. q)
 
   -- the lower end of a union is at most both, the upper one at least both
-  pub lower-first : T (le (unsignedZero (minOf a b)) a)
+  lower-first : T (le (unsignedZero (minOf a b)) a)
   lower-first = le-transitive _ _ _ (unsigned-below (minOf a b) min-number) min-first
 
-  pub lower-second : T (le (unsignedZero (minOf a b)) b)
+  lower-second : T (le (unsignedZero (minOf a b)) b)
   lower-second = le-transitive _ _ _ (unsigned-below (minOf a b) min-number) min-second
 
-  pub upper-first : T (le a (unsignedZero (maxOf a b)))
+  upper-first : T (le a (unsignedZero (maxOf a b)))
   upper-first = le-transitive _ _ _ max-first (unsigned-above (maxOf a b) max-number)
 
-  pub upper-second : T (le b (unsignedZero (maxOf a b)))
+  upper-second : T (le b (unsignedZero (maxOf a b)))
   upper-second = le-transitive _ _ _ max-second (unsigned-above (maxOf a b) max-number)
 
 -- within the bounds, and values of the format

@@ -31,7 +31,8 @@ module _ (c : JoinCall) where
   -- what is looked at, in three parts
   abbrev sizes : List Condition
   sizes =
-      sizeTests (length (c .first)) (firstLeaves c) (length (c .second)) (secondLeaves c) (length (c .marks)) (length (c .words)) (length (c .indices))
+      sizeTests (length (c .first)) (firstLeaves c) (length (c .second)) (secondLeaves c) (length (c .marks)) (length (c .words))
+      (length (c .indices))
 
   abbrev trees : List Condition
   trees = treeTests (c .first) (firstLeaves c) (c .second) (secondLeaves c)

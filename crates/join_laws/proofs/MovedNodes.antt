@@ -7,11 +7,11 @@ use Rattle.lists.specs.Counts.{upto}
 use Rattle.bvh2.specs.Words.{Link, children, position, malformed, linkOf, wordAt, linkAt, boxAt}
 use Rattle.bvh2.proofs.Reading.{word-children, word-position, word-malformed}
 use Rattle.join.specs.Join.{movedLink, movedNode}
-use Rattle.join_laws.specs.Joined.{nodeAt}
+use Rattle.join_laws.specs.Joined.{sevenWords}
 use Rattle.join_laws.proofs.Nodes.{node-word}
 
 -- ---- a node by its seven words
-pub node-box : (ws : List ℕ) (v : ℕ) → boxAt (nodeAt ws v) 0 ≡ boxAt ws v
+pub node-box : (ws : List ℕ) (v : ℕ) → boxAt (sevenWords ws v) 0 ≡ boxAt ws v
 unfolding boxAt
 node-box ws v = rw (
   node-word ws v 0 (omega arith),
@@ -22,7 +22,7 @@ node-box ws v = rw (
   node-word ws v 5 (omega arith),
 )
 
-pub node-link : (ws : List ℕ) (v : ℕ) → linkAt (nodeAt ws v) 0 ≡ linkAt ws v
+pub node-link : (ws : List ℕ) (v : ℕ) → linkAt (sevenWords ws v) 0 ≡ linkAt ws v
 node-link ws v = ap linkOf (node-word ws v 6 (omega arith))
 
 -- ---- a moved link
@@ -56,7 +56,7 @@ module _ (nodes positions w : ℕ) where
       let s : (w + positions) % 0x4000_0000 ≡ p + positions = omega arith in
       rw (e, movedLink) (word-position (w + positions) (omega arith) ∙ ap position s)
 
-module _ (both ws : List ℕ) (nodes positions u v : ℕ) (e : nodeAt both u ≡ movedNode ws nodes positions v) where
+module _ (both ws : List ℕ) (nodes positions u v : ℕ) (e : sevenWords both u ≡ movedNode ws nodes positions v) where
   pub moved-box : boxAt both u ≡ boxAt ws v
   unfolding boxAt movedNode upto
   moved-box = sym (node-box both u) ∙ ap (λ (l : List ℕ). boxAt l 0) e

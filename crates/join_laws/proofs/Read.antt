@@ -27,7 +27,7 @@ use Rattle.bvh2.proofs.Moved.{boxes-relabel, boxes-reposition, reposition-none}
 use Rattle.bvh2.proofs.Reading.{label-is, box-is}
 use Rattle.bvh2.proofs.Stands.{Stands, stands-decodes, stands-accepted}
 use Rattle.join.specs.Join.{movedNode}
-use Rattle.join_laws.specs.Joined.{nodeAt, movedLabel, joinedTree, InOrder}
+use Rattle.join_laws.specs.Joined.{sevenWords, movedLabel, joinedTree, InOrder}
 use Rattle.join_laws.proofs.MovedNodes.{node-box, node-link}
 use Rattle.join_laws.proofs.Tree.{leaves-joined, depth-joined, positions-once, labels-once}
 use Rattle.join_laws.proofs.Standing.{tree-stands}
@@ -121,11 +121,11 @@ module _ (ws : List ℕ) (n : ℕ) (us : List ℕ) (m : ℕ) (a : Accepted ws n)
     unfolding linkOf
     root-link = sym (node-link both 0) ∙ ap (λ (l : List ℕ). linkAt l 0) (o .root)
 
-    first-there : (v : ℕ) → v < treeNodes n → nodeAt both (movedLabel 1 2 v) ≡ movedNode ws 2 0 v
+    first-there : (v : ℕ) → v < treeNodes n → sevenWords both (movedLabel 1 2 v) ≡ movedNode ws 2 0 v
     first-there zero h = o .first-root
     first-there (suc v) h = o .first-rest (suc v) (omega arith) h
 
-    second-there : (v : ℕ) → v < treeNodes m → nodeAt both (movedLabel 2 (2 * n) v) ≡ movedNode us (2 * n) n v
+    second-there : (v : ℕ) → v < treeNodes m → sevenWords both (movedLabel 2 (2 * n) v) ≡ movedNode us (2 * n) n v
     second-there zero h = o .second-root
     second-there (suc v) h = o .second-rest (suc v) (omega arith) h
 

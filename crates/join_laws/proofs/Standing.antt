@@ -16,7 +16,7 @@ use Rattle.bvh2.proofs.Reading.{label-is}
 use Rattle.bvh2.proofs.Stands.{Stands, whole-stands}
 use Rattle.bvh2.proofs.Subtree.{root}
 use Rattle.join.specs.Join.{movedNode}
-use Rattle.join_laws.specs.Joined.{nodeAt, movedLabel}
+use Rattle.join_laws.specs.Joined.{sevenWords, movedLabel}
 use Rattle.join_laws.proofs.MovedNodes.{moved-box, moved-pair, moved-held}
 use Rattle.join_laws.proofs.Tree.{other-label}
 
@@ -35,7 +35,7 @@ module _ (ws : List ℕ) (n : ℕ) (a : Accepted ws n) (p : 0 < n) where
       pick (no l) = absurd (omega (arith, label-past (treeNodes n) n v (treeOf ws) (whole .within) (omega arith)))
 
   module _ (both : List ℕ) (r nodes positions : ℕ) (near : nodes ≤ 131072) (few : positions ≤ 65536)
-      (there : (v : ℕ) → v < treeNodes n → nodeAt both (movedLabel r nodes v) ≡ movedNode ws nodes positions v) where
+      (there : (v : ℕ) → v < treeNodes n → sevenWords both (movedLabel r nodes v) ≡ movedNode ws nodes positions v) where
     moved-at : (v : ℕ) → v < treeNodes n → MovedAt ws both (movedLabel r nodes) (λ q. q + positions) v
     unfolding LinkInside
     moved-at v h = record {

@@ -12,7 +12,7 @@ use Rattle.tree_words.specs.Nodes.{inTurn}
 use Rattle.tree_words.proofs.Nodes.{turn-length}
 use Rattle.join.specs.Join.{movedNode, underRoot}
 use Rattle.join.proofs.Moving.{moved-seven}
-use Rattle.join_laws.specs.Joined.{nodeAt, InOrder}
+use Rattle.join_laws.specs.Joined.{sevenWords, InOrder}
 use Rattle.join_laws.proofs.Nodes.{node-before, node-behind, turn-node}
 
 -- all nodes of a tree of n leaves but its root
@@ -23,7 +23,7 @@ module _ (ws : List ℕ) (nodes positions n : ℕ) where
   rest-length : length rest ≡ (treeNodes n - 1) * 7
   rest-length = turn-length (λ v. movedNode ws nodes positions (v + 1)) (λ v. moved-seven ws nodes positions (v + 1)) (treeNodes n - 1)
 
-  rest-node : (v : ℕ) → 0 < v → v < treeNodes n → nodeAt rest (v - 1) ≡ movedNode ws nodes positions v
+  rest-node : (v : ℕ) → 0 < v → v < treeNodes n → sevenWords rest (v - 1) ≡ movedNode ws nodes positions v
   rest-node v p h =
       let e : v - 1 + 1 ≡ v = omega arith in
       turn-node (λ u. movedNode ws nodes positions (u + 1)) (λ u. moved-seven ws nodes positions (u + 1)) (treeNodes n - 1) (v - 1) (omega arith)
@@ -58,26 +58,26 @@ module _ (ws : List ℕ) (n : ℕ) (us : List ℕ) (m : ℕ) where
         length-append (roots ++ firsts) seconds ∙ omega arith
 
     -- a node of the roots or of the first tree
-    in-front : (v : ℕ) → v < treeNodes n + 2 → nodeAt (underRoot ws n us m) v ≡ nodeAt (roots ++ firsts) v
+    in-front : (v : ℕ) → v < treeNodes n + 2 → sevenWords (underRoot ws n us m) v ≡ sevenWords (roots ++ firsts) v
     unfolding underRoot
     in-front v h = node-before (roots ++ firsts) seconds v (let e = front-length in omega arith)
 
-    root-node : (v : ℕ) → v < 3 → nodeAt (underRoot ws n us m) v ≡ nodeAt roots v
+    root-node : (v : ℕ) → v < 3 → sevenWords (underRoot ws n us m) v ≡ sevenWords roots v
     root-node v h = in-front v (omega arith) ∙ node-before roots firsts v (let e = roots-length in omega arith)
 
-    first-node : (v : ℕ) → 0 < v → v < treeNodes n → nodeAt (underRoot ws n us m) (v + 2) ≡ movedNode ws 2 0 v
+    first-node : (v : ℕ) → 0 < v → v < treeNodes n → sevenWords (underRoot ws n us m) (v + 2) ≡ movedNode ws 2 0 v
     first-node v h l =
         let e : v + 2 ≡ 3 + (v - 1) = omega arith in
         in-front (v + 2) (omega arith)
-        ∙ ap (nodeAt (roots ++ firsts)) e
+        ∙ ap (sevenWords (roots ++ firsts)) e
         ∙ node-behind roots firsts 3 (v - 1) (let f = roots-length in omega arith)
         ∙ rest-node ws 2 0 n v h l
 
-    second-node : (v : ℕ) → 0 < v → v < treeNodes m → nodeAt (underRoot ws n us m) (v + 2 * n) ≡ movedNode us (2 * n) n v
+    second-node : (v : ℕ) → 0 < v → v < treeNodes m → sevenWords (underRoot ws n us m) (v + 2 * n) ≡ movedNode us (2 * n) n v
     unfolding underRoot
     second-node v h l =
         let e : v + 2 * n ≡ 3 + (treeNodes n - 1) + (v - 1) = omega arith in
-        ap (nodeAt (underRoot ws n us m)) e
+        ap (sevenWords (underRoot ws n us m)) e
         ∙ node-behind (roots ++ firsts) seconds (3 + (treeNodes n - 1)) (v - 1) front-length
         ∙ rest-node us (2 * n) n m v h l
 

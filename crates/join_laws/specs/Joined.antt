@@ -25,17 +25,17 @@ joinedTree n t u =
     inner 0 (unionOf (boxOf t) (boxOf u)) (relabel (movedLabel 1 2) t) (reposition (λ p. p + n) (relabel (movedLabel 2 (2 * n)) u))
 
 -- the seven words of node v
-abbrev pub nodeAt : List ℕ → ℕ → List ℕ
-nodeAt ws v = take 7 (drop (v * 7) ws)
+abbrev pub sevenWords : List ℕ → ℕ → List ℕ
+sevenWords ws v = take 7 (drop (v * 7) ws)
 
 -- Words that hold two trees, of n and m leaves, node by node: the new root; the old roots; the rest of the first in its order; the rest of the second
 -- in its own.
 pub record InOrder (ws : List ℕ) (n : ℕ) (us : List ℕ) (m : ℕ) (both : List ℕ) : Type 0 where
-  pub root : nodeAt both 0 ≡ boxedWords (unionOf (boxAt ws 0) (boxAt us 0)) 1
-  pub first-root : nodeAt both 1 ≡ movedNode ws 2 0 0
-  pub second-root : nodeAt both 2 ≡ movedNode us (2 * n) n 0
-  pub first-rest : (v : ℕ) → 0 < v → v < treeNodes n → nodeAt both (v + 2) ≡ movedNode ws 2 0 v
-  pub second-rest : (v : ℕ) → 0 < v → v < treeNodes m → nodeAt both (v + 2 * n) ≡ movedNode us (2 * n) n v
+  pub root : sevenWords both 0 ≡ boxedWords (unionOf (boxAt ws 0) (boxAt us 0)) 1
+  pub first-root : sevenWords both 1 ≡ movedNode ws 2 0 0
+  pub second-root : sevenWords both 2 ≡ movedNode us (2 * n) n 0
+  pub first-rest : (v : ℕ) → 0 < v → v < treeNodes n → sevenWords both (v + 2) ≡ movedNode ws 2 0 v
+  pub second-rest : (v : ℕ) → 0 < v → v < treeNodes m → sevenWords both (v + 2 * n) ≡ movedNode us (2 * n) n v
 
 -- the leaves from left to right, each by its box and the index word at its position
 unfoldable pub leafPanes : {A : Type 0} → List ℕ → Tree A → List (Aabb × ℕ)

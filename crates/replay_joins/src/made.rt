@@ -1,5 +1,5 @@
-// Trees that are made by a rule and not stored: the least and the greatest ends of node v are counted from -3v and 3v on in the least float, its children
-// are nodes 2v + 1 and 2v + 2, and the last nodes are the leaves.
+// Trees that are made by a rule and not stored: the least and the greatest ends of node v are counted from -3v and 3v on in the least float, its
+// children are nodes 2v + 1 and 2v + 2, and the last nodes are the leaves.
 ghost use Prim.Native.Nat.{_≤_};
 use stored::word;
 
