@@ -1,5 +1,6 @@
 // A call of a join, with what a case says of it in front: words of the first tree, its index words, words of the second, its index words, words lent
-// as marks, for nodes, for index words; the panes in two words; the number, marks that are zero afterwards, words of nodes written, index words written.
+// as marks, for nodes, for index words; the panes in two words; the number, marks that are zero afterwards, words of nodes written, index words
+// written.
 ghost use Prim.Native.Nat.{_≤_};
 use join::Joining;
 use stored::WORD;
