@@ -27,6 +27,23 @@ unsafe extern "C" {
         list: *mut u32,
         list_len: usize,
     ) -> u64;
+    fn funnelcress_join(
+        first: *const u32,
+        first_len: usize,
+        first_indices: *const u32,
+        first_indices_len: usize,
+        first_panes: usize,
+        second: *const u32,
+        second_len: usize,
+        second_indices: *const u32,
+        second_indices_len: usize,
+        marks: *mut u32,
+        marks_len: usize,
+        words: *mut u32,
+        words_len: usize,
+        indices: *mut u32,
+        indices_len: usize,
+    ) -> u64;
     fn funnelcress_any_hit(
         record: *const u8,
         record_len: usize,
@@ -144,6 +161,35 @@ pub fn bvh2_to_cwbvh(words: &[u32], indices: &[u32], limit: u32, order: bool, s:
             s.record.len(),
             s.list.as_mut_ptr(),
             s.list.len(),
+        )
+    }
+}
+
+/// What a join is lent: marks, and the joined tree's words and index words.
+pub struct Joined {
+    pub marks: Vec<u32>,
+    pub words: Vec<u32>,
+    pub indices: Vec<u32>,
+}
+
+pub fn join(first: &[u32], first_indices: &[u32], panes: usize, second: &[u32], second_indices: &[u32], s: &mut Joined) -> u64 {
+    unsafe {
+        funnelcress_join(
+            first.as_ptr(),
+            first.len(),
+            first_indices.as_ptr(),
+            first_indices.len(),
+            panes,
+            second.as_ptr(),
+            second.len(),
+            second_indices.as_ptr(),
+            second_indices.len(),
+            s.marks.as_mut_ptr(),
+            s.marks.len(),
+            s.words.as_mut_ptr(),
+            s.words.len(),
+            s.indices.as_mut_ptr(),
+            s.indices.len(),
         )
     }
 }

@@ -3,6 +3,7 @@
 mod boxes;
 mod calls;
 mod conversions;
+mod joins;
 mod nodes;
 mod queries;
 mod records;
@@ -25,11 +26,12 @@ mod tree;
 
 /// The modules that arguments name, or all: see bench/README.md.
 fn main() {
-    let parts: [(&str, fn()); 7] = [
+    let parts: [(&str, fn()); 8] = [
         ("boxes", boxes::rows),
         ("nodes", nodes::rows),
         ("trees", trees::rows),
         ("conversions", conversions::rows),
+        ("joins", joins::rows),
         ("records", records::rows),
         ("queries", queries::rows),
         ("reports", reports::rows),

@@ -1,4 +1,5 @@
-/* A small house from C: its tree converted, the record checked, a ray asked for what it meets, and a report of two rays.
+/* A small house from C: its tree converted, the record checked, a ray asked for what it meets, a report of two rays, and
+ * the house joined to a corridor.
  *
  *   rt staticlib funnelcress
  *   cc -std=c11 -O2 -Iinclude examples/house.c target/staticlib/libfunnelcress.a -o target/house && target/house */
@@ -110,6 +111,22 @@ static void report(const uint8_t *record, size_t length, const uint32_t *list, c
     }
 }
 
+/* The house and the roof of a corridor as one tree: the corridor's pane is counted on from the house's. */
+static void join(void) {
+    static uint32_t house[7 * (2 * PANES - 1)], house_indices[PANES], marks[3 * PANES];
+    static uint32_t words[7 * (2 * PANES + 1)], indices[PANES + 1];
+    const float roof[6] = {8.0f, 2.0f, 2.5f, 12.0f, 3.0f, 2.52f};
+    uint32_t corridor[7] = {0, 0, 0, 0, 0, 0, FUNNELCRESS_LEAF(0)}, corridor_index = 0;
+    float root[6];
+    build_tree(house, house_indices);
+    memcpy(corridor, roof, sizeof roof);
+    uint64_t number = unless_refused(
+        "join", funnelcress_join(house, funnelcress_tree_words(PANES), house_indices, PANES, PANES, corridor, 7, &corridor_index, 1, marks,
+                                 funnelcress_join_marks(PANES, 1), words, funnelcress_tree_words(PANES + 1), indices, PANES + 1));
+    memcpy(root, words, sizeof root);
+    printf("with a corridor: %u leaves, %.1f m long, its roof is pane %u\n", funnelcress_value(number), root[3] - root[0], indices[PANES]);
+}
+
 int main(void) {
     uint8_t record[80 * PANES];
     uint32_t list[PANES], met[PANES];
@@ -128,6 +145,7 @@ int main(void) {
     uint64_t miss = unless_refused("miss", funnelcress_miss(record, length, list, PANES, panes[0], 6 * PANES, ray, 8));
     printf("the sun %s\n", funnelcress_kind(miss) == 0 ? "is seen" : "is behind glass");
     report(record, length, list, ray);
+    join();
     printf("no nodes, NULL for empty slices: %u positions\n",
            funnelcress_value(unless_refused("any-hit", funnelcress_any_hit(NULL, 0, 0, ray, 8, NULL, 0))));
     return 0;

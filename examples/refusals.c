@@ -81,6 +81,47 @@ static void trees(void) {
     convert("convert, a position held twice", 7, 21, 2, 3, 1, 21);
 }
 
+/* A join of the sample with a second tree, with room for so many words: refused, its outputs untouched, and from 5 on the five marks
+ * that two leaves need zero. */
+static void join(const char *call, uint32_t cause, const uint32_t *second, size_t second_len, const uint32_t *second_indices, size_t n,
+                 size_t panes, size_t room) {
+    uint64_t number = funnelcress_join(words, 21, indices, 2, panes, second, second_len, second_indices, n, work, 5, decisions, room, list, 4);
+    size_t used = cause >= 5 ? funnelcress_join_marks(2, 2) : 0;
+    int zero = 1;
+    for (size_t i = 0; i < used; i++) {
+        zero = zero && work[i] == 0;
+    }
+    expect(call, cause, number,
+           zero && kept(work, used * sizeof work[0], sizeof work) && kept(decisions, 0, sizeof decisions) && kept(list, 0, sizeof list));
+    fresh();
+}
+
+static void joins(void) {
+    static const uint32_t many[7 * 131069], many_indices[65535];
+    const uint32_t links[7] = {1, 3, 5, FUNNELCRESS_LEAF(0), FUNNELCRESS_LEAF(1), FUNNELCRESS_LEAF(2), FUNNELCRESS_LEAF(3)};
+    uint32_t second[21];
+    float nan = NAN;
+    memcpy(second, words, sizeof second);
+    join("join, a word short", 1, second, 20, indices, 2, 2, 49);
+    join("join, 65,537 leaves", 2, many, 7 * 131069, many_indices, 65535, 2, 49);
+    join("join, words short", 4, second, 21, indices, 2, 2, 48);
+    join("join, an index word of 2^32", 13, second, 21, indices, 2, UINT32_MAX, 49);
+    second[20] = FUNNELCRESS_LEAF(0);
+    join("join, a position held twice", 7, second, 21, indices, 2, UINT32_MAX, 49);
+    memcpy(second + 7, &nan, sizeof nan);
+    join("join, a box with a NaN", 6, second, 21, indices, 2, 2, 49);
+    second[6] = FUNNELCRESS_INNER(2);
+    join("join, a link beyond the tree", 5, second, 21, indices, 2, 2, 49);
+    uint64_t number = funnelcress_join(words, 21, indices, 2, 2, words, 21, indices, 2, work, 5, decisions, 49, list, 4);
+    int right = number == 4 && list[0] == 0 && list[1] == 1 && list[2] == 2 && list[3] == 3;
+    for (int v = 0; v < 7; v++) {
+        right = right && decisions[7 * v + 6] == links[v];
+    }
+    int past_kept = kept(work, 20, sizeof work) && kept(decisions, 4 * 49, sizeof decisions) && kept(list, 16, sizeof list);
+    expect("join, nothing wrong", 0, number, right && past_kept);
+    fresh();
+}
+
 /* The queries on the sample's record, with something wrong. */
 static void queries(const uint8_t *good, const uint32_t *good_list) {
     float ray[8];
@@ -188,6 +229,7 @@ int main(void) {
     uint32_t good_list[2];
     fresh();
     trees();
+    joins();
     if (funnelcress_bvh2_to_cwbvh(words, 21, indices, 2, 3, 1, decisions, 21, costs, 21, good, 80, good_list, 2) != 1) {
         return 1;
     }

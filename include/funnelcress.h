@@ -10,18 +10,20 @@
  * - Any values are allowed in the slices. What can't be used is refused, with a number that says why:
  *     1  some length is wrong for its layout (tree 7 words a node, record 80 bytes a node, pane 6 floats, ray 8), or the
  *        tree has not 2n - 1 nodes
- *     2  more than 65,536 positions, 65,535 record nodes or 65,536 rays of a report
+ *     2  more than 65,536 positions, those of a joined tree too, 65,535 record nodes or 65,536 rays of a report
  *     3  the leaf limit exceeds 3, or the order is neither 0 nor 1
  *     4  too little room was lent for outputs or work
  *     5  a link of no known kind, or one that leads out of the tree or the index list
  *     6  a box, or a pane met, that is not finite, past 2^40 either way, or with a lower end above its upper one
- *     7  a node or position that is not reached exactly once, or a path of over 127 edges
+ *     7  a node or position that is not reached exactly once, or a path of over 127 edges, in a joined tree too
  *     8  some node of the record would lie deeper than level 31
  *     9  a ray whose origin or direction is not finite or past 2^40 either way, or whose tmin or tmax is a NaN
  *    10  a damaged record, an index that names no pane, or a forged walker
  *    11  any-hit meets more positions than its list has room for
  *    12  losses that are not one for each pane, or one over 1,000,000
- *   Causes are looked at in rising number, but 12 right after 6; those of a walk come where the walk meets them.
+ *    13  an index word of a joined tree that 32 bits don't hold
+ *   Causes are looked at in rising number, but 12 right after 6 and 13 right after 7; those of a walk come where the walk
+ *   meets them.
  * - Zeros of a ray's origin and direction have no sign: -0.0 there is read as +0.0. tmin and tmax are read as they are.
  * - Unless said otherwise a refused call leaves all slices as they were, and no call writes past what it says.
  *
@@ -68,6 +70,11 @@ static inline size_t funnelcress_tree_words(size_t n) { return n == 0 ? 0 : 7 * 
 static inline size_t funnelcress_table_words(size_t n) { return funnelcress_tree_words(n); }
 static inline size_t funnelcress_record_bytes(size_t n) { return n == 0 ? 0 : n == 1 ? 80 : 80 * (n - 1); }
 static inline size_t funnelcress_check_words(size_t record_len, size_t n) { return record_len / 80 + n; }
+/* Working words of a join of trees with so many leaves. */
+static inline size_t funnelcress_join_marks(size_t first, size_t second) {
+    size_t most = first < second ? second : first;
+    return most == 0 ? 0 : 3 * most - 1;
+}
 
 /* Converts a tree to a record and its index list.
  *   words      7 (2n - 1) words of the tree, none for n = 0; read
@@ -126,6 +133,25 @@ uint64_t funnelcress_miss(const uint8_t *record, size_t record_len, const uint32
 uint64_t funnelcress_report(const uint8_t *record, size_t record_len, const uint32_t *indices, size_t indices_len,
                             size_t panes, const uint32_t *losses, size_t losses_len, const float *rays, size_t rays_len,
                             uint64_t *ray_totals, size_t ray_totals_len, uint64_t *pane_totals, size_t pane_totals_len);
+
+/* Joins two trees under a new root, whose box is the union of theirs. Every other box stays bit for bit; the second's
+ * leaves stand behind the first's, and its panes are counted on from the first's.
+ *   first, second      7 (2n - 1) words of a tree of n leaves, none for n = 0; read
+ *   first_indices, second_indices      a word for each leaf of that tree; read
+ *   first_panes        how many panes the first's index words name: it is added to each index word of the second
+ *   marks      funnelcress_join_marks(first_indices_len, second_indices_len) working words or more
+ *   words      funnelcress_tree_words(n) or more, n being the leaves of both trees together
+ *   indices    n words or more
+ * Returns kind 0 with n, or kind 2. Written then: the first funnelcress_tree_words(n) of words and the first n of indices;
+ * the needed part of marks is zero. Next to an empty tree the other stays as it is, a second one with its index words
+ * moved up all the same; two empty trees write nothing. Refused 5, 6, 7 or 13, the needed part of marks is zero; words and
+ * indices stay. Refusals, each looked at in both trees before the next: 1, 2 (also n over 65,536), 4, 5, 6, 7 (also a path
+ * of over 126 edges where both have leaves, since the new root's is one more), 13 (some index word of the second plus
+ * first_panes is over 4,294,967,295). */
+uint64_t funnelcress_join(const uint32_t *first, size_t first_len, const uint32_t *first_indices, size_t first_indices_len,
+                          size_t first_panes, const uint32_t *second, size_t second_len, const uint32_t *second_indices,
+                          size_t second_indices_len, uint32_t *marks, size_t marks_len, uint32_t *words, size_t words_len,
+                          uint32_t *indices, size_t indices_len);
 
 /* A walker: a ray walked step by step, for a caller with a pane test of its own. It is kept in words that the caller
  * lends, which are opaque and may be copied and kept. Neither pointer may be NULL. */

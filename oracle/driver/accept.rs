@@ -5,6 +5,7 @@ use obvhs::ray::Ray;
 
 pub const MOST_LEAVES: usize = 65536;
 pub const MOST_NODES: usize = 65535;
+pub const MOST_EDGES: u32 = 127;
 
 pub fn in_bounds(x: f32) -> bool {
     (-BOUND..=BOUND).contains(&x)
@@ -44,11 +45,30 @@ impl Room {
     }
 }
 
+/// No cause 1 holds: seven words for each of 2n - 1 nodes, or none without leaves.
+pub fn sized(t: &Tree) -> bool {
+    let n = t.indices.len();
+    t.nodes.len() == if n == 0 { 0 } else { 7 * (2 * n - 1) }
+}
+
+/// No cause 5 holds: each link leads to two nodes of the tree, or to one of its positions.
+pub fn linked(t: &Tree) -> bool {
+    (0..t.count()).all(|v| match t.link(v) >> 30 {
+        0 => target(t.link(v)) as usize + 1 < t.count(),
+        1 => (target(t.link(v)) as usize) < t.indices.len(),
+        _ => false,
+    })
+}
+
+/// No cause 6 holds of any node.
+pub fn boxed(t: &Tree) -> bool {
+    (0..t.count()).all(|v| accepted_box(&t.aabb(v)))
+}
+
 /// The first of causes 1 to 7 that holds, or 0.
 pub fn conversion_refusal(t: &Tree, limit: u32, room: Room) -> u32 {
     let n = t.indices.len();
-    let count = t.count();
-    if t.nodes.len() % 7 != 0 || count != if n == 0 { 0 } else { 2 * n - 1 } {
+    if !sized(t) {
         return 1;
     }
     if n > MOST_LEAVES {
@@ -60,30 +80,22 @@ pub fn conversion_refusal(t: &Tree, limit: u32, room: Room) -> u32 {
     if room.short_of(Room::needed(n)) {
         return 4;
     }
-    let linked = |v: usize| match t.link(v) >> 30 {
-        0 => target(t.link(v)) as usize + 1 < count,
-        1 => (target(t.link(v)) as usize) < n,
-        _ => false,
-    };
-    if !(0..count).all(linked) {
+    if !linked(t) {
         return 5;
     }
-    if !(0..count).all(|v| accepted_box(&t.aabb(v))) {
+    if !boxed(t) {
         return 6;
     }
-    if count > 0 && !reached_once(t) {
-        return 7;
-    }
-    0
+    if reached_once(t, MOST_EDGES) { 0 } else { 7 }
 }
 
-/// Going down from the root meets every node and every position, none a second time, and no way down has over 127 edges.
-fn reached_once(t: &Tree) -> bool {
+/// Going down from the root meets every node and every position, none a second time, and no way down has over so many edges.
+pub fn reached_once(t: &Tree, most: u32) -> bool {
     let mut nodes = vec![false; t.count()];
     let mut positions = vec![false; t.indices.len()];
-    let mut due = vec![(0usize, 0u32)];
+    let mut due = if nodes.is_empty() { vec![] } else { vec![(0usize, 0u32)] };
     while let Some((v, edges)) = due.pop() {
-        if std::mem::replace(&mut nodes[v], true) || edges > 127 {
+        if std::mem::replace(&mut nodes[v], true) || edges > most {
             return false;
         }
         let to = target(t.link(v)) as usize;

@@ -5,6 +5,8 @@ use crate::conversions::some_tree;
 use crate::convert::{Converted, convert};
 use crate::generate::{BOXES, Shape, tree};
 use crate::calls::{agreed_walk, told};
+use crate::join::{self, Seen};
+use crate::join_draws::{CAUSES, drawn, small, some_panes, spoil};
 use crate::loss::Call;
 use crate::queries::{aimed, scene};
 use crate::record::{Verdict, check};
@@ -83,12 +85,49 @@ impl Rays {
     }
 }
 
+/// The joins compared, drawn apart from the rest: what was seen of the joined trees, and how many calls were refused.
+struct Joins {
+    rng: Rng,
+    seen: Seen,
+    refused: u32,
+}
+
+impl Joins {
+    /// Two trees joined, at times of some hundred leaves; a call with one cause of refusal, and one with two.
+    fn compare(&mut self, k: usize) {
+        let rng = &mut self.rng;
+        let call = if k % 50 == 0 {
+            let (first, second) = (large_tree(rng, k), large_tree(rng, k + 50));
+            join::Call::new(&first, some_panes(rng, &first, &second), &second)
+        } else {
+            drawn(rng, k)
+        };
+        call.agreed(rng, 8, &mut self.seen);
+        let (mut hurt, mut order) = (small(rng), CAUSES);
+        rng.shuffle(&mut order);
+        order[..2].sort();
+        let [later, sooner] = [1, 0].map(|i| order[i]);
+        for (cause, ways) in [later, sooner] {
+            let way = rng.below(ways);
+            spoil(rng, &mut hurt, cause, way);
+            assert_eq!(hurt.refused(), cause);
+            self.refused += 1;
+        }
+    }
+
+    fn print(&self) {
+        println!("joins: {}; {} refused", self.seen, self.refused);
+    }
+}
+
 pub fn run(seed: u64, trees: usize) -> bool {
     let mut rng = Rng::new(seed);
     let rng = &mut rng;
     let (mut converted, mut deep, mut rays) = (0, 0, Rays::new(seed));
+    let mut joins = Joins { rng: Rng::new(seed), seen: Seen::default(), refused: 0 };
     let (mut sound, mut damaged, mut laxer, mut stricter) = (0, 0, 0, 0);
     for k in 0..trees {
+        joins.compare(k);
         let t = if k % 50 == 0 { large_tree(rng, k) } else { some_tree(rng, k) };
         let n = t.indices.len();
         assert_eq!(conversion_refusal(&t, 3, Room::needed(n)), 0);
@@ -128,5 +167,6 @@ pub fn run(seed: u64, trees: usize) -> bool {
     println!("trees converted: {converted} (and {deep} with a level over 31); sound by both: {sound}");
     println!("damaged records: {damaged}; unsound, yet validated: {laxer}; sound, yet not validated: {stricter}");
     rays.print();
+    joins.print();
     stricter == 0
 }

@@ -79,7 +79,7 @@ fn sizes_case(nodes: usize, indices: usize, limit: u32, order: bool, room: Room,
 }
 
 /// Damages a tree so that it meets a cause, perhaps with a later one beside it.
-fn damage(rng: &mut Rng, t: &mut Tree, cause: u32) {
+pub fn damage(rng: &mut Rng, t: &mut Tree, cause: u32) {
     let count = t.count();
     let v = rng.below(count);
     match cause {

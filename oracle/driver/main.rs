@@ -10,6 +10,10 @@ mod convert;
 mod corners;
 mod differences;
 mod generate;
+mod join;
+mod join_draws;
+mod join_sizes;
+mod joins;
 mod large;
 mod leaves;
 mod long;
@@ -58,6 +62,7 @@ fn store(folder: &str) -> bool {
     store::write(&at("steps"), &calls::groups(SEED + 10));
     store::write(&at("large"), &large::groups(SEED + 11));
     store::write(&at("losses"), &losses::groups(SEED + 12));
+    store::write(&at("joins"), &joins::groups(SEED + 13));
     store::write(&at("showrecord"), &show::groups(SEED + 4));
     store::write(&at("nodes"), &nodes::groups(SEED + 6));
     store::write(&at("children"), &children::groups(SEED + 7));

@@ -3,12 +3,15 @@ use crate::accept::{Room, accepted_box, conversion_refusal};
 use crate::calls::agreed_walk;
 use crate::convert::{Converted, bvh_of, convert};
 use crate::generate::{Boxes, chain};
+use crate::join::{self, Seen};
+use crate::joins;
 use crate::loss::{Call, RayLoss, Report};
 use crate::losses::{refused_samples, sample, sample_rays};
 use crate::query;
+use crate::rng::Rng;
 use crate::scene::{Asked, Scene, endless, through_t};
 use crate::show::{input_of, shown, showrecord};
-use crate::tree::{BOUND, Tree, bits, leaf, sample_tree};
+use crate::tree::{BOUND, Tree, bits, inner, leaf, sample_tree};
 use crate::walk;
 use crate::walker::{Held, Step};
 use glam::{Vec3A, vec3a};
@@ -108,6 +111,25 @@ fn losses(all: &mut Tally) {
     all.holds("the same with a record of 79 bytes: 1 (by the rules)", refused[2]);
 }
 
+/// Trees joined by the rules; the published code takes what comes out.
+fn joined(all: &mut Tally) {
+    let ends = |c: &join::Call| c.agreed(&mut Rng::new(4), 4, &mut Seen::default()).tree;
+    let links = |t: &Tree| (0..t.count()).map(|v| t.link(v)).collect::<Vec<_>>();
+    let (t, calls) = (sample_tree(), joins::samples());
+    let two = ends(&calls[0].0);
+    let expected = [inner(1), inner(3), inner(5), leaf(0), leaf(1), leaf(2), leaf(3)];
+    let root = [0.0, 0.0, 0.0, 3.0, 1.0, 1.0].map(f32::to_bits);
+    all.holds("T with T: seven nodes, indices 0 to 3", links(&two) == expected && two.nodes[..6] == root && two.indices == [0, 1, 2, 3]);
+    all.holds("a leaf with a leaf: three nodes", links(&ends(&calls[1].0)) == [inner(1), leaf(0), leaf(1)]);
+    let (second, first) = (ends(&calls[2].0), ends(&calls[3].0));
+    all.holds("none with T, 5 panes: T with indices 5 and 6", second.nodes == t.nodes && second.indices == [5, 6]);
+    all.holds("T with none: T; none with none: none", first == t && ends(&calls[4].0) == Tree::default());
+    let sums = [5, 6].map(|i| calls[i].0.refusal());
+    all.holds("4,294,967,295 panes: index 0 joined, index 1 refused 13", sums == [0, 13] && ends(&calls[5].0).indices[2] == u32::MAX);
+    let chains = joins::chains().iter().all(|(c, number)| c.refusal() == *number);
+    all.holds("chains of 127 leaves with one and of 128 with none joined, of 128 with one refused 7", chains);
+}
+
 const T_LINES: &str = "0 0000000000000000000000007978780001000000000000002021000000000000008000000000000040c00000000000000000000000000000808000000000000000000000000000008080000000000000\nindices 0 1\n";
 
 /// What conversion writes for T, and e bytes.
@@ -156,5 +178,6 @@ pub fn run() -> bool {
     all.holds("S12 T's record line", shown(&c) == T_LINES && showrecord(&input_of(&t, 3, 0)) == T_LINES);
     near_limits(&mut all);
     losses(&mut all);
+    joined(&mut all);
     all.failed == 0
 }

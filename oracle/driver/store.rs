@@ -36,6 +36,8 @@ pub const CHECKRECORD: u32 = 41;
 pub const LARGE_TREES: u32 = 42;
 pub const LOSSES: u32 = 43;
 pub const LOSS_SIZES: u32 = 44;
+pub const JOINS: u32 = 45;
+pub const JOIN_SIZES: u32 = 46;
 
 pub struct Group {
     pub kind: u32,

@@ -5,7 +5,7 @@ use obvhs::bvh2::{Bvh2, node::Bvh2Node};
 
 pub const BOUND: f32 = 1099511627776.0; // 2^40
 
-#[derive(Clone, Default)]
+#[derive(Clone, Default, PartialEq, Debug)]
 pub struct Tree {
     pub nodes: Vec<u32>,
     pub indices: Vec<u32>,

@@ -18,6 +18,13 @@ mod convert;
 #[path = "../../../oracle/driver/generate.rs"]
 mod generate;
 #[allow(dead_code)]
+#[path = "../../../oracle/driver/join.rs"]
+mod join;
+#[allow(dead_code)]
+#[path = "../../../oracle/driver/join_draws.rs"]
+mod join_draws;
+mod joins;
+#[allow(dead_code)]
 #[path = "../../../oracle/driver/leaves.rs"]
 mod leaves;
 #[allow(dead_code)]
@@ -69,6 +76,7 @@ use checks::damage;
 use conversions::some_tree;
 use convert::{Converted, convert};
 use funnelcress::{ObvhsNode, Pane, Record, Refusal, State, TreeError, Verdict, Walker as Walk, entry_distances};
+use join::Seen;
 use obvhs::ray::Ray;
 use odd::negative_zeros;
 use queries::{aimed, odd_ray, scene};
@@ -90,6 +98,8 @@ struct Counts {
     steps: usize,
     reports: usize,
     refused_reports: usize,
+    joined: Seen,
+    refused_joins: usize,
 }
 
 fn ours(r: &Ray) -> funnelcress::Ray {
@@ -287,13 +297,15 @@ fn one_tree(rng: &mut Rng, reported: &mut Rng, k: usize, counts: &mut Counts) {
 fn main() {
     let trees: usize = std::env::args().nth(1).and_then(|x| x.parse().ok()).unwrap_or(20_000);
     let mut counts = Counts::default();
-    let (mut rng, mut reported) = (Rng::new(16), Rng::new(33));
+    let (mut rng, mut reported, mut paired) = (Rng::new(16), Rng::new(33), Rng::new(45));
     for k in 0..trees {
         one_tree(&mut rng, &mut reported, k, &mut counts);
+        counts.refused_joins += joins::same_joins(&mut paired, k, &mut counts.joined);
     }
-    let Counts { trees, deep, damaged, rays, refused, steps, reports, refused_reports } = counts;
+    let Counts { trees, deep, damaged, rays, refused, steps, reports, refused_reports, joined, refused_joins } = counts;
     println!("{trees} trees ({deep} refused 8), {damaged} damaged records, {rays} pass something: records, lists, verdicts,");
     println!("answers, distances and {steps} steps are the published Rust's, or the rules' where it has none ({refused} refusals of queries)");
     println!("{reports} reports have the positions of the published any-hit added up, or the rules' refusal ({refused_reports})");
+    println!("joins are the driver's, or have the rules' refusal ({refused_joins}): {joined}");
     assert!(rays.one_in(10));
 }

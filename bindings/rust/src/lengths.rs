@@ -1,4 +1,4 @@
-//! How long the slices are that conversion and check are lent.
+//! How long the slices are that conversion, check and join are lent.
 
 /// The bytes of a record node.
 pub const NODE_BYTES: usize = 80;
@@ -19,6 +19,7 @@ pub const MAX_LOSS: u32 = 1_000_000;
 /// let needed = funnelcress::Lengths::of(2);
 /// assert_eq!((needed.words, needed.tables, needed.record, needed.list), (21, 21, 80, 2));
 /// assert_eq!(funnelcress::Lengths::of(0).record, 0);
+/// assert_eq!((funnelcress::Lengths::marks(2, 5), funnelcress::Lengths::marks(0, 0)), (14, 0));
 /// ```
 #[derive(Clone, Copy, Debug, PartialEq, Eq)]
 pub struct Lengths {
@@ -48,5 +49,10 @@ impl Lengths {
     /// The working words of the record check, for a record of so many bytes and n positions.
     pub fn check(record: usize, n: usize) -> usize {
         (record / NODE_BYTES).saturating_add(n)
+    }
+
+    /// The working words of a join, for trees of so many leaves.
+    pub fn marks(first: usize, second: usize) -> usize {
+        first.max(second).saturating_mul(3).saturating_sub(1)
     }
 }

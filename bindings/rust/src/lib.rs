@@ -1,8 +1,9 @@
 //! A proved box-tree converter and ray walker, as safe Rust.
 //!
 //! A binary tree of boxes ([`Tree`]) is converted to a [`Record`] of 80-byte nodes with eight children each, which is
-//! then asked for what a [`Ray`] meets. Every answer is the library's, whose functions are proved; this crate lends it
-//! slices of the lengths that it needs and reads the numbers that it returns. Nothing is decided here.
+//! then asked for what a [`Ray`] meets; two trees are made one by [`Tree::join`]. Every answer is the library's, whose
+//! functions are proved; this crate lends it slices of the lengths that it needs and reads the numbers that it returns.
+//! Nothing is decided here.
 //!
 //! ```
 //! use funnelcress::{Options, Ray, Tree, Verdict};

@@ -8,7 +8,7 @@ use std::fmt;
 pub enum Refusal {
     /// 1: some length is wrong for its layout.
     Length,
-    /// 2: more positions or nodes than a record can have, or more rays than a report.
+    /// 2: more positions or nodes than a record can have, more leaves than a joined tree, or more rays than a report.
     TooMany,
     /// 3: the leaf limit exceeds 3, or the order is neither 0 nor 1.
     Limit,
@@ -33,6 +33,8 @@ pub enum Refusal {
     },
     /// 12: losses that are not one for each pane, or one that is too great.
     Losses,
+    /// 13: an index word of a joined tree that 32 bits don't hold.
+    IndexSum,
     /// A number that this version of the bindings has no name for.
     Other(u32),
 }
@@ -52,6 +54,7 @@ impl Refusal {
             9 => Refusal::Ray,
             10 => Refusal::Record,
             12 => Refusal::Losses,
+            13 => Refusal::IndexSum,
             other => Refusal::Other(other),
         }
     }
@@ -71,6 +74,7 @@ impl Refusal {
             Refusal::Record => 10,
             Refusal::List { .. } => 11,
             Refusal::Losses => 12,
+            Refusal::IndexSum => 13,
             Refusal::Other(number) => number,
         }
     }
@@ -79,7 +83,9 @@ impl Refusal {
     pub fn wrong(self) -> &'static str {
         match self {
             Refusal::Length => "some length is wrong for its layout, or the tree has not 2n - 1 nodes",
-            Refusal::TooMany => "there are more than 65,536 positions, 65,535 record nodes or 65,536 rays of a report",
+            Refusal::TooMany => {
+                "there are more than 65,536 positions, those of two trees together, 65,535 record nodes or 65,536 rays of a report"
+            }
             Refusal::Limit => "the leaf limit exceeds 3, or the order is neither 0 nor 1",
             Refusal::Room => "too little room was lent for outputs or work",
             Refusal::Link => "a link is of no known kind, or leads out of the tree or the index list",
@@ -94,6 +100,7 @@ impl Refusal {
             Refusal::Record => "the record is damaged, an index names no pane, or the walker is forged",
             Refusal::List { .. } => "more positions are met than the list has room for",
             Refusal::Losses => "the losses are not one for each pane, or one is over 1,000,000",
+            Refusal::IndexSum => "an index word of the second tree plus the first's panes is over 4,294,967,295",
             Refusal::Other(_) => "the call was refused for a cause that these bindings do not know",
         }
     }
@@ -119,6 +126,7 @@ impl Refusal {
             }
             Refusal::List { .. } => "lend a list of the length needed",
             Refusal::Losses => "give each pane its loss in thousandths of a decibel, a whole number to 1,000,000",
+            Refusal::IndexSum => "give how many panes the first tree is over, and count the second's panes from 0",
             Refusal::Other(_) => "use bindings of the library's version",
         }
     }

@@ -75,6 +75,23 @@ unsafe extern "C" {
         pane_totals: *mut u64,
         pane_totals_len: usize,
     ) -> u64;
+    pub fn funnelcress_join(
+        first: *const u32,
+        first_len: usize,
+        first_indices: *const u32,
+        first_indices_len: usize,
+        first_panes: usize,
+        second: *const u32,
+        second_len: usize,
+        second_indices: *const u32,
+        second_indices_len: usize,
+        marks: *mut u32,
+        marks_len: usize,
+        words: *mut u32,
+        words_len: usize,
+        indices: *mut u32,
+        indices_len: usize,
+    ) -> u64;
     pub fn funnelcress_begin(ray: *const f32, ray_len: usize, head: *mut u64, stack: *mut u64) -> u64;
     pub fn funnelcress_step(head: *mut u64, stack: *mut u64, record: *const u8, record_len: usize, n: usize) -> u64;
     pub fn funnelcress_tell(head: *mut u64, stack: *mut u64, distance: f32);
@@ -98,7 +115,7 @@ impl Number {
         (self.0 >> 32) as u16
     }
 
-    /// What the answer holds; of a report the node tests.
+    /// What the answer holds; of a report the node tests, of a join the leaves.
     pub fn held(self) -> u32 {
         self.0 as u32
     }

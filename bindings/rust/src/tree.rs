@@ -1,6 +1,8 @@
 //! Binary trees of boxes, as words.
+use crate::lengths::Lengths;
 use crate::record::{Options, Pane, Record};
 use crate::refusal::Refusal;
+use crate::sys::{self, Number};
 use std::fmt;
 
 /// Where a node leads.
@@ -125,7 +127,7 @@ impl Tree {
         Tree::from_nodes(&nodes, indices)
     }
 
-    /// A tree of words kept before, seven a node. They are looked at as the tree is converted.
+    /// A tree of words kept before, seven a node. They are looked at as the tree is converted or joined.
     pub fn from_words(words: Vec<u32>, indices: Vec<u32>) -> Tree {
         Tree { words, indices }
     }
@@ -161,6 +163,51 @@ impl Tree {
     /// The same for any leaf limit and any order, 0 for off and 1 for on: others are refused.
     pub fn convert_by(&self, limit: u32, order: u32) -> Result<Record, Refusal> {
         Record::convert(self, limit, order)
+    }
+
+    /// This tree and a second one under a new root, whose box is the union of theirs: this tree's leaves, then the second's.
+    /// `first_panes` is how many panes this tree is over. It is added to each index word of the second, whose panes are so
+    /// counted on from this tree's. Next to an empty tree the other stays as it is.
+    ///
+    /// ```
+    /// use funnelcress::Tree;
+    ///
+    /// let house = Tree::over(&[[0.0, 0.0, 0.0, 1.0, 1.0, 1.0], [2.0, 0.0, 0.0, 3.0, 1.0, 1.0]]);
+    /// let annex = Tree::over(&[[4.0, 0.0, 0.0, 9.0, 1.0, 1.0]]);
+    /// let both = house.join(2, &annex)?;
+    /// assert_eq!(both.indices(), [0, 1, 2]);
+    /// assert_eq!(both.words()[3], 9f32.to_bits());
+    /// # Ok::<(), funnelcress::Refusal>(())
+    /// ```
+    pub fn join(&self, first_panes: usize, second: &Tree) -> Result<Tree, Refusal> {
+        let most = |n: usize| n.min(crate::MAX_POSITIONS);
+        let (n, m) = (most(self.indices.len()), most(second.indices.len()));
+        let needed = Lengths::of(most(n + m));
+        let mut marks = vec![0u32; Lengths::marks(n, m)];
+        let mut words = vec![0u32; needed.words];
+        let mut indices = vec![0u32; needed.list];
+        // SAFETY: each pointer is a slice's and has its length beside it, and no slice that is written overlaps another.
+        let number = unsafe {
+            sys::funnelcress_join(
+                self.words.as_ptr(),
+                self.words.len(),
+                self.indices.as_ptr(),
+                self.indices.len(),
+                first_panes,
+                second.words.as_ptr(),
+                second.words.len(),
+                second.indices.as_ptr(),
+                second.indices.len(),
+                marks.as_mut_ptr(),
+                marks.len(),
+                words.as_mut_ptr(),
+                words.len(),
+                indices.as_mut_ptr(),
+                indices.len(),
+            )
+        };
+        Refusal::unless(Number(number))?;
+        Ok(Tree { words, indices })
     }
 }
 

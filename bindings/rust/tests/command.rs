@@ -112,7 +112,8 @@ fn words() {
         let (status, out, err) = failed(&at, words);
         assert!(status == 2 && out.is_empty() && err.contains("usage: "), "{words}");
     }
-    for name in ["tree", "convert", "check", "any-hit", "closest", "miss", "report"] {
+    assert!(failed(&at, "join house.tree house.tree -o x").2.contains("--panes is needed"));
+    for name in ["tree", "join", "convert", "check", "any-hit", "closest", "miss", "report"] {
         assert!(printed(&at, &format!("{name} --help")).contains("example: "));
         assert!(printed(&at, "--help").contains(name));
     }
@@ -134,6 +135,50 @@ fn a_full_disk() {
     assert_eq!(ended.status.code(), Some(1));
     assert!(String::from_utf8_lossy(&ended.stderr).contains("standard output: No space left"));
     assert!(failed(&at, "tree panes.txt -o /dev/full").2.contains("/dev/full: No space left"));
+}
+
+#[test]
+fn joins() {
+    let at = house("joins");
+    std::fs::write(at.join("annex.txt"), "4 0 0 5 1 1\n").unwrap();
+    std::fs::write(at.join("none.txt"), "# no panes\n").unwrap();
+    std::fs::write(at.join("all.txt"), "0 0 0 1 1 1\n2 0 0 3 1 1\n4 0 0 5 1 1\n").unwrap();
+    printed(&at, "tree annex.txt -o annex.tree --limit 1 --order 0");
+    printed(&at, "tree none.txt -o none.tree");
+    assert_eq!(printed(&at, "join house.tree annex.tree --panes 2 -o both.tree"), "3 leaves\n");
+    assert_eq!(printed(&at, "convert both.tree -o both"), "converted 1 nodes 3 positions\n");
+    assert_eq!(printed(&at, "check both.record"), "sound 0\n");
+    std::fs::write(at.join("from_4.txt"), "3.5 .5 .5 1 0 0 0 inf\n").unwrap();
+    let nearest = printed(&at, "closest both.record both.list all.txt from_4.txt");
+    assert!(nearest.ends_with(" pane 2 at 0.5\n"), "{nearest}");
+    let head = |name: &str| std::fs::read(at.join(name)).unwrap()[..12].to_vec();
+    assert_eq!(head("both.tree"), [3, 3, 1].map(u32::to_le_bytes).as_flattened());
+    printed(&at, "join annex.tree house.tree --panes 1 -o other.tree");
+    assert_eq!(head("other.tree"), [3, 1, 0].map(u32::to_le_bytes).as_flattened());
+    printed(&at, "join house.tree none.tree --panes 2 -o same.tree --limit 2 --order 0");
+    let (same, house) = (std::fs::read(at.join("same.tree")).unwrap(), std::fs::read(at.join("house.tree")).unwrap());
+    assert!(same[12..] == house[12..] && head("same.tree") == [2, 2, 0].map(u32::to_le_bytes).as_flattened());
+}
+
+/// A refused join writes no file.
+#[test]
+fn refused_joins() {
+    let at = house("refused_joins");
+    let mut tree = std::fs::read(at.join("house.tree")).unwrap();
+    std::fs::write(at.join("short.tree"), &tree[..tree.len() - 4]).unwrap();
+    tree[12 + 24 + 3] = 0x80;
+    std::fs::write(at.join("broken.tree"), &tree).unwrap();
+    for (words, number) in [
+        ("house.tree short.tree --panes 2", 1),
+        ("broken.tree short.tree --panes 2", 1),
+        ("house.tree broken.tree --panes 2", 5),
+        ("broken.tree house.tree --panes 4294967295", 5),
+        ("house.tree house.tree --panes 4294967295", 13),
+    ] {
+        let (status, out, err) = failed(&at, &format!("join {words} -o x.tree"));
+        assert_eq!((status, out.as_str()), (1, ""), "{words}");
+        assert!(err.contains(&format!("refused {number}: ")) && !at.join("x.tree").exists(), "{words}: {err}");
+    }
 }
 
 /// A house with losses, and a ray that meets both panes, one that meets the first alone, and one that meets none.
@@ -188,6 +233,22 @@ fn refused_reports() {
     std::fs::write(at.join("bad.record"), &record).unwrap();
     let (status, out, err) = failed(&at, "report bad.record house.list losses.txt three.txt");
     assert!(status == 1 && out.is_empty() && err.contains("not sound"));
+}
+
+/// The worked house and its corridor as one model: a ray up from the corridor's floor meets the last pane of both.
+#[test]
+fn the_worked_corridor() {
+    let at = folder("worked_corridor");
+    let house = concat!(env!("CARGO_MANIFEST_DIR"), "/../../examples/house");
+    let text = |name: &str| std::fs::read_to_string(format!("{house}/{name}.txt")).unwrap();
+    std::fs::write(at.join("site.txt"), text("house") + &text("corridor")).unwrap();
+    std::fs::write(at.join("up.txt"), "14 4 1 0 0 1 0 inf\n").unwrap();
+    assert_eq!(printed(&at, &format!("tree {house}/house.txt -o house.tree")), "42 leaves\n");
+    assert_eq!(printed(&at, &format!("tree {house}/corridor.txt -o corridor.tree")), "3 leaves\n");
+    assert_eq!(printed(&at, "join house.tree corridor.tree --panes 42 -o site.tree"), "45 leaves\n");
+    assert_eq!(printed(&at, "convert site.tree -o site"), "converted 5 nodes 45 positions\n");
+    let nearest = printed(&at, "closest site.record site.list site.txt up.txt");
+    assert_eq!(nearest, "0 tests 1 hit 6 pane 44 at 1.4000001\n");
 }
 
 /// The worked house's report has a line for each ray and each box, and the losses of both add up to the same.

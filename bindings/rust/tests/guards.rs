@@ -246,6 +246,112 @@ fn reports() {
     }
 }
 
+/// The three slices of a join, each longer than the trees need by so much.
+struct Joining {
+    marks: Lent<u32>,
+    words: Lent<u32>,
+    indices: Lent<u32>,
+}
+
+impl Joining {
+    fn new(n: usize, m: usize, more: usize) -> Joining {
+        let needed = Lengths::of(n + m);
+        Joining {
+            marks: Lent::new(Lengths::marks(n, m) + more, nan),
+            words: Lent::new(needed.words + more, nan),
+            indices: Lent::new(needed.list + more, nan),
+        }
+    }
+
+    fn join(&mut self, first: &Tree, panes: usize, second: &Tree) -> u64 {
+        unsafe {
+            sys::funnelcress_join(
+                first.words().as_ptr(),
+                first.words().len(),
+                first.indices().as_ptr(),
+                first.indices().len(),
+                panes,
+                second.words().as_ptr(),
+                second.words().len(),
+                second.indices().as_ptr(),
+                second.indices().len(),
+                self.marks.pointer(),
+                self.marks.long,
+                self.words.pointer(),
+                self.words.long,
+                self.indices.pointer(),
+                self.indices.long,
+            )
+        }
+    }
+
+    /// So many marks are zero, and so much of the outputs is written.
+    fn left(&self, marks: usize, words: usize, indices: usize) {
+        assert!(self.marks.all[GUARDS..GUARDS + marks].iter().all(|w| *w == 0));
+        self.marks.kept_past(marks);
+        self.words.kept_past(words);
+        self.indices.kept_past(indices);
+    }
+}
+
+#[test]
+fn joins() {
+    for (n, m) in [(0, 0), (0, 1), (3, 0), (1, 1), (2, 2), (5, 9), (9, 5)] {
+        let (first, second) = (Tree::over(&panes(n)), Tree::over(&panes(m)));
+        let needed = Lengths::of(n + m);
+        for more in [0, 1, 100] {
+            let mut s = Joining::new(n, m, more);
+            assert_eq!(s.join(&first, n, &second), (n + m) as u64);
+            s.left(Lengths::marks(n, m), needed.words, needed.list);
+            let tree = first.join(n, &second).unwrap();
+            assert_eq!(s.words.all[GUARDS..GUARDS + needed.words], *tree.words());
+            assert_eq!(s.indices.all[GUARDS..GUARDS + needed.list], *tree.indices());
+        }
+    }
+}
+
+#[test]
+fn refused_joins() {
+    let (first, second) = (Tree::over(&panes(5)), Tree::over(&panes(9)));
+    let cut = Tree::from_words(first.words()[1..].to_vec(), first.indices().to_vec());
+    let large = Tree::from_words(vec![0; 7 * 131_071], vec![0; 65_536]);
+    let with = |at: usize, word: u32| {
+        let mut words = first.words().to_vec();
+        words[at] = word;
+        Tree::from_words(words, first.indices().to_vec())
+    };
+    for more in [0, 5] {
+        for (tree, panes, number) in [
+            (&cut, 5, 1),
+            (&large, 5, 2),
+            (&with(6, 3 << 30), 5, 5),
+            (&with(3, nan(2)), 5, 6),
+            (&with(13, 1), 5, 7),
+            (&first, u32::MAX as usize - 7, 13),
+            (&first, usize::MAX, 13),
+        ] {
+            let mut s = Joining::new(5, 9, more);
+            assert_eq!(s.join(tree, panes, &second), 0x2_0000_0000 + number);
+            s.left(if number < 5 { 0 } else { Lengths::marks(5, 9) }, 0, 0);
+        }
+        for short in 0..3 {
+            let mut s = Joining::new(5, 9, more);
+            let slice = [&mut s.marks, &mut s.words, &mut s.indices].into_iter().nth(short).unwrap();
+            slice.long -= more + 1;
+            assert_eq!(s.join(&with(6, 3 << 30), usize::MAX, &second), 0x2_0000_0004);
+            s.left(0, 0, 0);
+        }
+    }
+}
+
+/// Empty slices may have any pointer.
+#[test]
+fn empty_joins() {
+    let (none, lent) = (std::ptr::null(), std::ptr::null_mut());
+    let number = unsafe { sys::funnelcress_join(none, 0, none, 0, 7, none, 0, none, 0, lent, 0, lent, 0, lent, 0) };
+    assert_eq!(number, 0);
+}
+
 /// Empty slices may have any pointer.
 #[test]
 fn empty_reports() {

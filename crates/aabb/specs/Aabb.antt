@@ -1,8 +1,10 @@
 -- Boxes (01, "Corners of each file", aabb.rs; "Causes of refusal", 6). Each operation is rounded once, in the order in which the Rust writes it.
 use mathlib.Core.Bool.{Bool, false, _&&_, cond}
+use mathlib.Core.Path.{_≡_}
+use lib.Dec.{T}
 use lib.IntN.{negsuc}
 use lib.Ieee.{Float, inf, fin, binary32, add, sub, mul, le}
-use Rattle.float.specs.Compare.{minOf, maxOf, plusZero, unsignedZero}
+use Rattle.float.specs.Compare.{minOf, maxOf, plusZero, unsignedZero, isMinusZero}
 use Rattle.ray.specs.declared.Vec3.{Vec3}
 use Rattle.ray.specs.declared.Ray.{Ray}
 use Rattle.ray.specs.Ray.{boundedVec}
@@ -68,3 +70,15 @@ inOrder b = le (b .min .x) (b .max .x) && le (b .min .y) (b .max .y) && le (b .m
 -- no cause 6: corners finite, within ±2 ^ 40, and in order
 unfoldable pub acceptedBox : Aabb → Bool
 acceptedBox b = boundedVec (b .min) && boundedVec (b .max) && inOrder b
+
+-- no component of one vector is over the other's
+abbrev pub NotOver : Vec3 → Vec3 → Type 0
+NotOver p q = T (le (p .x) (q .x)) × T (le (p .y) (q .y)) × T (le (p .z) (q .z))
+
+-- one box holds another: it begins nowhere later and ends nowhere earlier (02, [4])
+abbrev pub HoldsBox : Aabb → Aabb → Type 0
+HoldsBox a b = NotOver (a .min) (b .min) × NotOver (b .max) (a .max)
+
+-- no component is -0 (02, [4])
+abbrev pub NoMinusZero : Vec3 → Type 0
+NoMinusZero v = (isMinusZero (v .x) ≡ false) × (isMinusZero (v .y) ≡ false) × (isMinusZero (v .z) ≡ false)

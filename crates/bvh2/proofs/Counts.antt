@@ -5,7 +5,7 @@ use native.Mathlib.Decide.{decLt}
 use native.Mathlib.Omega.{arith}
 use Rattle.lists.specs.Counts.{same, count}
 use Rattle.lists.proofs.Counts.{same-self, same-apart, count-append}
-use Rattle.bvh2.specs.Tree.{Tree, leaf, inner, labels, positions}
+use Rattle.bvh2.specs.Tree.{Tree, leaf, inner, labelOf, labels, positions}
 use Rattle.bvh2.specs.Decoded.{LabelsWithin}
 
 unfoldable pub labelCount : ℕ → Tree ℕ → ℕ
@@ -33,6 +33,12 @@ count-positions y (inner v b l r) =
     let i = count-positions y l in
     let j = count-positions y r in
     omega arith
+
+-- the root's label counts
+pub root-counts : (t : Tree ℕ) → 1 ≤ labelCount (labelOf t) t
+unfolding labelOf labelCount
+root-counts (leaf v b p) = let i = same-self v in omega arith
+root-counts (inner v b l r) = let i = same-self v in omega arith
 
 -- nothing out of range counts
 pub label-past : (m n x : ℕ) (t : Tree ℕ) → LabelsWithin m n t → m ≤ x → labelCount x t ≡ 0

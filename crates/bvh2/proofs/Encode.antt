@@ -1,7 +1,7 @@
 -- The words that a tree is written as decode to the tree, and are accepted if the tree is one that 01 accepts.
-use mathlib.Core.Path.{_≡_, refl, sym, ap, subst, _∙_}
+use mathlib.Core.Path.{_≡_, refl, sym, ap, _∙_}
 use mathlib.Core.List.{List, Perm}
-use Prim.Native.Nat.{ℕ, zero, suc, _+_, _*_, _/_, _%_, _<_, _≤_}
+use Prim.Native.Nat.{ℕ, _+_, _*_, _/_, _%_, _<_, _≤_}
 use native.Mathlib.Decide.{decLt}
 use native.Mathlib.Omega.{arith}
 use lib.ListN.{length, getD, replicate, length-replicate}
@@ -13,15 +13,14 @@ use Rattle.lists.specs.Splice.{splice}
 use Rattle.lists.proofs.Counts.{same-self}
 use Rattle.lists.proofs.Perms.{perm-upto}
 use Rattle.lists.proofs.Splice.{length-splice, splice-in, splice-before, splice-after}
-use Rattle.aabb.specs.declared.Aabb.{Aabb}
 use Rattle.bvh2.specs.Tree.{Tree, leaf, inner, labelOf, boxOf, leaves, depth, labels, positions}
-use Rattle.bvh2.specs.Words.{treeNodes, children, position, wordAt, linkAt, floatAt, boxAt, treeAt, treeOf}
+use Rattle.bvh2.specs.Words.{children, position, wordAt, linkAt, floatAt, boxAt, treeOf}
 use Rattle.bvh2.specs.Causes.{Accepted}
-use Rattle.bvh2.specs.Decoded.{AllRead, BoxesAccepted}
+use Rattle.bvh2.specs.Decoded.{BoxesAccepted}
 use Rattle.bvh2.specs.Encode.{linkWord, nodeWords, store, encode, Fits, Adjacent, Numbered}
-use Rattle.bvh2.proofs.Reading.{word-children, word-position, tree-leaf, tree-inner}
+use Rattle.bvh2.proofs.Reading.{word-children, word-position}
 use Rattle.bvh2.proofs.Counts.{labelCount, count-labels}
-use Rattle.bvh2.proofs.Decoded.{accepted-decoded, labels-length}
+use Rattle.bvh2.proofs.Stands.{Stands, stands-decodes, stands-accepted}
 
 -- ---- the labels, and what is written at them
 -- each label is below m
@@ -44,11 +43,6 @@ labels-below m (inner v b l r) h = (
   labels-below m l (λ x i. let j = h x i in omega arith),
   labels-below m r (λ x i. let j = h x i in omega arith),
 )
-
-root-counts : (t : Tree ℕ) → 1 ≤ labelCount (labelOf t) t
-unfolding labelOf labelCount
-root-counts (leaf v b p) = let i = same-self v in omega arith
-root-counts (inner v b l r) = let i = same-self v in omega arith
 
 words-length : (t : Tree ℕ) → length (nodeWords t) ≡ 7
 unfolding nodeWords
@@ -166,26 +160,19 @@ inner-back ws v f e h =
     let k : wordAt ws v 6 % 0x4000_0000 ≡ f = omega arith in
     word-children (wordAt ws v 6) (omega arith) ∙ ap children k
 
-written-reads : (ws : List ℕ) (t : Tree ℕ) (d : ℕ) → Written ws t → Adjacent t → depth t ≤ d → treeAt ws d (labelOf t) ≡ t
-unfolding Written Adjacent depth labelOf boxOf linkWord
-written-reads ws (leaf v b p) d w a h =
+written-stands : (ws : List ℕ) (t : Tree ℕ) → Written ws t → Adjacent t → Stands ws t
+unfolding Written Adjacent Stands labelOf boxOf linkWord
+written-stands ws (leaf v b p) w a =
     let t : Tree ℕ = leaf v b p in
-    let l = leaf-back ws v p (link-back ws t w) (a .0) in
-    tree-leaf ws d v p l ∙ ap (λ (x : Aabb). leaf v x p) (box-back ws t w (a .1) (a .2))
-written-reads ws (inner v b l r) zero w a h = absurd (omega arith)
-written-reads ws (inner v b l r) (suc d) w a h =
-    let t : Tree ℕ = inner v b l r in
-    let f = labelOf l in
-    let e = inner-back ws v f (link-back ws t (w .0)) (a .0) in
-    let x : boxAt ws v ≡ b = box-back ws t (w .0) (a .2) (a .3) in
-    let y : treeAt ws d f ≡ l = written-reads ws l d (w .1) (a .4) (omega arith) in
-    let z : treeAt ws d (f + 1) ≡ r = subst (λ (u : ℕ). treeAt ws d u ≡ r) (a .1) (written-reads ws r d (w .2) (a .5) (omega arith)) in
-    tree-inner ws d v f e ∙ (λ i. inner v (x i) (y i) (z i))
-
-written-whole : (ws : List ℕ) (t : Tree ℕ) → Written ws t → Adjacent t → AllRead ws t
-unfolding Written Adjacent AllRead labelOf linkWord
-written-whole ws (leaf v b p) w a = leaf-back ws v p (link-back ws (leaf v b p) w) (a .0)
-written-whole ws (inner v b l r) w a = (written-whole ws l (w .1) (a .4), written-whole ws r (w .2) (a .5))
+    (box-back ws t w (a .1) (a .2), leaf-back ws v p (link-back ws t w) (a .0))
+written-stands ws (inner v b l r) w a =
+    let t : Tree ℕ = inner v b l r in (
+      box-back ws t (w .0) (a .2) (a .3),
+      inner-back ws v (labelOf l) (link-back ws t (w .0)) (a .0),
+      a .1,
+      written-stands ws l (w .1) (a .4),
+      written-stands ws r (w .2) (a .5),
+    )
 
 -- ---- the whole encoding
 module _ (t : Tree ℕ) (n : Numbered t) where
@@ -218,21 +205,13 @@ module _ (t : Tree ℕ) (n : Numbered t) where
   unfolding encode zeros
   encode-length = store-length (length (labels t)) t zeros in-words (let e = zeros-length in omega arith) ∙ zeros-length
 
+  encode-stands : Stands (encode t) t
+  encode-stands = written-stands (encode t) t encode-written (n .adjacent)
+
   -- DECODING IS THE IDENTITY
   pub encode-decodes : depth t ≤ 127 → treeOf (encode t) ≡ t
-  encode-decodes h = subst (λ (v : ℕ). treeAt (encode t) 127 v ≡ t) (n .first) (written-reads (encode t) t 127 encode-written (n .adjacent) h)
+  encode-decodes h = stands-decodes (encode t) t encode-stands (n .first) h
 
   -- and the words are accepted, if the tree is one of n leaves that the causes leave standing
   pub encode-accepted : leaves t ≤ 65536 → depth t ≤ 127 → Perm (positions t) (upto 0 (leaves t)) → BoxesAccepted t → Accepted (encode t) (leaves t)
-  encode-accepted few h p b =
-      let e : treeOf (encode t) ≡ t = encode-decodes h in
-      let l = labels-length t in
-      let c : length (labels t) ≡ treeNodes (leaves t) = omega arith in
-      accepted-decoded (encode t) (leaves t) (omega arith) .1 (record {
-        fit = encode-length ∙ ap (λ (k : ℕ). k * 7) c;
-        few = few;
-        whole = rw e (written-whole (encode t) t encode-written (n .adjacent));
-        nodes = rw (e, ← c) (n .all);
-        held = rw e p;
-        boxes = rw e b;
-      })
+  encode-accepted few h p b = stands-accepted (encode t) t encode-stands (n .first) h encode-length (n .all) few p b

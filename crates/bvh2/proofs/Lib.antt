@@ -2,9 +2,11 @@ pub mod Counts
 pub mod Decoded
 pub mod Encode
 pub mod First
+pub mod Moved
 pub mod Once
 pub mod Paths
 pub mod PathCounts
 pub mod Positions
 pub mod Reading
+pub mod Stands
 pub mod Subtree

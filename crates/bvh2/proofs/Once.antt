@@ -34,7 +34,7 @@ position-tells p (children f) = fails (λ e. children-position refl e)
 position-tells p (position q) = tells-as (eqb-tells p q) (λ e. rw e) (λ e. same-position e refl)
 position-tells p malformed = fails (λ e. position-malformed e refl)
 
-whole-tells : (ws : List ℕ) (t : Tree ℕ) → Tells (AllRead ws t) (isWhole ws t)
+pub whole-tells : (ws : List ℕ) (t : Tree ℕ) → Tells (AllRead ws t) (isWhole ws t)
 unfolding AllRead isWhole
 whole-tells ws (leaf v b p) = position-tells p (linkAt ws v)
 whole-tells ws (inner v b l r) = and-tells (whole-tells ws l) (whole-tells ws r)

@@ -1,18 +1,16 @@
 -- Internal: a labelled tree as words (01, "Words, bytes and bounds"): the node labelled v is written from word 7v on. proofs/Encode has that such
 -- words decode to the tree again.
 use mathlib.Core.Path.{_≡_}
-use mathlib.Core.List.{List, [], _∷_, Perm}
+use mathlib.Core.List.{List, Perm}
 use Prim.Native.Nat.{ℕ, _+_, _*_, _<_}
 use lib.ListN.{length, replicate}
 use lib.Dec.{T}
-use lib.Ieee.{binary32, toBits, fits}
+use lib.Ieee.{binary32, fits}
 use Rattle.lists.specs.Counts.{upto}
 use Rattle.lists.specs.Splice.{splice}
 use Rattle.ray.specs.declared.Vec3.{Vec3}
 use Rattle.bvh2.specs.Tree.{Tree, leaf, inner, labelOf, boxOf, labels}
-
-abbrev pub cornerWords : Vec3 → List ℕ → List ℕ
-cornerWords p rest = toBits binary32 (p .x) ∷ toBits binary32 (p .y) ∷ toBits binary32 (p .z) ∷ rest
+use Rattle.bvh2.specs.Words.{boxedWords}
 
 -- the link word of a tree's root: a leaf's position with kind 1, or the number of the left child
 unfoldable pub linkWord : Tree ℕ → ℕ
@@ -21,7 +19,7 @@ linkWord (inner v b l r) = labelOf l
 
 -- the seven words of a tree's root
 unfoldable pub nodeWords : Tree ℕ → List ℕ
-nodeWords t = cornerWords (boxOf t .min) (cornerWords (boxOf t .max) (linkWord t ∷ []))
+nodeWords t = boxedWords (boxOf t) (linkWord t)
 
 -- the words with each node of the tree written at its number
 unfoldable pub store : List ℕ → Tree ℕ → List ℕ

@@ -41,3 +41,8 @@ labels (inner v b l r) = v ∷ (labels l ++ labels r)
 unfoldable pub relabel : {A B : Type 0} → (A → B) → Tree A → Tree B
 relabel f (leaf v b p) = leaf (f v) b p
 relabel f (inner v b l r) = inner (f v) b (relabel f l) (relabel f r)
+
+-- the same tree with its leaves at other positions
+unfoldable pub reposition : {A : Type 0} → (ℕ → ℕ) → Tree A → Tree A
+reposition f (leaf v b p) = leaf v b (f p)
+reposition f (inner v b l r) = inner v b (reposition f l) (reposition f r)

@@ -1,8 +1,9 @@
 -- A binary tree in words (01, "Words, bytes and bounds"): seven to a node, six f32 patterns for its box and a link word.
-use mathlib.Core.List.{List}
+use mathlib.Core.List.{List, [], _∷_}
 use Prim.Native.Nat.{ℕ, zero, suc, _+_, _-_, _*_, _/_, _%_}
 use lib.ListN.{getD}
-use lib.Ieee.{Float, binary32, ofBits}
+use lib.Ieee.{Float, binary32, ofBits, toBits}
+use Rattle.ray.specs.declared.Vec3.{Vec3}
 use Rattle.aabb.specs.declared.Aabb.{Aabb}
 use Rattle.bvh2.specs.Tree.{Tree, leaf, inner}
 
@@ -35,6 +36,13 @@ boxAt ws v = record {
   min = record { x = floatAt ws v 0; y = floatAt ws v 1; z = floatAt ws v 2 };
   max = record { x = floatAt ws v 3; y = floatAt ws v 4; z = floatAt ws v 5 };
 }
+
+-- the words of a corner, before further words, and the seven of a node, by its box and its link word
+abbrev pub cornerWords : Vec3 → List ℕ → List ℕ
+cornerWords p rest = toBits binary32 (p .x) ∷ toBits binary32 (p .y) ∷ toBits binary32 (p .z) ∷ rest
+
+abbrev pub boxedWords : Aabb → ℕ → List ℕ
+boxedWords b link = cornerWords (b .min) (cornerWords (b .max) (link ∷ []))
 
 -- The tree below node v, read down to a depth and labelled by node numbers. Below that depth, and at a malformed link, a node reads as a leaf
 -- at position 0: an accepted tree has neither.

@@ -7,6 +7,7 @@ use Rattle.bvh2.specs.Tree.{Tree, leaf, inner}
 use Rattle.bvh2.specs.Words.{treeNodes, linkAt}
 use Rattle.bvh2.specs.Causes.{LinkInside, TreeSized}
 use Rattle.bvh2.specs.FirstCause.{isPosition}
+use Rattle.bvh2.specs.Decoded.{Subtree}
 
 -- a mark for each node, then one for each position
 abbrev pub markCount : ℕ → ℕ
@@ -59,3 +60,9 @@ pub record MarkReady (ws : List ℕ) (n marks v : ℕ) : Type 0 where
   pub inside : (u : ℕ) → u < treeNodes n → LinkInside n (linkAt ws u)
   pub room : markCount n ≤ marks
   pub node : v < treeNodes n
+
+-- node v is one of an accepted tree
+pub record InTree (ws : List ℕ) (v : ℕ) : Type 0 where
+  pub leaves : ℕ
+  pub edges : ℕ
+  pub subtree : Subtree ws leaves edges v

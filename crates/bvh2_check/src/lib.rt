@@ -5,8 +5,8 @@ ghost use Prim.Native.Nat.{_<_, _≤_};
 ghost use lib.ListN.{length, replicate, drop};
 ghost use Rattle.bvh2.specs.Words.{treeNodes, linkOf, treeAt};
 ghost use Rattle.bvh2.specs.Causes.{TreeSized};
-ghost use Rattle.bvh2.specs.FirstCause.{sizesCause, isInside, linksInside, boxesAccepted, structureCause};
-ghost use Rattle.bvh2_check.specs.Marking.{markCount, markingIf, walk, marksSet, MarkReady};
+ghost use Rattle.bvh2.specs.FirstCause.{sizesCause, isInside, linksInside, boxesAccepted, isWhole, structureCause};
+ghost use Rattle.bvh2_check.specs.Marking.{markCount, markingIf, walk, marksSet, MarkReady, InTree};
 
 // Causes 1 and 2, or 0: the number of words, and the number of leaves.
 pub fn sizes(words: &[u32], n: usize) -> u32
@@ -168,4 +168,24 @@ pub fn structure(words: &[u32], n: usize, marks: &mut [u32]) -> u32
         return 0;
     }
     judge_cleared(words, n, &mut marks[..3 * n - 1])
+}
+
+// Whether every path down from a node of an accepted tree ends within so many edges.
+pub fn within_depth(words: &[u32], node: usize, depth: u32) -> bool
+    requires { ⌜ InTree (now words) node ⌝ }
+    ensures { λ r. ⌜ r ≡ isWhole (now (words .entry)) (treeAt (now (words .entry)) depth node) ⌝ }
+{
+    let link = bvh2::link_word(words, node);
+    if words::kind(link) != 0 {
+        return true;
+    }
+    if depth == 0 {
+        return false;
+    }
+    let first = words::below_kind(link) as usize;
+    if within_depth(words, first, depth - 1) {
+        within_depth(words, first + 1, depth - 1)
+    } else {
+        false
+    }
 }

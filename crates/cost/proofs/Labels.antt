@@ -1,13 +1,9 @@
 -- Tables do not look at labels.
 use mathlib.Core.Path.{_≡_, refl}
 use Prim.Native.Nat.{ℕ}
-use Rattle.bvh2.specs.Tree.{Tree, leaf, inner, leaves, relabel}
+use Rattle.bvh2.specs.Tree.{Tree, leaf, inner, relabel}
+use Rattle.bvh2.proofs.Moved.{leaves-relabel}
 use Rattle.cost.specs.Table.{table}
-
-pub leaves-relabel : {A B : Type 0} (f : A → B) (t : Tree A) → leaves (relabel f t) ≡ leaves t
-unfolding leaves relabel
-leaves-relabel f (leaf v box p) = refl
-leaves-relabel f (inner v box a b) = rw (leaves-relabel f a, leaves-relabel f b)
 
 pub table-relabel : {A B : Type 0} (limit : ℕ) (f : A → B) (t : Tree A) (i : ℕ) → table limit (relabel f t) i ≡ table limit t i
 unfolding table relabel

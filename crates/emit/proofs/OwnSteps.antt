@@ -7,8 +7,8 @@ use native.Mathlib.Nat.{pow-succ'}
 use lib.Pow.{pow-mono}
 use lib.Dec.{T}
 use lib.Ieee.{binary32, toBits, isNan}
-use Rattle.float.proofs.Magnitude.{atmost-no-nan}
 use Rattle.aabb.specs.Aabb.{acceptedBox}
+use Rattle.ray.proofs.Bounds.{no-nans}
 use Rattle.aabb.proofs.Bounds.{accepted}
 use Rattle.aabb.specs.declared.Aabb.{Aabb}
 use native.Mathlib.Omega.{arith}
@@ -102,9 +102,7 @@ module _ (indices : List ℕ) (b : Aabb) (start : ℕ) (cell : ℕ → Cell) (li
 
 -- an accepted box has numbers for its lower corner
 pub corner-numbers : (b : Aabb) → acceptedBox b ≡ true → T (not (isNan (b .min .x))) × T (not (isNan (b .min .y))) × T (not (isNan (b .min .z)))
-corner-numbers b e =
-    let h = accepted b (subst T (sym e) tt) .low in
-    (atmost-no-nan (b .min .x) (2 ^ 40) 1 (h .x), atmost-no-nan (b .min .y) (2 ^ 40) 1 (h .y), atmost-no-nan (b .min .z) (2 ^ 40) 1 (h .z))
+corner-numbers b e = no-nans (b .min) (accepted b (subst T (sym e) tt) .low)
 
 -- the node that the code puts together
 abbrev nodeWith : Aabb → Grid → (count start : ℕ) → Own → Node

@@ -1,7 +1,7 @@
 -- A value with its zero unsigned: it is no -0, is otherwise the value itself, and lies within the bounds exactly if that does. And of a number that
 -- is no -0, to be below zero and to have the sign bit are the same.
 use mathlib.Core.Path.{_≡_, refl, sym, subst}
-use mathlib.Core.Bool.{Bool, true, false, not, cond}
+use mathlib.Core.Bool.{Bool, true, false, not, _||_, cond}
 use Prim.Native.Nat.{zero, suc, _+_, _*_, _^_}
 use native.Mathlib.Nat.{zero-lt-suc, mul-pos}
 use native.Mathlib.Omega.{arith}
@@ -13,6 +13,7 @@ use lib.Ieee.Bits.{is-true}
 use borrow.Author.Tests.{eq-eqb, ne-eqb, lt-ltb, le-ltb}
 use Rattle.float.specs.Compare.{plusZero, unsignedZero, isMinusZero, inBounds}
 use Rattle.float.specs.Sign.{signBit}
+use Rattle.float.proofs.Order.{le-self}
 use Rattle.float.proofs.Zeros.{zero-is}
 
 -- what equals 0 is a zero of one sign or the other
@@ -28,6 +29,19 @@ zero-equal : (s : Bool) (e : ℤ) → eq (fin s 0 e) plusZero ≡ true
 unfolding eq
 zero-equal true e = rw (eq-eqb (0 * up e * 1) (0 * down e) (omega arith), eq-eqb (0 * up e * 1) 0 (omega arith))
 zero-equal false e = rw (eq-eqb (0 * up e * 1) (0 * down e) (omega arith))
+
+equal-zero : (s : Bool) (e : ℤ) → eq plusZero (fin s 0 e) ≡ true
+unfolding eq
+equal-zero true e = rw (eq-eqb (0 * down e) (0 * up e * 1) (omega arith), eq-eqb (0 * down e) 0 (omega arith))
+equal-zero false e = rw (eq-eqb (0 * down e) (0 * up e * 1) (omega arith))
+
+le-of-eq : (x y : Float) → eq x y ≡ true → T (le x y)
+unfolding le
+le-of-eq x y e = go (lt x y)
+  where
+    go : (b : Bool) → T (b || eq x y)
+    go true = tt
+    go false = subst T (sym e) tt
 
 -- by the test whether it is a zero
 module _ (P : Float → Type 0) (x : Float) where
@@ -96,6 +110,19 @@ module _ (x : Float) where
             lt-ltb 0 (2 ^ 40 * down e + 0 * up e * 1) (omega (arith, down-pos e)),
             lt-ltb (0 * up e * 1) (2 ^ 40 * down e) (omega (arith, down-pos e)),
           )
+
+-- a number and its unsigned self are each at most the other
+module _ (x : Float) (number : T (not (isNan x))) where
+  pub unsigned-below : T (le (unsignedZero x) x)
+  unsigned-below = unsigned-cases (λ y. T (le y x)) x (zero-cases (λ y. T (le plusZero y)) (λ s e. le-of-eq plusZero (fin s 0 e) (equal-zero s e)) x)
+      (λ e. le-self x number)
+
+  pub unsigned-above : T (le x (unsignedZero x))
+  unsigned-above = unsigned-cases (λ y. T (le x y)) x (λ e. le-of-eq x plusZero e) (λ e. le-self x number)
+
+-- and it is a value of the format
+pub unsigned-fits : (f : Format) (x : Float) → T (fits f plusZero) → T (fits f x) → T (fits f (unsignedZero x))
+unsigned-fits f x z F = unsigned-cases (λ y. T (fits f y)) x (λ e. z) (λ e. F)
 
 -- of a number that is no -0
 pub below-zero-sign : (x : Float) → T (not (isNan x)) → isMinusZero x ≡ false → lt x plusZero ≡ signBit x

@@ -9,3 +9,4 @@ pub mod QueryBounds
 pub mod QueryAnswers
 pub mod WalkerNumbers
 pub mod ReportNumbers
+pub mod JoinNumbers

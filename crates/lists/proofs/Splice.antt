@@ -2,11 +2,11 @@
 use mathlib.Core.Path.{_≡_, sym, ap, ap₂, _∙_}
 use mathlib.Core.List.{List, [], _∷_, _++_, append-assoc}
 use Prim.Native.Nat.{ℕ, _+_, _-_, _≤_, _<_}
-use native.Mathlib.Nat.{add-assoc, add-zero}
+use native.Mathlib.Nat.{add-assoc, add-zero, zero-add}
 use native.Mathlib.Numerals.{add-one}
 use native.Mathlib.Omega.{arith}
 use lib.ListN.{length, take, drop, set, getD, length-append, length-drop, take-append-drop, List·getD-append}
-use lib.Seq.{length-take-le, take-at, drop-append-add, drop-drop, getD-append-add, getD-take, getD-drop, set-split}
+use lib.Seq.{length-take-le, take-at, drop-at, drop-append-add, drop-drop, getD-append-add, getD-take, getD-drop, set-split}
 use Rattle.lists.specs.Splice.{splice}
 
 module _ {A : Type 0} (s : List A) (at : ℕ) (b : List A) (fits : at + length b ≤ length s) where
@@ -72,6 +72,11 @@ splice-none s at = ap (λ (k : ℕ). take at s ++ drop k s) (add-zero at) ∙ ta
 pub set-splice : {A : Type 0} (s : List A) (at : ℕ) (v : A) → at < length s → set s at v ≡ splice s at (v ∷ [])
 unfolding splice
 set-splice s at v h = set-split s at v h ∙ ap (λ (k : ℕ). take at s ++ (v ∷ drop k s)) (sym (add-one at))
+
+-- what was written at the start leaves the rest
+pub splice-rest : {A : Type 0} (s b : List A) (n : ℕ) → length b ≡ n → drop n (splice s 0 b) ≡ drop n s
+unfolding splice
+splice-rest s b n e = drop-at b (drop (0 + length b) s) n e ∙ ap (λ (k : ℕ). drop k s) (zero-add (length b) ∙ e)
 
 -- what was written at the start is read back
 pub splice-taken : {A : Type 0} (s b : List A) (n : ℕ) → length b ≡ n → take n (splice s 0 b) ≡ b

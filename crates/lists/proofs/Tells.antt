@@ -66,6 +66,10 @@ and-tells (passes p) (passes q) = passes (p, q)
 and-tells (passes p) (fails q) = fails (λ h. q (h .1))
 and-tells (fails p) q = fails (λ h. p (h .0))
 
+pub both-pass : (a b : Bool) → a && b ≡ true → (a ≡ true) × (b ≡ true)
+both-pass true b e = (refl, e)
+both-pass false b e = clash e
+
 -- at every number below k
 pub below-tells : (P : ℕ → Type 0) (f : ℕ → Bool) → ((i : ℕ) → Tells (P i) (f i)) → (k : ℕ) → Tells ((i : ℕ) → i < k → P i) (allBelow f k)
 unfolding allBelow

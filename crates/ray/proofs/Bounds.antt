@@ -50,6 +50,10 @@ bounded v t =
       z = in-bounds-within (v .z) (and-r (inBounds (v .x) && inBounds (v .y)) (inBounds (v .z)) t);
     }
 
+-- so they are numbers
+pub no-nans : (v : Vec3) → Bounded v → T (not (isNan (v .x))) × T (not (isNan (v .y))) × T (not (isNan (v .z)))
+no-nans v h = (atmost-no-nan (v .x) (2 ^ 40) 1 (h .x), atmost-no-nan (v .y) (2 ^ 40) 1 (h .y), atmost-no-nan (v .z) (2 ^ 40) 1 (h .z))
+
 -- ---- inverses
 pub safe-inverse-within : (v : Float) → T (not (isNan v)) → Within 23 (safeInverse v)
 unfolding safeInverse

@@ -1,18 +1,17 @@
 // Slices that are lent filled with patterns, and what they hold afterwards.
 ghost use Prim.Native.Nat.{_≤_};
+use stored::WORD;
 use stored::all_are;
 use stored::word;
 
-// What lent words, bytes and costs hold before.
-pub const WORD: u32 = 0xdead_beef;
-
+// What lent bytes and costs hold before.
 pub const BYTE: u8 = 0xa5;
 
 pub const COST: f32 = 1.5;
 
 const COST_BITS: u32 = 0x3fc0_0000;
 
-// The most words and bytes that are compared with a case.
+// The most costs that are compared with a case.
 const MOST_COMPARED: usize = 65536;
 
 // Whether a float has this pattern. No NaN has.
@@ -47,24 +46,7 @@ fn all_bytes(bytes: &[u8], x: u8) -> bool {
     true
 }
 
-// Whether these are the words of a case from word `from` on.
-fn same_words(case: &[u8], from: usize, words: &[u32]) -> bool
-    requires { ⌜ from ≤ 65536 ⌝ }
-{
-    if words.len() > MOST_COMPARED {
-        return false;
-    }
-    let mut i = 0;
-    while i < words.len() {
-        if word(case, from + i) != words[i] {
-            return false;
-        }
-        i += 1;
-    }
-    true
-}
-
-// Whether these are its costs.
+// Whether these are the costs of a case from word `from` on.
 fn same_costs(case: &[u8], from: usize, costs: &[f32]) -> bool
     requires { ⌜ from ≤ 65536 ⌝ }
 {
@@ -102,20 +84,7 @@ fn same_bytes(case: &[u8], from: usize, bytes: &[u8]) -> bool
     true
 }
 
-// Whether the first `count` words are those of a case from word `from` on, and the others as they were lent.
-pub fn written_words(case: &[u8], from: usize, words: &[u32], count: usize) -> bool
-    requires { ⌜ from ≤ 65536 ⌝ }
-{
-    if count > words.len() {
-        return false;
-    }
-    if same_words(case, from, &words[..count]) {
-        return all_are(&words[count..], WORD);
-    }
-    false
-}
-
-// The same for costs.
+// Whether the first `count` costs are those of a case from word `from` on, and the others as they were lent.
 pub fn written_costs(case: &[u8], from: usize, costs: &[f32], count: usize) -> bool
     requires { ⌜ from ≤ 65536 ⌝ }
 {
@@ -137,17 +106,6 @@ pub fn written_bytes(case: &[u8], from: usize, bytes: &[u8], count: usize) -> bo
     }
     if same_bytes(case, from, &bytes[..count]) {
         return all_bytes(&bytes[count..], BYTE);
-    }
-    false
-}
-
-// Whether the first `count` words are zero, and the others as they were lent.
-pub fn cleared_words(words: &[u32], count: usize) -> bool {
-    if count > words.len() {
-        return false;
-    }
-    if all_are(&words[..count], 0) {
-        return all_are(&words[count..], WORD);
     }
     false
 }

@@ -3,7 +3,7 @@ ghost use Prim.Native.Nat.{_≤_};
 use crate::lent;
 use crate::lent::BYTE;
 use crate::lent::COST;
-use crate::lent::WORD;
+use stored::WORD;
 use stored::word;
 
 // The most leaves that it takes, the words of their tree, the bytes of their record, and the characters of the text.

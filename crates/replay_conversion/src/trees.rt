@@ -4,11 +4,13 @@ ghost use lib.ListN.{length};
 use crate::lent;
 use crate::lent::BYTE;
 use crate::lent::COST;
-use crate::lent::WORD;
 use bvh2_to_cwbvh::Conversion;
 use bvh2_to_cwbvh::bvh2_to_cwbvh;
+use stored::WORD;
+use stored::cleared_words;
 use stored::copy_words;
 use stored::word;
+use stored::written_words;
 
 // Room for the words of a tree, its index words, and the bytes of its record.
 const MOST_WORDS: usize = 2048;
@@ -92,7 +94,7 @@ fn same_slices(
     }
     let tables = 5 + size + n;
     let outputs = tables + 2 * size;
-    if !lent::written_words(case, tables, decisions, size) {
+    if !written_words(case, tables, decisions, size) {
         return false;
     }
     if !lent::written_costs(case, tables + size, costs, size) {
@@ -101,7 +103,7 @@ fn same_slices(
     if !lent::written_bytes(case, outputs, record, node::BYTES * nodes) {
         return false;
     }
-    lent::written_words(case, outputs + 20 * nodes, list, n)
+    written_words(case, outputs + 20 * nodes, list, n)
 }
 
 // Whether a conversion with these slices ends as an accepted case says.
@@ -234,7 +236,7 @@ fn ends_refused(
         return false;
     }
     let size = cleared(number, words.len());
-    if lent::cleared_words(decisions, size) {
+    if cleared_words(decisions, size) {
         return lent::cleared_costs(costs, size);
     }
     false

@@ -1,9 +1,11 @@
 // A stored ray on a large record: any-hit with a list of just the length needed and with one word less, closest, miss, and a walker to its end.
-use crate::digests;
 use any_hit::AnyHit;
 use closest::ClosestHit;
 use closest::Occlusion;
+use stored::WORD;
 use stored::all_are;
+use stored::digest_with;
+use stored::digested_words;
 use stored::pattern;
 use stored::real;
 use stored::vector;
@@ -11,26 +13,13 @@ use stored::word;
 use traverse::Answer;
 use traverse::Walker;
 
-// Room for all positions and guard words past them, and what these hold before.
+// Room for all positions and guard words past them.
 const SPACE: usize = 20064;
-
-const BEFORE: u32 = 0xdead_beef;
 
 // The most steps of a walk.
 const MOST_STEPS: u32 = 1000000;
 
 // ---- any-hit
-
-// Whether the first words have this digest, and the others are as they were.
-fn same_list(space: &[u32], count: usize, digest: u32) -> bool {
-    if count > space.len() {
-        return false;
-    }
-    if digests::of_words(&space[..count]) != digest {
-        return false;
-    }
-    all_are(&space[count..], BEFORE)
-}
 
 // Whether any-hit with room for so many positions answers as stored from word 8 on: tests, positions, digest.
 fn same_any(ray: &[u8], record: &[u8], n: usize, room: usize, space: &mut [u32]) -> bool {
@@ -55,13 +44,13 @@ fn same_any(ray: &[u8], record: &[u8], n: usize, room: usize, space: &mut [u32])
             if count != word(ray, 9) {
                 return false;
             }
-            same_list(space, count as usize, word(ray, 10))
+            digested_words(space, count as usize, word(ray, 10))
         }
         AnyHit::Short(needed) => {
             if room >= needed as usize {
                 return false;
             }
-            needed == word(ray, 9) && all_are(space, BEFORE)
+            needed == word(ray, 9) && all_are(space, WORD)
         }
         AnyHit::Refused(_) => false,
     }
@@ -69,7 +58,7 @@ fn same_any(ray: &[u8], record: &[u8], n: usize, room: usize, space: &mut [u32])
 
 // The same with words that hold a pattern before.
 fn same_lent(ray: &[u8], record: &[u8], n: usize, room: usize) -> bool {
-    let mut space = [BEFORE; SPACE];
+    let mut space = [WORD; SPACE];
     same_any(ray, record, n, room, &mut space)
 }
 
@@ -165,7 +154,7 @@ fn stepped(ray: &[u8], walk: Walk, record: &[u8], n: usize) -> Walk {
         Answer::Tested(_) => Walk {
             walker: after,
             steps: next(walk.steps),
-            digest: digests::more(walk.digest, 0),
+            digest: digest_with(walk.digest, 0),
             ..walk
         },
         Answer::Position(p) => {
@@ -174,7 +163,7 @@ fn stepped(ray: &[u8], walk: Walk, record: &[u8], n: usize) -> Walk {
                 walker: told,
                 steps: next(walk.steps),
                 reports: next(walk.reports),
-                digest: digests::more(walk.digest, next(p)),
+                digest: digest_with(walk.digest, next(p)),
                 ..walk
             }
         }

@@ -7,6 +7,7 @@ use crate::made::put_tree;
 use crate::rays::same_ray;
 use bvh2_to_cwbvh::Conversion;
 use bvh2_to_cwbvh::bvh2_to_cwbvh;
+use stored::digest_of;
 use stored::word;
 use validate::Validity;
 
@@ -67,7 +68,7 @@ fn same_record(case: &[u8], space: &[u8], list: &[u32], panes: &[f32]) -> bool {
     if digests::of_bytes(record) != word(case, 9) {
         return false;
     }
-    if digests::of_words(list) != word(case, 10) {
+    if digest_of(list) != word(case, 10) {
         return false;
     }
     if !sound(record, list.len(), word(case, 6)) {
@@ -109,7 +110,7 @@ fn converts(
     if !is_converted(answer, word(case, 5), word(case, 6)) {
         return false;
     }
-    if digests::of_words(decisions) != word(case, 7) {
+    if digest_of(decisions) != word(case, 7) {
         return false;
     }
     if digests::of_floats(costs) != word(case, 8) {

@@ -5,11 +5,12 @@ ghost use lib.ListN.{length};
 use crate::lent;
 use crate::lent::BEFORE;
 use crate::lent::all_are;
-use crate::lent::wide;
 use crate::single;
 use loss::Totals;
 use stored::copy_bytes;
+use stored::fill;
 use stored::real;
+use stored::wide;
 use stored::word;
 use stored::zero_record;
 
@@ -29,15 +30,6 @@ const FEW_BYTES: usize = 160;
 
 // The bytes of a node.
 const NODE: usize = 80;
-
-// Sets all words to x.
-fn fill(words: &mut [u32], x: u32) {
-    let mut i: usize = 0;
-    while i < words.len() {
-        words[i] = x;
-        i += 1;
-    }
-}
 
 // Sets all rays to the one of a case.
 fn fill_rays(case: &[u8], floats: &mut [f32]) {

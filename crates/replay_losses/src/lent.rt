@@ -1,19 +1,12 @@
 // Totals of 64 bits, two words of a case each, and the words that are lent for them.
 ghost use Prim.Native.Nat.{_≤_};
-use stored::word;
+use stored::wide;
 
 // What every lent word holds before.
 pub const BEFORE: u64 = 0xdead_beef_0bad_cafe;
 
 // The most totals that are compared with a case.
 const MOST_COMPARED: usize = 65536;
-
-// Words i and i + 1 of a case as one number, the low one first.
-pub fn wide(case: &[u8], i: usize) -> u64
-    requires { ⌜ i ≤ 1048576 ⌝ }
-{
-    word(case, i) as u64 + word(case, i + 1) as u64 * 4294967296
-}
 
 // Whether every one of these totals is x.
 pub fn all_are(totals: &[u64], x: u64) -> bool {

@@ -2,12 +2,12 @@
 ghost use Prim.Native.Nat.{_≤_};
 use crate::lent;
 use crate::lent::BEFORE;
-use crate::lent::wide;
 use crate::single;
 use loss::Totals;
 use stored::copy_bytes;
 use stored::copy_reals;
 use stored::copy_words;
+use stored::wide;
 use stored::word;
 
 // Room for the bytes of a record, its index words, its losses and the floats of its rays.

@@ -1,8 +1,8 @@
 // The loss of one ray by itself.
-use crate::lent::wide;
 use loss::RayLoss;
 use stored::real;
 use stored::vector;
+use stored::wide;
 use stored::word;
 
 // Whether a stored answer is this number, sum and count of node tests.

@@ -24,6 +24,13 @@ pub fn word(case: &[u8], i: usize) -> u32 {
     0
 }
 
+// Words i and i + 1 of a case as one number, the low one first.
+pub fn wide(case: &[u8], i: usize) -> u64
+    requires { ⌜ i ≤ 1048576 ⌝ }
+{
+    word(case, i) as u64 + word(case, i + 1) as u64 * 4294967296
+}
+
 // The words of a case from word `from` on, as many as `into` has, up to MOST_COPIED.
 pub fn copy_words(case: &[u8], from: usize, into: &mut [u32])
     requires { ⌜ from ≤ 65536 ⌝ }

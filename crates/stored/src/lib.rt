@@ -1,5 +1,7 @@
 // Internal: files of stored answers, read case by case (oracle/README.md says how they are laid out).
 mod cases;
+mod digests;
+mod lent;
 mod names;
 
 pub use cases::all_are;
@@ -12,8 +14,16 @@ pub use cases::real;
 pub use cases::same;
 pub use cases::same_vector;
 pub use cases::vector;
+pub use cases::wide;
 pub use cases::word;
 pub use cases::zero_record;
+pub use digests::digest_of;
+pub use digests::digest_with;
+pub use lent::WORD;
+pub use lent::cleared_words;
+pub use lent::digested_words;
+pub use lent::fill;
+pub use lent::written_words;
 ghost use mathlib.Core.Path.{_≡_};
 ghost use Prim.Native.Nat.{_≤_, _<_};
 ghost use lib.ListN.{length};

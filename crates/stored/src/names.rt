@@ -37,6 +37,8 @@ pub fn print_name(kind: u32) {
         42 => io::write_all(STDOUT_FILENO, b"large trees"),
         43 => io::write_all(STDOUT_FILENO, b"losses"),
         44 => io::write_all(STDOUT_FILENO, b"losses by lengths"),
+        45 => io::write_all(STDOUT_FILENO, b"joins"),
+        46 => io::write_all(STDOUT_FILENO, b"joins by lengths"),
         _ => io::write_all(STDOUT_FILENO, b"unknown"),
     }
     ;

@@ -5,6 +5,7 @@ use Prim.Native.Nat.{ℕ}
 use lib.ListN.{length, length-map}
 use Rattle.aabb.specs.declared.Aabb.{Aabb}
 use Rattle.bvh2.specs.Tree.{Tree, leaf, inner, boxOf, positions, relabel}
+use Rattle.bvh2.proofs.Moved.{box-relabel, positions-relabel}
 use Rattle.cost.specs.Table.{Kind, LEAF, INTERNAL, DISTRIBUTE, table}
 use Rattle.cost.proofs.Labels.{table-relabel}
 use Rattle.children.specs.Gather.{opened, gather, part}
@@ -63,16 +64,6 @@ module _ {A : Type 0} (place : Placing) (limit : ℕ) where
   slots-gathered t = ap (filledSlots place (boxOf t)) (children-gathered t 0)
 
 -- ---- other labels
-box-relabel : {A B : Type 0} (f : A → B) (t : Tree A) → boxOf (relabel f t) ≡ boxOf t
-unfolding boxOf relabel
-box-relabel f (leaf v box p) = refl
-box-relabel f (inner v box a b) = refl
-
-positions-relabel : {A B : Type 0} (f : A → B) (t : Tree A) → positions (relabel f t) ≡ positions t
-unfolding positions relabel
-positions-relabel f (leaf v box p) = refl
-positions-relabel f (inner v box a b) = rw (positions-relabel f a, positions-relabel f b)
-
 child-relabel : {A B : Type 0} (place : Placing) (limit : ℕ) (f : A → B) (t : Tree A) (k : Kind) (cs : List Child)
     → childAs place k (relabel f t) cs ≡ childAs place k t cs
 child-relabel place limit f t LEAF cs = rw (box-relabel f t, positions-relabel f t)

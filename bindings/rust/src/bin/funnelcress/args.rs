@@ -43,6 +43,10 @@ impl Args {
         self.out.as_deref().ok_or(Failure::Words("-o is needed, with a name to write to".into()))
     }
 
+    pub fn panes(&self) -> Result<usize, Failure> {
+        self.panes.ok_or(Failure::Words("--panes is needed, with how many panes the first tree is over".into()))
+    }
+
     pub fn threads(&self) -> usize {
         self.threads.unwrap_or_else(funnelcress::cores)
     }

@@ -13,6 +13,7 @@ type Command = fn(&Args) -> Result<(), Failure>;
 pub fn named(name: &str) -> Option<(&'static str, Command)> {
     Some(match name {
         "tree" => (help::TREE, tree),
+        "join" => (help::JOIN, join),
         "convert" => (help::CONVERT, convert),
         "check" => (help::CHECK, check),
         "any-hit" => (help::ANY_HIT, any_hit),
@@ -28,6 +29,16 @@ fn tree(args: &Args) -> Result<(), Failure> {
     let out = args.out()?;
     let tree = Tree::over(&files::panes(panes)?);
     files::write(out, &files::tree_bytes(&tree, args.limit.unwrap_or(3), args.order.unwrap_or(1)))?;
+    output::text(&format!("{} leaves\n", tree.indices().len()))
+}
+
+fn join(args: &Args) -> Result<(), Failure> {
+    let [first, second] = args.files()?;
+    let (panes, out) = (args.panes()?, args.out()?);
+    let (first, limit, order) = files::tree(first)?;
+    let (second, ..) = files::tree(second)?;
+    let tree = first.join(panes, &second)?;
+    files::write(out, &files::tree_bytes(&tree, args.limit.unwrap_or(limit), args.order.unwrap_or(order)))?;
     output::text(&format!("{} leaves\n", tree.indices().len()))
 }
 

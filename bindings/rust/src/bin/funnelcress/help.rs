@@ -4,6 +4,7 @@ pub const ALL: &str = "\
 usage: funnelcress COMMAND ..
 
   tree      panes to the words of a plain binary tree over them
+  join      two trees to one under a new root
   convert   a tree's words to a record and its index list
   check     whether a record is sound
   any-hit   the positions that each ray passes
@@ -23,6 +24,17 @@ PANES has a box a line, min x y z max x y z (what stands behind is left), or pac
 TREE is written as little-endian words: n, leaf limit, order, seven words a node, n index words.
 
 example: funnelcress tree house.txt -o house.tree
+";
+
+pub const JOIN: &str = "\
+usage: funnelcress join FIRST SECOND --panes N -o TREE [--limit L] [--order 0|1]
+
+Writes TREE, the trees of FIRST and SECOND under a new root whose box is the union of theirs: FIRST's leaves, then
+SECOND's, all other boxes as they were. N is how many panes FIRST is over, and is added to each index word of SECOND: in
+TREE the panes of FIRST come first, then those of SECOND, and so must they in a list of panes or losses. Next to an empty
+tree the other stays as it is. The leaf limit and the order written are those of FIRST unless given.
+
+example: funnelcress join house.tree annex.tree --panes 42 -o both.tree
 ";
 
 pub const CONVERT: &str = "\

@@ -16,8 +16,8 @@ loop-holds c = search needs
 word-requires : tie.Need-word-requires Inv-loop μ-loop
 word-requires c κs = search needs
 
-more-requires : tie.Need-more-requires Inv-loop μ-loop
-more-requires c κs = search needs
+digest-with-requires : tie.Need-digest-with-requires Inv-loop μ-loop
+digest-with-requires c κs = search needs
 
 add-i : tie.Need-add-i Inv-loop μ-loop
 add-i c = search needs
@@ -39,7 +39,7 @@ of-bytes-spec =
     μ-loop
     loop-holds
     word-requires
-    more-requires
+    digest-with-requires
     add-i
     loop-less
     loop-again

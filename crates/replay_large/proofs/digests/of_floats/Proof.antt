@@ -23,8 +23,8 @@ shared-slice-read-pattern c = search needs
 pattern-requires : tie.Need-pattern-requires Inv-loop μ-loop
 pattern-requires c κs = search needs
 
-more-requires : tie.Need-more-requires Inv-loop μ-loop
-more-requires c κs = search needs
+digest-with-requires : tie.Need-digest-with-requires Inv-loop μ-loop
+digest-with-requires c κs = search needs
 
 add-i : tie.Need-add-i Inv-loop μ-loop
 add-i c = search needs
@@ -48,7 +48,7 @@ of-floats-spec =
     mul-pattern
     shared-slice-read-pattern
     pattern-requires
-    more-requires
+    digest-with-requires
     add-i
     loop-less
     loop-again

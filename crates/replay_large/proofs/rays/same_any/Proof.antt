@@ -51,14 +51,14 @@ same-length-2 c = search needs
 returns-3 : tie.Need-returns-3
 returns-3 c = search needs
 
-cast-same-list : tie.Need-cast-same-list
-cast-same-list c = search needs
+cast-digested-words : tie.Need-cast-digested-words
+cast-digested-words c = search needs
 
 word-requires-3 : tie.Need-word-requires-3
 word-requires-3 c κs = search needs
 
-same-list-requires : tie.Need-same-list-requires
-same-list-requires c κs = search needs
+digested-words-requires : tie.Need-digested-words-requires
+digested-words-requires c κs = search needs
 
 enum-known-answer-2 : tie.Need-enum-known-answer-2
 enum-known-answer-2 c = search needs
@@ -124,9 +124,9 @@ same-any-spec =
     word-requires-2
     same-length-2
     returns-3
-    cast-same-list
+    cast-digested-words
     word-requires-3
-    same-list-requires
+    digested-words-requires
     enum-known-answer-2
     cast-if4
     same-length-3

@@ -30,8 +30,8 @@ word-requires-2 c κs = search needs
 returns-2 : tie.Need-returns-2
 returns-2 c = search needs
 
-of-words-requires : tie.Need-of-words-requires
-of-words-requires c κs = search needs
+digest-of-requires : tie.Need-digest-of-requires
+digest-of-requires c κs = search needs
 
 word-requires-3 : tie.Need-word-requires-3
 word-requires-3 c κs = search needs
@@ -66,7 +66,7 @@ same-record-spec =
     of-bytes-requires
     word-requires-2
     returns-2
-    of-words-requires
+    digest-of-requires
     word-requires-3
     returns-3
     word-requires-4

@@ -1,0 +1,13 @@
+pub mod Causes
+pub mod Joinable
+pub mod Joined
+pub mod MovedNodes
+pub mod Nodes
+pub mod Panes
+pub mod Read
+pub mod Refusals
+pub mod Standing
+pub mod Tree
+pub mod UnderRoot
+pub mod Unless
+pub mod Written

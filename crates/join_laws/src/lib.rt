@@ -1,0 +1,1 @@
+// Internal: what two joined trees are, as theorems about the call `join`. Laws; no code.
