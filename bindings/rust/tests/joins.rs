@@ -1,24 +1,11 @@
 //! Two trees joined: the samples, what is refused and in which order, and what the joined tree's record meets.
-use funnelcress::{Link, Node, Options, Pane, Ray, Refusal, Tree, Verdict};
+mod common;
 
-const PANES: [Pane; 2] = [[0.0, 0.0, 0.0, 1.0, 1.0, 1.0], [2.0, 0.0, 0.0, 3.0, 1.0, 1.0]];
+use common::{PANES, node, sample};
+use funnelcress::{Link, Node, Options, Pane, Ray, Refusal, Tree, Verdict};
 
 /// The most that an index word holds.
 const MOST: usize = u32::MAX as usize;
-
-fn node(min: [f32; 3], max: [f32; 3], link: Link) -> Node {
-    Node { min, max, link }
-}
-
-/// T, the sample tree: a root over two leaves.
-fn sample() -> Tree {
-    let nodes = [
-        node([0.0; 3], [3.0, 1.0, 1.0], Link::Inner(1)),
-        node([0.0; 3], [1.0; 3], Link::Leaf(0)),
-        node([2.0, 0.0, 0.0], [3.0, 1.0, 1.0], Link::Leaf(1)),
-    ];
-    Tree::from_nodes(&nodes, vec![0, 1]).unwrap()
-}
 
 /// One leaf with a box and an index word.
 fn lone(min: [f32; 3], max: [f32; 3], index: u32) -> Tree {

@@ -1,23 +1,8 @@
 //! The samples of the requirements, through the safe types.
-use funnelcress::{
-    Hit, Link, Node, Options, Pane, Ray, Record, Refusal, Report, State, Step, Tree, Verdict, entry_distances,
-};
+mod common;
 
-const PANES: [Pane; 2] = [[0.0, 0.0, 0.0, 1.0, 1.0, 1.0], [2.0, 0.0, 0.0, 3.0, 1.0, 1.0]];
-
-fn node(min: [f32; 3], max: [f32; 3], link: Link) -> Node {
-    Node { min, max, link }
-}
-
-/// The sample tree: a root over two leaves.
-fn sample() -> Tree {
-    let nodes = [
-        node([0.0; 3], [3.0, 1.0, 1.0], Link::Inner(1)),
-        node([0.0; 3], [1.0; 3], Link::Leaf(0)),
-        node([2.0, 0.0, 0.0], [3.0, 1.0, 1.0], Link::Leaf(1)),
-    ];
-    Tree::from_nodes(&nodes, vec![0, 1]).unwrap()
-}
+use common::{PANES, node, sample};
+use funnelcress::{Hit, Link, Options, Ray, Record, Refusal, Report, State, Step, Tree, Verdict, entry_distances};
 
 /// Its record, the children as gathered.
 fn unordered() -> Record {

@@ -1,20 +1,18 @@
 -- The union of two accepted boxes is accepted, holds both, and has no -0 among its ends.
 use mathlib.Core.Bool.{Bool, true, false, not, _&&_, cond}
 use mathlib.Core.Path.{_≡_, refl, sym, subst, _∙_}
-use Prim.Native.Nat.{_^_}
 use lib.Dec.{T}
 use lib.Ieee.{Float, binary32, fits, isNan, lt, le}
 use lib.Ieee.Bits.{is-true}
 use Rattle.lists.proofs.Tells.{both-pass}
 use Rattle.float.specs.Compare.{minOf, maxOf, unsignedZero, inBounds}
-use Rattle.float.proofs.Magnitude.{atmost-no-nan}
 use Rattle.float.proofs.Order.{le-of-lt, le-of-not-lt, le-self, le-transitive}
 use Rattle.float.proofs.Unsigned.{unsigned-plain, unsigned-bounds, unsigned-below, unsigned-above, unsigned-fits}
 use Rattle.ray.specs.declared.Vec3.{Vec3}
 use Rattle.ray.specs.Ray.{boundedVec}
-use Rattle.ray.proofs.Bounds.{in-bounds-within}
+use Rattle.ray.proofs.Bounds.{bounded, no-nans}
 use Rattle.aabb.specs.declared.Aabb.{Aabb}
-use Rattle.aabb.specs.Aabb.{unionOf, inOrder, acceptedBox, HoldsBox, NoMinusZero}
+use Rattle.aabb.specs.Aabb.{each, unionOf, inOrder, acceptedBox, NotOver, HoldsBox, NoMinusZero}
 use Rattle.aabb.proofs.Bounds.{accepted}
 
 -- ---- one end: one of the two, and at most or at least both
@@ -82,7 +80,7 @@ pub upper-fits : (a b : Float) → T (fits binary32 a) → T (fits binary32 b) �
 unfolding fits
 upper-fits a b p q = unsigned-fits binary32 (maxOf a b) tt (max-cases (λ x. T (fits binary32 x)) a b (λ e. p) (λ e. q))
 
--- ---- whole boxes
+-- ---- corners
 -- the components of a bounded vector
 components : (v : Vec3) → boundedVec v ≡ true → (inBounds (v .x) ≡ true) × (inBounds (v .y) ≡ true) × (inBounds (v .z) ≡ true)
 unfolding boundedVec
@@ -91,77 +89,94 @@ components v e =
     let x = both-pass (inBounds (v .x)) (inBounds (v .y)) (xy .0) in
     (x .0, x .1, xy .1)
 
+-- the lower and the upper corner of a union
+abbrev lowers : Vec3 → Vec3 → Vec3
+lowers u v = each (λ p q. unsignedZero (minOf p q)) u v
+
+abbrev uppers : Vec3 → Vec3 → Vec3
+uppers u v = each (λ p q. unsignedZero (maxOf p q)) u v
+
+module _ (u v : Vec3) (h : boundedVec u ≡ true) (k : boundedVec v ≡ true) where
+  numbers : (T (not (isNan (u .x))) × T (not (isNan (u .y))) × T (not (isNan (u .z))))
+      × (T (not (isNan (v .x))) × T (not (isNan (v .y))) × T (not (isNan (v .z))))
+  numbers = (no-nans u (bounded u (subst T (sym h) tt)), no-nans v (bounded v (subst T (sym k) tt)))
+
+  -- both are bounded,
+  lowers-bounded : boundedVec (lowers u v) ≡ true
+  unfolding boundedVec
+  lowers-bounded =
+      let p = components u h in
+      let q = components v k in
+      rw (
+        lower-bounded (u .x) (v .x) (p .0) (q .0),
+        lower-bounded (u .y) (v .y) (p .1) (q .1),
+        lower-bounded (u .z) (v .z) (p .2) (q .2),
+      )
+
+  uppers-bounded : boundedVec (uppers u v) ≡ true
+  unfolding boundedVec
+  uppers-bounded =
+      let p = components u h in
+      let q = components v k in
+      rw (
+        upper-bounded (u .x) (v .x) (p .0) (q .0),
+        upper-bounded (u .y) (v .y) (p .1) (q .1),
+        upper-bounded (u .z) (v .z) (p .2) (q .2),
+      )
+
+  -- the lower one is over neither, and neither over the upper one
+  lowers-not-over : NotOver (lowers u v) u × NotOver (lowers u v) v
+  lowers-not-over =
+      let p = numbers .0 in
+      let q = numbers .1 in (
+        (lower-first _ _ (p .0) (q .0), lower-first _ _ (p .1) (q .1), lower-first _ _ (p .2) (q .2)),
+        (lower-second _ _ (p .0) (q .0), lower-second _ _ (p .1) (q .1), lower-second _ _ (p .2) (q .2)),
+      )
+
+  not-over-uppers : NotOver u (uppers u v) × NotOver v (uppers u v)
+  not-over-uppers =
+      let p = numbers .0 in
+      let q = numbers .1 in (
+        (upper-first _ _ (p .0) (q .0), upper-first _ _ (p .1) (q .1), upper-first _ _ (p .2) (q .2)),
+        (upper-second _ _ (p .0) (q .0), upper-second _ _ (p .1) (q .1), upper-second _ _ (p .2) (q .2)),
+      )
+
+-- ---- whole boxes
 pub corners-bounded : (b : Aabb) → acceptedBox b ≡ true → (boundedVec (b .min) ≡ true) × (boundedVec (b .max) ≡ true)
 unfolding acceptedBox
 corners-bounded b e = both-pass (boundedVec (b .min)) (boundedVec (b .max)) (both-pass (boundedVec (b .min) && boundedVec (b .max)) (inOrder b) e .0)
 
-number : (x : Float) → inBounds x ≡ true → T (not (isNan x))
-number x e = atmost-no-nan x (2 ^ 40) 1 (in-bounds-within x (subst T (sym e) tt))
-
 module _ (a b : Aabb) (h : acceptedBox a ≡ true) (k : acceptedBox b ≡ true) where
-  -- ends in order: the lower one is at most the first's, that at most the first's upper one, that at most the union's
-  ordered : (p q u v : Float) → inBounds p ≡ true → inBounds q ≡ true → inBounds u ≡ true → inBounds v ≡ true → T (le p u)
-      → le (unsignedZero (minOf p q)) (unsignedZero (maxOf u v)) ≡ true
-  ordered p q u v hp hq hu hv l =
-      let low = lower-first p q (number p hp) (number q hq) in
-      is-true _ (le-transitive _ _ _ (le-transitive _ _ _ low l) (upper-first u v (number u hu) (number v hv)))
+  low : NotOver (lowers (a .min) (b .min)) (a .min) × NotOver (lowers (a .min) (b .min)) (b .min)
+  low = lowers-not-over (a .min) (b .min) (corners-bounded a h .0) (corners-bounded b k .0)
 
-  pub union-accepted : acceptedBox (unionOf a b) ≡ true
-  unfolding acceptedBox unionOf boundedVec inOrder
-  union-accepted =
-      let o = accepted a (subst T (sym h) tt) in
-      let p = components (a .min) (corners-bounded a h .0) in
-      let q = components (b .min) (corners-bounded b k .0) in
-      let u = components (a .max) (corners-bounded a h .1) in
-      let v = components (b .max) (corners-bounded b k .1) in
-      rw (
-        lower-bounded (a .min .x) (b .min .x) (p .0) (q .0),
-        lower-bounded (a .min .y) (b .min .y) (p .1) (q .1),
-        lower-bounded (a .min .z) (b .min .z) (p .2) (q .2),
-        upper-bounded (a .max .x) (b .max .x) (u .0) (v .0),
-        upper-bounded (a .max .y) (b .max .y) (u .1) (v .1),
-        upper-bounded (a .max .z) (b .max .z) (u .2) (v .2),
-        ordered (a .min .x) (b .min .x) (a .max .x) (b .max .x) (p .0) (q .0) (u .0) (v .0) (o .x),
-        ordered (a .min .y) (b .min .y) (a .max .y) (b .max .y) (p .1) (q .1) (u .1) (v .1) (o .y),
-        ordered (a .min .z) (b .min .z) (a .max .z) (b .max .z) (p .2) (q .2) (u .2) (v .2) (o .z),
-      )
+  high : NotOver (a .max) (uppers (a .max) (b .max)) × NotOver (b .max) (uppers (a .max) (b .max))
+  high = not-over-uppers (a .max) (b .max) (corners-bounded a h .1) (corners-bounded b k .1)
 
   pub union-first : HoldsBox (unionOf a b) a
   unfolding unionOf
-  union-first =
-      let p = components (a .min) (corners-bounded a h .0) in
-      let q = components (b .min) (corners-bounded b k .0) in
-      let u = components (a .max) (corners-bounded a h .1) in
-      let v = components (b .max) (corners-bounded b k .1) in (
-        (
-          lower-first (a .min .x) (b .min .x) (number (a .min .x) (p .0)) (number (b .min .x) (q .0)),
-          lower-first (a .min .y) (b .min .y) (number (a .min .y) (p .1)) (number (b .min .y) (q .1)),
-          lower-first (a .min .z) (b .min .z) (number (a .min .z) (p .2)) (number (b .min .z) (q .2)),
-        ),
-        (
-          upper-first (a .max .x) (b .max .x) (number (a .max .x) (u .0)) (number (b .max .x) (v .0)),
-          upper-first (a .max .y) (b .max .y) (number (a .max .y) (u .1)) (number (b .max .y) (v .1)),
-          upper-first (a .max .z) (b .max .z) (number (a .max .z) (u .2)) (number (b .max .z) (v .2)),
-        ),
-      )
+  union-first = (low .0, high .0)
 
   pub union-second : HoldsBox (unionOf a b) b
   unfolding unionOf
-  union-second =
-      let p = components (a .min) (corners-bounded a h .0) in
-      let q = components (b .min) (corners-bounded b k .0) in
-      let u = components (a .max) (corners-bounded a h .1) in
-      let v = components (b .max) (corners-bounded b k .1) in (
-        (
-          lower-second (a .min .x) (b .min .x) (number (a .min .x) (p .0)) (number (b .min .x) (q .0)),
-          lower-second (a .min .y) (b .min .y) (number (a .min .y) (p .1)) (number (b .min .y) (q .1)),
-          lower-second (a .min .z) (b .min .z) (number (a .min .z) (p .2)) (number (b .min .z) (q .2)),
-        ),
-        (
-          upper-second (a .max .x) (b .max .x) (number (a .max .x) (u .0)) (number (b .max .x) (v .0)),
-          upper-second (a .max .y) (b .max .y) (number (a .max .y) (u .1)) (number (b .max .y) (v .1)),
-          upper-second (a .max .z) (b .max .z) (number (a .max .z) (u .2)) (number (b .max .z) (v .2)),
-        ),
+  union-second = (low .1, high .1)
+
+  -- its ends are in order: the lower at most the first's lower, that at most the first's upper, that at most the upper
+  through : (p q u v : Float) → T (le p q) → T (le q u) → T (le u v) → le p v ≡ true
+  through p q u v x y z = is-true _ (le-transitive p u v (le-transitive p q u x y) z)
+
+  pub union-accepted : acceptedBox (unionOf a b) ≡ true
+  unfolding acceptedBox unionOf inOrder
+  union-accepted =
+      let o = accepted a (subst T (sym h) tt) in
+      let l = low .0 in
+      let g = high .0 in
+      rw (
+        lowers-bounded (a .min) (b .min) (corners-bounded a h .0) (corners-bounded b k .0),
+        uppers-bounded (a .max) (b .max) (corners-bounded a h .1) (corners-bounded b k .1),
+        through _ (a .min .x) (a .max .x) _ (l .0) (o .x) (g .0),
+        through _ (a .min .y) (a .max .y) _ (l .1) (o .y) (g .1),
+        through _ (a .min .z) (a .max .z) _ (l .2) (o .z) (g .2),
       )
 
 -- no end is -0, whatever the boxes

@@ -9,6 +9,7 @@ use lib.Dec.{eqb, ltb}
 use denote.Enum.Declared.{tagOf}
 use types.Run.{OneOf}
 use borrow.Author.Tests.{eq-eqb, ne-eqb, lt-ltb, ltb-true, eqb-true}
+use Rattle.lists.proofs.Tells.{both-pass}
 use Rattle.ray.specs.declared.Ray.{Ray}
 use Rattle.faststack.specs.Stack.{capacity}
 use Rattle.walk.specs.Step as S
@@ -60,11 +61,6 @@ module _ (t : Turn) (left : ℕ) where
 
 -- ---- a search, turn by turn, for any fields and masks of nodes and any rays
 
-and-true : (a b : Bool) → a && b ≡ true → (a ≡ true) × (b ≡ true)
-and-true true true e = (refl, refl)
-and-true true false e = (refl, e)
-and-true false b e = (e, absurd (let z : _≡_ {A = ℕ} 0 1 = cc in omega arith))
-
 module _ {RayData Distance : Type 0} (m : ℕ) (N : NodeWords RayData Distance) (n : ℕ) (w : WalkerWords RayData) (r : SteppedWords RayData) (left : ℕ)
     (turn : r ≡ advanceWords m N n w) where
   -- with k more turns allowed after it
@@ -93,7 +89,7 @@ module _ {RayData Distance : Type 0} (m : ℕ) (N : NodeWords RayData Distance) 
 
   -- another follows
   pub seek-goes : (findsNone r && ltb 0 left) ≡ true → seekWords m N (left - 1) n (r .walker) ≡ seekWords m N left n w
-  seek-goes h = go left (and-true (findsNone r) (ltb 0 left) h .0) (ltb-true 0 left (and-true (findsNone r) (ltb 0 left) h .1))
+  seek-goes h = go left (both-pass (findsNone r) (ltb 0 left) h .0) (ltb-true 0 left (both-pass (findsNone r) (ltb 0 left) h .1))
     where
       go : (k : ℕ) → findsNone r ≡ true → 0 < k → seekWords m N (k - 1) n (r .walker) ≡ seekWords m N k n w
       go zero f l = absurd (omega arith)
@@ -103,16 +99,16 @@ module _ {RayData Distance : Type 0} (m : ℕ) (N : NodeWords RayData Distance) 
 
   -- and then no position is in hand
   pub seek-none : (findsNone r && ltb 0 left) ≡ true → r .walker .positions .bits ≡ 0
-  seek-none h = eqb-true _ _ (and-true (isTest (r .answer)) _ (and-true (findsNone r) (ltb 0 left) h .0) .1)
+  seek-none h = eqb-true _ _ (both-pass (isTest (r .answer)) _ (both-pass (findsNone r) (ltb 0 left) h .0) .1)
 
   -- it was not the last test allowed
   pub seek-left : (findsNone r && ltb 0 left) ≡ true → 0 < left
-  seek-left h = ltb-true 0 left (and-true (findsNone r) (ltb 0 left) h .1)
+  seek-left h = ltb-true 0 left (both-pass (findsNone r) (ltb 0 left) h .1)
 
   -- and no more groups wait than there is room for
   pub seek-deep : w .depth ≤ capacity → (findsNone r && ltb 0 left) ≡ true → r .walker .depth ≤ capacity
   seek-deep deep h =
-      tested-deep (r .answer) (and-true (isTest (r .answer)) _ (and-true (findsNone r) (ltb 0 left) h .0) .0)
+      tested-deep (r .answer) (both-pass (isTest (r .answer)) _ (both-pass (findsNone r) (ltb 0 left) h .0) .0)
       (subst (λ (q : SteppedWords RayData). Shows m N n w (q .answer) (q .walker)) (sym turn) (turn-shows m N n w deep))
     where
       tested-deep : (b : S.Answer) → isTest b ≡ true → Shows m N n w b (r .walker) → r .walker .depth ≤ capacity

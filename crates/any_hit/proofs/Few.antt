@@ -9,7 +9,8 @@ use Rattle.words.proofs.Ranks.{ones-word}
 use Rattle.walk.specs.Words.{Group, unpacked, hasChild, waitingDepth}
 use Rattle.walk.specs.WordStep.{WalkerWords, SteppedWords, NodeWords, isTest, findsNone, badChild, visitWords, popWords, turnWords, advanceWords}
 use Rattle.walk.specs.WordStep.{seekWords}
-use Rattle.walk.proofs.Cases.{cond-elim, and-true}
+use Rattle.lists.proofs.Tells.{both-pass}
+use Rattle.walk.proofs.Cases.{cond-elim}
 use Rattle.walk.proofs.Words.{empty-front}
 use Rattle.walk.proofs.WordKept.{unskipped-turn}
 use Rattle.faststack.specs.Stack.{topOf}
@@ -51,7 +52,7 @@ module _ {RayData Distance : Type 0} (m : ℕ) (N : NodeWords RayData Distance) 
   seek-low (suc k) w z =
       let r = advanceWords m N n w in
       cond-elim Low (findsNone r) _ _
-      (λ h. let e : r .walker .positions .bits ≡ 0 = eqb-true _ _ (and-true (isTest (r .answer)) _ h .1) in
+      (λ h. let e : r .walker .positions .bits ≡ 0 = eqb-true _ _ (both-pass (isTest (r .answer)) _ h .1) in
       seek-low k (advanceWords m N n w .walker) (omega (arith, e))) (λ _. turn-low w z)
 
   pub seek-few : (k : ℕ) (w : WalkerWords RayData) → w .positions .bits ≤ 0 → onesBelow 32 (seekWords m N k n w .walker .positions .bits) ≤ 24

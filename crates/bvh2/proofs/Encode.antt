@@ -13,8 +13,9 @@ use Rattle.lists.specs.Splice.{splice}
 use Rattle.lists.proofs.Counts.{same-self}
 use Rattle.lists.proofs.Perms.{perm-upto}
 use Rattle.lists.proofs.Splice.{length-splice, splice-in, splice-before, splice-after}
+use Rattle.aabb.specs.declared.Aabb.{Aabb}
 use Rattle.bvh2.specs.Tree.{Tree, leaf, inner, labelOf, boxOf, leaves, depth, labels, positions}
-use Rattle.bvh2.specs.Words.{children, position, wordAt, linkAt, floatAt, boxAt, treeOf}
+use Rattle.bvh2.specs.Words.{children, position, wordAt, linkAt, floatAt, boxAt, boxedWords, treeOf}
 use Rattle.bvh2.specs.Causes.{Accepted}
 use Rattle.bvh2.specs.Decoded.{BoxesAccepted}
 use Rattle.bvh2.specs.Encode.{linkWord, nodeWords, store, encode, Fits, Adjacent, Numbered}
@@ -130,11 +131,10 @@ written m (inner v b l r) ws h k d =
 float-back : (ws : List ℕ) (v i : ℕ) (x : Float) → T (fits binary32 x) → wordAt ws v i ≡ toBits binary32 x → floatAt ws v i ≡ x
 float-back ws v i x f e = ap (ofBits binary32) e ∙ ofBits-toBits binary32 x f
 
-box-back : (ws : List ℕ) (t : Tree ℕ) → NodeAt ws t → Fits (boxOf t .min) → Fits (boxOf t .max) → boxAt ws (labelOf t) ≡ boxOf t
-unfolding boxAt nodeWords
-box-back ws t h f g =
-    let v = labelOf t in
-    let b = boxOf t in
+pub boxed-back : (ws : List ℕ) (v : ℕ) (b : Aabb) (link : ℕ) → ((i : ℕ) → i < 7 → wordAt ws v i ≡ getD (boxedWords b link) i 0) → Fits (b .min)
+    → Fits (b .max) → boxAt ws v ≡ b
+unfolding boxAt
+boxed-back ws v b link h f g =
     let x0 = float-back ws v 0 (b .min .x) (f .0) (h 0 (omega arith)) in
     let y0 = float-back ws v 1 (b .min .y) (f .1) (h 1 (omega arith)) in
     let z0 = float-back ws v 2 (b .min .z) (f .2) (h 2 (omega arith)) in
@@ -142,6 +142,10 @@ box-back ws t h f g =
     let y1 = float-back ws v 4 (b .max .y) (g .1) (h 4 (omega arith)) in
     let z1 = float-back ws v 5 (b .max .z) (g .2) (h 5 (omega arith)) in
     λ i. record { min = record { x = x0 i; y = y0 i; z = z0 i }; max = record { x = x1 i; y = y1 i; z = z1 i } }
+
+box-back : (ws : List ℕ) (t : Tree ℕ) → NodeAt ws t → Fits (boxOf t .min) → Fits (boxOf t .max) → boxAt ws (labelOf t) ≡ boxOf t
+unfolding nodeWords
+box-back ws t h f g = boxed-back ws (labelOf t) (boxOf t) (linkWord t) h f g
 
 link-back : (ws : List ℕ) (t : Tree ℕ) → NodeAt ws t → wordAt ws (labelOf t) 6 ≡ linkWord t
 unfolding nodeWords

@@ -3,15 +3,14 @@ use mathlib.Core.Bool.{true}
 use mathlib.Core.List.{List, Perm}
 use mathlib.Core.Path.{_≡_, refl, sym, ap, ap₂, _∙_}
 use Prim.Native.Nat.{ℕ, zero, suc, _+_, _*_, _<_, _≤_, max}
-use native.Mathlib.Nat.{add-zero}
+use native.Mathlib.Nat.{add-zero, zero-add}
 use native.Mathlib.Omega.{arith}
 use lib.Dec.{T}
 use lib.Ieee.{binary32, fits}
-use lib.Ieee.Bits.{ofBits-toBits, ofBits-fits}
-use lib.ListN.{length}
+use lib.Ieee.Bits.{ofBits-fits}
+use lib.ListN.{length, getD}
 use Rattle.lists.specs.Counts.{upto}
 use Rattle.float.specs.Compare.{minOf, maxOf, unsignedZero}
-use Rattle.aabb.specs.declared.Aabb.{Aabb}
 use Rattle.aabb.specs.Aabb.{unionOf, acceptedBox}
 use Rattle.aabb.proofs.Union.{lower-fits, upper-fits, union-accepted}
 use Rattle.bvh2.specs.Tree.{Tree, labelOf, boxOf, leaves, depth, labels, positions, relabel, reposition}
@@ -19,7 +18,7 @@ use Rattle.bvh2.specs.Words.{treeNodes, children, linkOf, wordAt, linkAt, float
 use Rattle.bvh2.specs.Causes.{Accepted}
 use Rattle.bvh2.specs.Decoded.{BoxesAccepted, Decoded}
 use Rattle.bvh2.specs.Words.{boxedWords}
-use Rattle.bvh2.specs.Encode.{Fits}
+use Rattle.bvh2.proofs.Encode.{boxed-back}
 use Rattle.bvh2.proofs.Decoded.{accepted-decoded, decoded-leaves, labels-length}
 use Rattle.bvh2.proofs.First.{accepted-facts}
 use Rattle.bvh2.proofs.Moved.{label-relabel, label-reposition}
@@ -33,17 +32,6 @@ use Rattle.join_laws.proofs.Tree.{leaves-joined, depth-joined, position
 use Rattle.join_laws.proofs.Standing.{tree-stands}
 
 -- ---- the new root
-boxed-back : (b : Aabb) (link : ℕ) → Fits (b .min) → Fits (b .max) → boxAt (boxedWords b link) 0 ≡ b
-unfolding boxAt
-boxed-back b link f g = rw (
-  ofBits-toBits binary32 (b .min .x) (f .0),
-  ofBits-toBits binary32 (b .min .y) (f .1),
-  ofBits-toBits binary32 (b .min .z) (f .2),
-  ofBits-toBits binary32 (b .max .x) (g .0),
-  ofBits-toBits binary32 (b .max .y) (g .1),
-  ofBits-toBits binary32 (b .max .z) (g .2),
-)
-
 float-fits : (ws : List ℕ) (i : ℕ) → T (fits binary32 (floatAt ws 0 i))
 float-fits ws i = ofBits-fits binary32 (wordAt ws 0 i)
 
@@ -56,7 +44,10 @@ module _ (ws us : List ℕ) where
 
   union-back : (link : ℕ) → boxAt (boxedWords (unionOf (boxAt ws 0) (boxAt us 0)) link) 0 ≡ unionOf (boxAt ws 0) (boxAt us 0)
   unfolding unionOf boxAt
-  union-back link = boxed-back (unionOf (boxAt ws 0) (boxAt us 0)) link (low-fits 0, low-fits 1, low-fits 2) (high-fits 3, high-fits 4, high-fits 5)
+  union-back link =
+      let b = unionOf (boxAt ws 0) (boxAt us 0) in
+      boxed-back (boxedWords b link) 0 b link (λ i h. ap (λ (k : ℕ). getD (boxedWords b link) k 0) (zero-add i))
+      (low-fits 0, low-fits 1, low-fits 2) (high-fits 3, high-fits 4, high-fits 5)
 
 pub root-accepted : (ws : List ℕ) (n : ℕ) → Accepted ws n → 0 < n → acceptedBox (boxOf (treeOf ws)) ≡ true
 root-accepted ws n a p = rw (box-is ws 127 0) (accepted-facts ws n a p .boxes 0 (omega arith))

@@ -14,7 +14,8 @@ use Rattle.causes.specs.Sizes.{recordConditions, recordCause}
 use Rattle.causes.proofs.Causes.{first-here, first-later, append-first, append-later, Passed, passed-none, passed-parts, none-passed, sorted}
 use Rattle.causes.proofs.Sizes.{Fit, record-passed, record-fit}
 use Rattle.packed.specs.Packed.{rayCount, raysAccepted}
-use Rattle.walk.proofs.Cases.{and-true, and-false}
+use Rattle.lists.proofs.Tells.{both-pass}
+use Rattle.walk.proofs.Cases.{and-false}
 use Rattle.loss.specs.Loss.{lossesFit, lossCause, walksBy, refusedReport, Report, reportConditions, walkConditions, totalsIn, reportBy}
 use Rattle.loss.specs.Loss.{reportOf}
 use Rattle.loss.specs.Charged.{Entered}
@@ -99,7 +100,7 @@ module _ (bytes indices : List ℕ) (panes : ℕ) (losses : List ℕ) (rays : Li
   none-entering e =
       let p = all-passed e in
       let q = passed-parts (recordConditions (length bytes) (length indices)) own (p .1) in
-      let r = and-true (leb (rayCount rays) rayRoom) (leb panes paneRoom) (q .1 .1 .0) in
+      let r = both-pass (leb (rayCount rays) rayRoom) (leb panes paneRoom) (q .1 .1 .0) in
       record {
         whole = eqb-true (length rays % 8) 0 (p .0);
         entered = record {

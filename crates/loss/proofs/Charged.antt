@@ -11,8 +11,7 @@ use lib.Seq.{getD-set-same, getD-set-other}
 use borrow.Author.Tests.{eqb-true}
 use Rattle.lists.specs.Counts.{same, count}
 use Rattle.lists.proofs.Counts.{same-self, same-apart}
-use Rattle.lists.proofs.Tells.{below-tells, leb-tells, told}
-use Rattle.walk.proofs.Cases.{and-true}
+use Rattle.lists.proofs.Tells.{below-tells, leb-tells, told, both-pass}
 use Rattle.loss.specs.Loss.{lossesFit}
 use Rattle.loss.specs.Charged.{charged}
 
@@ -21,7 +20,7 @@ use Rattle.loss.specs.Charged.{charged}
 -- one for each pane,
 pub fit-length : (panes : ℕ) (losses : List ℕ) → lossesFit panes losses ≡ true → length losses ≡ panes
 unfolding lossesFit
-fit-length panes losses h = eqb-true (length losses) panes (and-true (eqb (length losses) panes) _ h .0)
+fit-length panes losses h = eqb-true (length losses) panes (both-pass (eqb (length losses) panes) _ h .0)
 
 -- and none over 1,000,000, those past the last included, which are 0
 pub fit-most : (panes : ℕ) (losses : List ℕ) → lossesFit panes losses ≡ true → (k : ℕ) → getD losses k 0 ≤ 1000000
@@ -31,7 +30,7 @@ fit-most panes losses h k = pick (decLt k panes)
     pick : Dec (k < panes) → getD losses k 0 ≤ 1000000
     pick (yes l) =
         told (below-tells (λ i. getD losses i 0 ≤ 1000000) (λ i. leb (getD losses i 0) 1000000) (λ i. leb-tells (getD losses i 0) 1000000) panes)
-        (and-true (eqb (length losses) panes) _ h .1) k l
+        (both-pass (eqb (length losses) panes) _ h .1) k l
     pick (no l) = omega (arith, List·getD-eq-default losses 0 {n = k} (omega (arith, fit-length panes losses h, l)))
 
 -- ---- totals

@@ -11,10 +11,9 @@ use Rattle.lists.specs.Counts.{count}
 use Rattle.lists.specs.Sums.{sum, sumOver}
 use Rattle.lists.proofs.Counts.{same-apart}
 use Rattle.lists.proofs.Sums.{over-words, sum-counted}
-use Rattle.lists.proofs.Tells.{Tells, passes, clash, ltb-tells, and-tells}
+use Rattle.lists.proofs.Tells.{Tells, passes, clash, ltb-tells, and-tells, both-pass}
 use Rattle.walk.specs.Calls.{All}
 use Rattle.walk.specs.Listing.{In}
-use Rattle.walk.proofs.Cases.{and-true}
 use Rattle.walk.proofs.Lists.{in-head, in-tail}
 use Rattle.query.specs.Met.{panesMet}
 use Rattle.loss.specs.Loss.{lossAt, allThere}
@@ -44,7 +43,7 @@ module _ (panes : ℕ) where
   unfolding allThere count
   there-none [] h x g = refl
   there-none (k ∷ l) h x g =
-      let a = and-true (ltb k panes) (allThere panes l) h in
+      let a = both-pass (ltb k panes) (allThere panes l) h in
       let b = ltb-true k panes (a .0) in
       omega (arith, same-apart x k (λ e. omega (arith, e, b)), there-none l (a .1) x g)
 

@@ -7,7 +7,7 @@ use native.Mathlib.Omega.{arith}
 use lib.Dec.{leb, ltb}
 use lib.ListN.{length}
 use borrow.Author.Tests.{leb-true, leb-false}
-use Rattle.lists.proofs.Tells.{clash}
+use Rattle.lists.proofs.Tells.{clash, both-pass}
 use Rattle.walk.specs.Tests.{Tests}
 use Rattle.causes.specs.Sizes.{sizesFit}
 use Rattle.walk.specs.Step.{Walker, Answer, tested, position, done, refused, Stepped, Due, report, test, nothing, dueOf, forgedWalker}
@@ -22,10 +22,6 @@ cond-elim P false x y f g = g refl
 pub or-false : (a b : Bool) → a || b ≡ false → (a ≡ false) × (b ≡ false)
 or-false false b e = (refl, e)
 or-false true b e = absurd (let z : _≡_ {A = ℕ} 0 1 = cc in omega arith)
-
-pub and-true : (a b : Bool) → a && b ≡ true → (a ≡ true) × (b ≡ true)
-and-true true b e = (refl, e)
-and-true false b e = absurd (let z : _≡_ {A = ℕ} 0 1 = cc in omega arith)
 
 pub not-false-true : (b : Bool) → not b ≡ false → b ≡ true
 not-false-true true e = refl
@@ -114,7 +110,7 @@ module _ {RayData Distance : Type 0} (m : ℕ) (T : Tests RayData Distance) (n :
       (λ a. C .refuses 2 (too-many a))
     where
       only : forgedWalker m T w ≡ false → leb m 0 && onlyFirst (w .positions) (w .group) (w .stack) ≡ true → P (emptied w)
-      only f a = let b = and-true (leb m 0) _ a in C .empties f (omega (arith, leb-true m 0 (b .0))) (b .1)
+      only f a = let b = both-pass (leb m 0) _ a in C .empties f (omega (arith, leb-true m 0 (b .0))) (b .1)
 
       go : forgedWalker m T w ≡ false → (x : Due) → due ≡ x → P (advance m T n w x)
       go f (report p ps) e =

@@ -20,7 +20,8 @@ use Rattle.walk.specs.Words.{Group, unpacked, isSet, positionsIn, restOf
 use Rattle.walk.specs.WordStep.{WalkerWords, SteppedWords, NodeWords, forgedWords, onlyFirstWords, badChild, leaving, pastSkips, reportWords}
 use Rattle.walk.specs.WordStep.{visitWords, popWords, turnWords, advanceWords, stepWords, tellWords, WordsFit, Decodes}
 use Rattle.walk.specs.WordQueries.{OutcomeWords, toldAllWords, followWords, queryWords}
-use Rattle.walk.proofs.Cases.{cond-elim, and-true}
+use Rattle.lists.proofs.Tells.{both-pass}
+use Rattle.walk.proofs.Cases.{cond-elim}
 use Rattle.walk.proofs.Falling.{falling-length, falling-cut}
 use Rattle.walk.proofs.Words.{set-is, clear-is, past-clear, positions-first, rest-lt}
 use Rattle.walk.proofs.WordStep.{good-child, past-range}
@@ -56,7 +57,7 @@ ones-skipped skips zero g l = omega arith
 ones-skipped skips (suc k) g l =
     cond-elim (λ (u : Group). onesBelow 32 (u .bits) ≤ onesBelow 32 (g .bits)) (skips (firstPosition g) && ltb 0 (g .bits))
     (pastSkipped skips k (restOf g)) g
-    (λ e. let h = ltb-true 0 (g .bits) (and-true (skips (firstPosition g)) (ltb 0 (g .bits)) e .1) in
+    (λ e. let h = ltb-true 0 (g .bits) (both-pass (skips (firstPosition g)) (ltb 0 (g .bits)) e .1) in
     omega (arith, ones-skipped skips k (restOf g) (rest-lt g l), ones-rest g h l))
     (λ e. omega arith)
 

@@ -13,14 +13,15 @@ use Rattle.walk.specs.Step.{Answer, tested, position, done, refused}
 use Rattle.walk.specs.Words.{Group, unpacked, restOf, firstPosition, firstChild, hasChild, waitingDepth}
 use Rattle.walk.specs.WordStep.{WalkerWords, SteppedWords, NodeWords, stayWords, emptiedWords, leaving, pastSkips, forgedWords}
 use Rattle.walk.specs.WordStep.{onlyFirstWords, badChild, reportWords, visitWords, popWords, turnWords, advanceWords, stepWords, tellWords}
-use Rattle.walk.proofs.Cases.{cond-elim, and-true, and-false}
+use Rattle.lists.proofs.Tells.{both-pass}
+use Rattle.walk.proofs.Cases.{cond-elim, and-false}
 use Rattle.walk.proofs.Words.{AtFront, front-stays, empty-front}
 
 first-and-last : (a b c d e : Bool) → a && b && c && d && e ≡ true → (a ≡ true) × (e ≡ true)
 first-and-last a b c d e h =
-    let p = and-true (a && b && c && d) e h in
-    let q = and-true (a && b) c (and-true (a && b && c) d (p .0) .0) in
-    (and-true a b (q .0) .0, p .1)
+    let p = both-pass (a && b && c && d) e h in
+    let q = both-pass (a && b) c (both-pass (a && b && c) d (p .0) .0) in
+    (both-pass a b (q .0) .0, p .1)
 
 -- nothing is left: no position in hand, and no child in hand or in a group that waits
 pub record Finished {RayData : Type 0} (w : WalkerWords RayData) : Type 0 where
@@ -138,7 +139,7 @@ module _ {RayData Distance : Type 0} (m : ℕ) (N : NodeWords RayData Distance) 
   emptied-finished u a =
       let b =
       first-and-last (eqb (u .positions .bits) 0) (hasChild (u .current)) (eqb (firstChild (N .octant (u .ray)) (u .current)) 0)
-      (not (hasChild (restOf (u .current)))) (eqb (u .depth) 0) (and-true (leb m 0) (onlyFirstWords m N u) a .1) in
+      (not (hasChild (restOf (u .current)))) (eqb (u .depth) 0) (both-pass (leb m 0) (onlyFirstWords m N u) a .1) in
       record {
         positions = le-ltb 0 (u .positions .bits) (omega (arith, eqb-true (u .positions .bits) 0 (b .0)));
         current = refl;

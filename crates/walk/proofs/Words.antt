@@ -21,7 +21,8 @@ use Rattle.words.proofs.Ranks.{rank-step, top-set}
 use Rattle.node.specs.Node.{childIndex}
 use Rattle.walk.specs.Slots.{falling}
 use Rattle.walk.specs.Words.{Group, packed, unpacked, isSet, positionsIn, childrenIn, highest, restOf, firstPosition, pastSkipped, firstChild}
-use Rattle.walk.proofs.Cases.{cond-elim, and-true, and-false}
+use Rattle.lists.proofs.Tells.{both-pass}
+use Rattle.walk.proofs.Cases.{cond-elim, and-false}
 use Rattle.walk.proofs.Falling.{falling-same, falling-none, falling-cut, falling-top}
 
 -- ---- bits
@@ -140,7 +141,7 @@ module _ (skips : ℕ → Bool) where
   skipped-same (suc k) g l =
       cond-elim (λ (u : Group). positionsIn skips u ≡ positionsIn skips g) (skips (firstPosition g) && ltb 0 (g .bits))
       (pastSkipped skips k (restOf g)) g
-      (λ e. let a = and-true (skips (firstPosition g)) (ltb 0 (g .bits)) e in
+      (λ e. let a = both-pass (skips (firstPosition g)) (ltb 0 (g .bits)) e in
       skipped-same k (restOf g) (rest-lt g l) ∙ sym (positions-past skips g (ltb-true 0 (g .bits) (a .1)) l (a .0)))
       (λ e. refl)
 
@@ -156,7 +157,7 @@ module _ (skips : ℕ → Bool) where
   skipped-front zero g h l = empty-front g (omega arith)
   skipped-front (suc k) g h l =
       cond-elim AtFront (skips (firstPosition g) && ltb 0 (g .bits)) (pastSkipped skips k (restOf g)) g
-      (λ e. skipped-front k (restOf g) (omega arith) (lower (ltb-true 0 (g .bits) (and-true (skips (firstPosition g)) (ltb 0 (g .bits)) e .1))))
+      (λ e. skipped-front k (restOf g) (omega arith) (lower (ltb-true 0 (g .bits) (both-pass (skips (firstPosition g)) (ltb 0 (g .bits)) e .1))))
       (λ e. e)
     where
       lower : 0 < g .bits → restOf g .bits < 2 ^ k

@@ -16,7 +16,8 @@ use Rattle.ray.proofs.Entered.{entered-plain}
 use Rattle.float.specs.Magnitude.{Within}
 use Rattle.float.proofs.Magnitude.{atmost-no-nan}
 use Rattle.float.proofs.Sign.{no-nan-lt-l, self-equal}
-use Rattle.walk.proofs.Cases.{and-true, not-false-true}
+use Rattle.lists.proofs.Tells.{both-pass}
+use Rattle.walk.proofs.Cases.{not-false-true}
 use Rattle.walk_record.specs.Record.{RayLaws, AllPresent}
 use Rattle.walk_record.specs.WalkRay.{WalkRay, walkRay, plainRay, ownInverse, forgedRay, toldWalkRay, byBoxes}
 
@@ -32,9 +33,9 @@ module _ (b : WalkRay) where
   pub unforged : forgedRay b ≡ false → Unforged b
   unforged f =
       let turned = eqb (b .octant) (octantOf (b .ray .direction)) in
-      let three = and-true (acceptedRay (b .ray) && plainRay (b .ray) && ownInverse (b .ray)) turned (not-false-true _ f) in
-      let two = and-true (acceptedRay (b .ray) && plainRay (b .ray)) (ownInverse (b .ray)) (three .0) in
-      let one = and-true (acceptedRay (b .ray)) (plainRay (b .ray)) (two .0) in
+      let three = both-pass (acceptedRay (b .ray) && plainRay (b .ray) && ownInverse (b .ray)) turned (not-false-true _ f) in
+      let two = both-pass (acceptedRay (b .ray) && plainRay (b .ray)) (ownInverse (b .ray)) (three .0) in
+      let one = both-pass (acceptedRay (b .ray)) (plainRay (b .ray)) (two .0) in
       record {
         accepted = one .0;
         plain = one .1;
