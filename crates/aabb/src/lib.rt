@@ -1,11 +1,13 @@
 // Boxes (aabb.rs): half areas, centres, unions, the distance at which a ray enters, and which boxes are accepted.
+#![tactic(auto)]
+
 ghost use Rattle.std.specs.Prelude.{◌≡◌};
 ghost use Rattle.float.specs.Compare.{min_of, max_of, unsigned_zero};
 ghost use Rattle.aabb.specs.Aabb.{half_area, center_of, union_of, slab_near, slab_far, box_near, box_far, entry_distance, in_order, accepted_box};
 
 use ray::{Ray, Vec3};
 
-#[derive(Drop)]
+#[derive(Clone, Copy)]
 pub struct Aabb {
     pub min: Vec3,
     pub max: Vec3,

@@ -1,4 +1,6 @@
 // Internal: the core of every walk (cwbvh/traverse_macro.rs): what is due, the test of a node, what follows it, and on until positions are in hand.
+#![tactic(auto)]
+
 ghost use Rattle.std.specs.Prelude.{◌≡◌, false, ◌≤◌, ◌<◌, length};
 ghost use Rattle.faststack.specs.Stack.{capacity};
 ghost use Rattle.record_shape.specs.Record.{node_count};
@@ -18,14 +20,14 @@ use ray::Ray;
 pub const CHILDREN: u32 = 0x100_0000;
 
 // Bits counted from a base: positions, or children in bits 31 to 24 by slot XOR octant over an imask.
-#[derive(Drop)]
+#[derive(Clone, Copy)]
 pub struct Group {
     pub base: u32,
     pub bits: u32,
 }
 
 // What a walk holds beside its ray and its stack: the tests made, the positions and the group in hand, and how many groups wait.
-#[derive(Drop)]
+#[derive(Clone, Copy)]
 pub struct Walk {
     pub tests: u32,
     pub positions: Group,
@@ -34,7 +36,7 @@ pub struct Walk {
 }
 
 // What a step did: it tested a node, reported a position, found nothing left, or was refused for the cause of this number.
-#[derive(Drop)]
+#[derive(Clone, Copy)]
 pub enum Answer {
     Tested(u32),
     Position(u32),
@@ -43,14 +45,14 @@ pub enum Answer {
 }
 
 // The answer, and the walk then.
-#[derive(Drop)]
+#[derive(Clone, Copy)]
 pub struct Turn {
     pub answer: Answer,
     pub walk: Walk,
 }
 
 // The group whose first child is due, and how many groups wait below it; a group without children where none is.
-#[derive(Drop)]
+#[derive(Clone, Copy)]
 pub struct Due {
     pub group: Group,
     pub depth: u32,

@@ -1,4 +1,6 @@
 // Any-hit over a record (cwbvh/mod.rs, ray_traverse_anyhit): the positions that a ray passes, in the order of the walk.
+#![tactic(auto)]
+
 ghost use Rattle.std.specs.Prelude.{◌≡◌, false, ◌+◌, ◌≤◌, length, take, set};
 ghost use Rattle.lists.specs.Splice.{splice};
 ghost use Rattle.ray.specs.Ray.{ray_of, octant_of};
@@ -20,7 +22,7 @@ const ALL: u32 = 0xffff_ffff;
 const MANY: u32 = 0xffff_0000;
 
 // How any-hit ends: so many positions listed; or the list is short, refused 11 with the length needed; or refused for another cause.
-#[derive(Drop)]
+#[derive(Clone, Copy)]
 pub enum AnyHit {
     Listed(u32),
     Short(u32),
@@ -28,7 +30,7 @@ pub enum AnyHit {
 }
 
 // Any-hit's answer with its node tests, 0 beside a refusal.
-#[derive(Drop)]
+#[derive(Clone, Copy)]
 pub struct AnyHitFound {
     pub answer: AnyHit,
     pub tests: u32,
@@ -36,7 +38,7 @@ pub struct AnyHitFound {
 
 // Where a walk that gathers positions stands: it is done, or paused where those of another node may find no room, or refused for the cause of this
 // number.
-#[derive(Drop)]
+#[derive(Clone, Copy)]
 enum State {
     Done,
     Paused,
@@ -44,7 +46,7 @@ enum State {
 }
 
 // A walk with the number of positions that it has noted.
-#[derive(Drop)]
+#[derive(Clone, Copy)]
 struct Gathered {
     state: State,
     walk: Walk,

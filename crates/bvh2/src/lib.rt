@@ -1,4 +1,6 @@
 // Internal: binary trees of boxes (bvh2/mod.rs).
+#![tactic(auto)]
+
 ghost use Rattle.std.specs.Prelude.{◌≡◌, ◌+◌, ◌*◌, ◌<◌, length};
 ghost use Rattle.bvh2.specs.Words.{word_at, float_at, box_at};
 

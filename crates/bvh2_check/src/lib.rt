@@ -1,4 +1,6 @@
 // Internal: whether the words of a binary tree are accepted, in two parts: conversion looks at causes 3 and 4 between them.
+#![tactic(auto)]
+
 ghost use Rattle.std.specs.Prelude.{◌≡◌, ◌++◌, ◌<◌, ◌≤◌, length, replicate, drop};
 ghost use Rattle.bvh2.specs.Words.{tree_nodes, link_of, tree_at};
 ghost use Rattle.bvh2.specs.Causes.{TreeSized};

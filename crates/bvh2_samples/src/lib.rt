@@ -1,1 +1,3 @@
 // Internal: trees whose first cause is computed from the definitions. It has no code.
+#![tactic(auto)]
+

@@ -1,4 +1,6 @@
 // Internal: conversion up to its tables. Causes 1 to 7, and the decision words and costs of every node.
+#![tactic(auto)]
+
 ghost use Rattle.std.specs.Prelude.{◌≡◌, ◌≤◌, ◌<◌, length};
 ghost use Rattle.float.specs.Compare.{plus_zero};
 ghost use Rattle.bvh2.specs.Causes.{TreeSized};

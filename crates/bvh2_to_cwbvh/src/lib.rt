@@ -1,10 +1,12 @@
 // The conversion of a binary tree to a record of eight-wide nodes with quantised child boxes (cwbvh/bvh2_to_cwbvh.rs).
+#![tactic(auto)]
+
 ghost use Rattle.std.specs.Prelude.{◌≡◌};
 ghost use Rattle.bvh2_to_cwbvh.specs.Conversion.{conversion_of};
 ghost use Rattle.bvh2_to_cwbvh.specs.Answer.{outcome_of};
 
 // How a conversion ends: with a record of so many nodes and its deepest level, or refused for the cause of this number.
-#[derive(Drop)]
+#[derive(Clone, Copy)]
 pub enum Conversion {
     Converted(u32, u32),
     Refused(u32),

@@ -1,4 +1,6 @@
 // Internal: the causes of refusal as lists of conditions, and the sizes of records, which every call over a record looks at.
+#![tactic(auto)]
+
 ghost use Rattle.std.specs.Prelude.{◌≡◌};
 ghost use Rattle.causes.specs.Sizes.{record_cause};
 

@@ -1,4 +1,6 @@
 // Internal: the work of the program `checkrecord`, from the input that it reads to the bytes that it prints.
+#![tactic(auto)]
+
 mod input;
 
 ghost use Rattle.std.specs.Prelude.{◌≡◌, ◌≤◌, length};

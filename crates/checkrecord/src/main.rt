@@ -1,5 +1,7 @@
 // checkrecord: reads a little-endian word n and the bytes of a record from standard input, to its end, and prints `sound LEVEL`, `unsound` or
 // `refused NUMBER`.
+#![tactic(auto)]
+
 use libc::{STDIN_FILENO, STDOUT_FILENO};
 
 fn main() {

@@ -1,4 +1,6 @@
 // Internal: the children of a wide node, gathered from a binary tree by the decisions of its cost tables (bvh2_to_cwbvh.rs, get_children).
+#![tactic(auto)]
+
 ghost use Rattle.std.specs.Prelude.{ℕ, ◌≤◌, length};
 ghost use Rattle.bvh2.specs.Words.{tree_at};
 ghost use Rattle.cost.specs.Table.{word_of};

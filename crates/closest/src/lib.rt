@@ -1,4 +1,6 @@
 // Closest and miss over a record and its panes (cwbvh/mod.rs, ray_traverse and ray_traverse_miss).
+#![tactic(auto)]
+
 ghost use Rattle.std.specs.Prelude.{◌≡◌, false, length};
 ghost use Rattle.ray.specs.Ray.{ray_of};
 ghost use Rattle.walk_record.specs.WalkRay.{walk_ray, forged_ray};
@@ -12,7 +14,7 @@ use ray::{Ray, Vec3};
 const MOST: u32 = 0xffff_ffff;
 
 // How closest ends: the position that is hit and how far off, nothing hit, or refused for the cause of this number.
-#[derive(Drop)]
+#[derive(Clone, Copy)]
 pub enum ClosestHit {
     Hit(u32, f32),
     NoHit,
@@ -20,7 +22,7 @@ pub enum ClosestHit {
 }
 
 // How miss ends: no pane's distance counts, or one does, or refused for the cause of this number.
-#[derive(Drop)]
+#[derive(Clone, Copy)]
 pub enum Occlusion {
     Missed,
     Blocked,
@@ -28,21 +30,21 @@ pub enum Occlusion {
 }
 
 // Closest's answer with its node tests, 0 beside a refusal.
-#[derive(Drop)]
+#[derive(Clone, Copy)]
 pub struct ClosestFound {
     pub answer: ClosestHit,
     pub tests: u32,
 }
 
 // Miss's answer with its node tests, 0 beside a refusal.
-#[derive(Drop)]
+#[derive(Clone, Copy)]
 pub struct MissFound {
     pub answer: Occlusion,
     pub tests: u32,
 }
 
 // A pane as a ray meets it: at a distance, or refused for the cause of this number.
-#[derive(Drop)]
+#[derive(Clone, Copy)]
 enum Met {
     At(f32),
     Faulty(u32),

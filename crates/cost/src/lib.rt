@@ -1,4 +1,6 @@
 // Internal: the cost tables of a binary tree (bvh2_to_cwbvh.rs, calculate_cost).
+#![tactic(auto)]
+
 ghost use Rattle.std.specs.Prelude.{◌≡◌, ◌+◌, ◌*◌, ◌/◌, ◌%◌, ◌^◌, ◌≤◌, ◌<◌, length};
 ghost use Rattle.aabb.specs.Aabb.{half_area};
 ghost use Rattle.bvh2.specs.Tree.{leaves};
@@ -26,7 +28,7 @@ pub fn right_split(word: u32) -> usize
 }
 
 // The cheapest split found so far. `left` is 255 while there is none.
-#[derive(Drop)]
+#[derive(Clone, Copy)]
 pub struct Split {
     pub cost: f32,
     pub left: u32,
@@ -34,7 +36,7 @@ pub struct Split {
 }
 
 // An entry of a table as it is stored: a cost and a decision word.
-#[derive(Drop)]
+#[derive(Clone, Copy)]
 pub struct Entry {
     pub cost: f32,
     pub word: u32,

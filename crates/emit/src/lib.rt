@@ -1,4 +1,6 @@
 // Internal: a wide tree's record and index list, written into lent slices (bvh2_to_cwbvh.rs: convert_to_cwbvh_impl, count_primitives).
+#![tactic(auto)]
+
 ghost use Rattle.std.specs.Prelude.{◌≡◌, true, ◌+◌, ◌*◌, ◌^◌, ◌<◌, ◌≤◌, length};
 ghost use Rattle.aabb.specs.Aabb.{accepted_box};
 ghost use Rattle.bvh2.specs.Words.{box_at, tree_at};
@@ -44,7 +46,7 @@ const NO_SLOT: Slot = Slot {
 };
 
 // A node's grid: its lower corner, the exponent byte of each axis, and the reciprocal of each scale.
-#[derive(Drop)]
+#[derive(Clone, Copy)]
 pub struct Grid {
     pub min: Vec3,
     pub ex: u8,
@@ -106,7 +108,7 @@ fn leaf_meta(count: usize, before: usize) -> u8
 
 // What a slot of a node holds: its meta byte and its box on the grid, its bit in the mask of inner children, 1 if its child is one, and the next free
 // position.
-#[derive(Drop)]
+#[derive(Clone, Copy)]
 pub struct Held {
     pub meta: u8,
     pub corners: Slot,
@@ -165,7 +167,7 @@ fn own_slot(
 }
 
 // A node's value, how many inner children it has, and the next free position.
-#[derive(Drop)]
+#[derive(Clone, Copy)]
 pub struct Built {
     pub node: Node,
     pub inner: usize,

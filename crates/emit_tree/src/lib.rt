@@ -1,4 +1,6 @@
 // Internal: the record and the index list of a whole tree, written node by node (bvh2_to_cwbvh.rs: convert_to_cwbvh_impl).
+#![tactic(auto)]
+
 ghost use Rattle.std.specs.Prelude.{◌≡◌, ℕ, ◌+◌, ◌*◌, ◌<◌, ◌≤◌, length, map, get_or, take};
 ghost use Rattle.bvh2.specs.Words.{box_at, tree_at};
 ghost use Rattle.cost.specs.Table.{word_of};
@@ -12,7 +14,7 @@ ghost use Rattle.emit_tree.specs.Emission.{slot_words, is_inner, wide_slots_at, 
 use aabb::Aabb;
 
 // The next free node and position.
-#[derive(Drop)]
+#[derive(Clone, Copy)]
 pub struct Next {
     pub nodes: usize,
     pub positions: usize,

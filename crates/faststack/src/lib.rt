@@ -1,4 +1,6 @@
 // Internal: a stack with room for 32 groups (faststack.rs). A group is a word, the stack a lent part of an array with its depth beside it.
+#![tactic(auto)]
+
 ghost use Rattle.std.specs.Prelude.{◌≡◌, ◌≤◌, length};
 ghost use Rattle.faststack.specs.Stack.{capacity, has_room, pushed, top_of};
 

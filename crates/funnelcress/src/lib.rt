@@ -1,6 +1,8 @@
 // The library for C and Rust: each function is exported under its name. Numbers that are returned are those of
 // refusals, 0 for none, but the record check's, conversion's, the queries', a report's and a join's, which also hold
 // what they answer.
+#![tactic(auto)]
+
 mod joins;
 mod reports;
 mod walkers;

@@ -1,4 +1,6 @@
 // Two trees joined under a new root. The published code joins none.
+#![tactic(auto)]
+
 ghost use Rattle.std.specs.Prelude.{◌≡◌, true, ◌++◌, map, ◌+◌, ◌*◌, ◌-◌, ◌≤◌, ◌<◌, length, replicate};
 ghost use Rattle.lists.specs.Splice.{splice};
 ghost use Rattle.causes.specs.Causes.{first_cause};
@@ -14,7 +16,7 @@ ghost use Rattle.join.specs.Join.{room_for, size_tests, tree_tests, edge_to_spar
 ghost use Rattle.join.specs.Steps.{lesser_cause, LinksInside, StaysWords};
 
 // How the call ends: how many leaves the joined tree has; or refused for the cause of this number.
-#[derive(Drop)]
+#[derive(Clone, Copy)]
 pub enum Joining {
     Joined(u32),
     Refused(u32),

@@ -1,4 +1,6 @@
 // A ray's loss as a sum over the positions that it meets, and a report over many rays. The published code has neither: it lists the positions.
+#![tactic(auto)]
+
 ghost use Rattle.std.specs.Prelude.{◌≡◌, true, false, ◌+◌, ◌≤◌, ◌<◌, length, get_or, set, replicate};
 ghost use Rattle.lists.specs.Below.{all_below};
 ghost use Rattle.lists.specs.Sums.{sum_over};
@@ -26,14 +28,14 @@ const MOST_LOSS: u32 = 1_000_000;
 const MOST_RAYS: usize = 65536;
 
 // A ray's loss with its node tests; or refused for the cause of this number.
-#[derive(Drop)]
+#[derive(Clone, Copy)]
 pub enum RayLoss {
     Summed(u64, u32),
     Refused(u32),
 }
 
 // How a report ends: the node tests of all rays; or refused for the cause of this number.
-#[derive(Drop)]
+#[derive(Clone, Copy)]
 pub enum Totals {
     Totalled(u64),
     Refused(u32),

@@ -1,4 +1,6 @@
 // Internal: functions that bench/ measures, each exported under its name. They are no part of the interface; bench/ compares their answers.
+#![tactic(auto)]
+
 ghost use Rattle.std.specs.Prelude.{◌≡◌, ◌+◌, ◌*◌, ◌≤◌, ◌<◌, length};
 ghost use Rattle.bvh2.specs.Tree.{leaves};
 ghost use Rattle.bvh2.specs.Words.{tree_at};

@@ -1,4 +1,6 @@
 // Internal: a record's node of 80 bytes, as a value and in the record.
+#![tactic(auto)]
+
 ghost use Rattle.std.specs.Prelude.{◌≡◌, [], ◌∷◌, ◌+◌, ◌*◌, ◌%◌, ◌≤◌, ◌<◌, eqb, length, get_or, set};
 ghost use Rattle.lists.specs.Splice.{splice};
 ghost use Rattle.node.specs.Node.{eight, slot_offset, node_from, MetaWord, inner_bit, code_count, put_slot, put_slots, head_bytes, node_bytes};
@@ -7,7 +9,7 @@ ghost use Rattle.node.specs.Node.{eight, slot_offset, node_from, MetaWord, inner
 pub const BYTES: usize = 80;
 
 // The six bytes of a slot's box on the node's grid.
-#[derive(Drop)]
+#[derive(Clone, Copy)]
 pub struct Slot {
     pub min_x: u8,
     pub min_y: u8,
@@ -18,7 +20,7 @@ pub struct Slot {
 }
 
 // A node; p is kept as bits.
-#[derive(Drop)]
+#[derive(Clone, Copy)]
 pub struct Node {
     pub px: u32,
     pub py: u32,
@@ -229,7 +231,7 @@ pub fn is_leaf(imask: u8, child: u32) -> bool
 }
 
 // A leaf's first position and how many it has. The sum needs more than 32 bits.
-#[derive(Drop)]
+#[derive(Clone, Copy)]
 pub struct Primitives {
     pub start: usize,
     pub count: u32,

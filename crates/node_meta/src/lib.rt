@@ -1,9 +1,11 @@
 // Internal: the eight meta bytes of a node, decoded at once in a 64-bit word (cwbvh/node.rs).
+#![tactic(auto)]
+
 ghost use Rattle.std.specs.Prelude.{◌≡◌, ◌<◌};
 ghost use Rattle.node_meta.specs.Meta.{child_bits, bit_index, each_byte};
 
 // A byte for each slot: the bits that it puts into the hit mask, and the place where they go.
-#[derive(Drop)]
+#[derive(Clone, Copy)]
 pub struct Bits {
     pub child: u64,
     pub index: u64,

@@ -1,4 +1,6 @@
 // Internal: a ray against the eight slot boxes of a node, as a mask of children and positions (cwbvh/node.rs).
+#![tactic(auto)]
+
 ghost use Rattle.std.specs.Prelude.{◌≡◌, ◌+◌, ◌-◌, ◌%◌, ◌≤◌, ◌<◌, length};
 ghost use Rattle.std.specs.Int.Bits.{bit_and, bit_xor};
 ghost use Rattle.node.specs.Node.{node_from, MetaWord, child_index};
@@ -12,14 +14,14 @@ use ray::{Ray, Vec3};
 const NEAR_LIMIT: f32 = 0.0001;
 
 // The ray in a node's grid: what a step of the grid adds to the distance on each axis, and the distances of p's planes.
-#[derive(Drop)]
+#[derive(Clone, Copy)]
 pub struct RayGrid {
     pub inverse: Vec3,
     pub origin: Vec3,
 }
 
 // The end of each axis that the ray meets first: 1, the upper, where its direction is below zero.
-#[derive(Drop)]
+#[derive(Clone, Copy)]
 pub struct Ends {
     pub x: usize,
     pub y: usize,

@@ -1,4 +1,6 @@
 // Internal: the test of a node (cwbvh/node.rs): the node rule, and the hit mask for a ray. Metas and imask are read once for both.
+#![tactic(auto)]
+
 ghost use Rattle.std.specs.Prelude.{◌≡◌, ◌+◌, ◌*◌, ◌≤◌, ◌<◌, length};
 ghost use Rattle.node.specs.Node.{node_at};
 ghost use Rattle.node_slot.specs.Parts.{ends_of};
@@ -8,7 +10,7 @@ use node_slot::Ends;
 use ray::Ray;
 
 // What a walk reads of a node: whether it meets the rule, and if so its hit mask and the fields from which its children and positions are counted.
-#[derive(Drop)]
+#[derive(Clone, Copy)]
 pub struct Tested {
     pub meets: bool,
     pub mask: u32,

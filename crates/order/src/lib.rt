@@ -1,5 +1,7 @@
 // Internal: the children of a node put into its eight slots by cost (bvh2_to_cwbvh.rs, order_children). Without ordering there is nothing to do: they
 // stay as they were gathered.
+#![tactic(auto)]
+
 ghost use Rattle.std.specs.Prelude.{◌≡◌, true, map, min, ◌≤◌, take, get_or};
 ghost use Rattle.std.specs.Float.{binary32};
 ghost use Rattle.std.specs.Float.Ieee.{sub};
@@ -16,7 +18,7 @@ use ray::Vec3;
 const GREATEST: f32 = 340282350000000000000000000000000000000.0;
 
 // A child, a slot and what the pair costs; slot 8 where there is none.
-#[derive(Drop)]
+#[derive(Clone, Copy)]
 struct Best {
     cost: f32,
     child: usize,
@@ -24,7 +26,7 @@ struct Best {
 }
 
 // slot[c] is the slot of child c, and child[s] the child in slot s; 8 where there is none.
-#[derive(Drop)]
+#[derive(Clone, Copy)]
 pub struct Assignment {
     pub slot: [usize; 8],
     pub child: [usize; 8],

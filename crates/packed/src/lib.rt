@@ -1,4 +1,6 @@
 // Internal: vectors, boxes and rays as floats one behind the other in a slice.
+#![tactic(auto)]
+
 ghost use Rattle.std.specs.Prelude.{◌≡◌, ◌+◌, ◌*◌, ◌≤◌, length};
 ghost use Rattle.packed.specs.Packed.{vec_in, box_in, ray_in, rays_accepted};
 

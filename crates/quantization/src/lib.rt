@@ -1,4 +1,6 @@
 // Internal: from floats to bytes. The exponent byte of an axis, the reciprocal of its scale, and a value on the grid rounded down or up to a byte.
+#![tactic(auto)]
+
 ghost use Rattle.std.specs.Prelude.{◌≡◌};
 ghost use Rattle.quantization.specs.Ends.{quant_min, quant_max, reciprocal_of};
 ghost use Rattle.quantization.specs.Exponent.{extent_scale, exponent_of};

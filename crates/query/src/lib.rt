@@ -1,4 +1,6 @@
 // Internal: what the queries share.
+#![tactic(auto)]
+
 ghost use Rattle.std.specs.Prelude.{◌≡◌};
 ghost use Rattle.query.specs.Entry.{entry_cause};
 

@@ -1,9 +1,11 @@
 // Rays (ray.rs): the safe inverse of a direction, the octant, and which rays are accepted.
+#![tactic(auto)]
+
 ghost use Rattle.std.specs.Prelude.{◌≡◌, cond};
 ghost use Rattle.ray.specs.Ray.{below_zero, safe_inverse, octant_of, unsigned_vec, plain_vec, ray_of, counts, accepted_ray, bounded_vec};
 
 // Three floats, in the place of the Rust's Vec3A.
-#[derive(Drop)]
+#[derive(Clone, Copy)]
 pub struct Vec3 {
     pub x: f32,
     pub y: f32,
@@ -11,7 +13,7 @@ pub struct Vec3 {
 }
 
 // A ray with the inverse of its direction, and the distances between which it meets something: its start and its reach.
-#[derive(Drop)]
+#[derive(Clone, Copy)]
 pub struct Ray {
     pub origin: Vec3,
     pub direction: Vec3,

@@ -1,5 +1,7 @@
 // Runs the library on stored inputs and compares each answer with the stored one, bit by bit.
 // Its argument names a file of answers; how these are made and laid out is said in oracle/README.md.
+#![tactic(auto)]
+
 mod leaves;
 
 // Runs the file that the first argument names.

@@ -14,7 +14,7 @@ const MOST_BYTES: usize = 5242959;
 const BEFORE: u32 = 0xdead_beef;
 
 // A verdict as cases have it: 0 is sound with its deepest level, 1 unsound, 2 refused with its number.
-#[derive(Drop)]
+#[derive(Clone, Copy)]
 struct Verdict {
     kind: u32,
     value: u32,

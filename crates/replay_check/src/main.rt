@@ -1,5 +1,7 @@
 // Runs the record check on stored records, and compares each answer with the stored one.
 // Its argument names a file of answers; how these are made and laid out is said in oracle/README.md.
+#![tactic(auto)]
+
 mod checks;
 
 // Runs the file that the first argument names.

@@ -3,7 +3,7 @@ use libc::SEEK_SET;
 use stored::{filled_up, word};
 
 // The file that holds an input: one descriptor writes it, and checkrecord's reading is handed the other.
-#[derive(Drop)]
+#[derive(Clone, Copy)]
 pub struct File {
     writer: i32,
     reader: i32,

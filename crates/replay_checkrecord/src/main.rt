@@ -1,6 +1,8 @@
 // Runs what checkrecord does, from a descriptor to a line, on files that hold the stored inputs, and compares each line with the stored one. Inputs
 // longer
 // than any record are stored by their length. Its argument names a file of answers; how these are made and laid out is said in oracle/README.md.
+#![tactic(auto)]
+
 mod inputs;
 
 // Runs the file that the first argument names.

@@ -1,5 +1,7 @@
 // Joins stored trees, and large ones that are made by a rule, and compares answers and lent words with what is stored. Its argument names a file of
 // answers; how these are made and laid out is said in oracle/README.md.
+#![tactic(auto)]
+
 mod calls;
 mod made;
 mod ruled;

@@ -119,7 +119,7 @@ fn same_miss(ray: &[u8], record: &[u8], list: &[u32], panes: &[f32]) -> bool {
 // ---- steps
 
 // A walk under way: its walker, the steps and reports so far, and the digest of the steps, a test as 0 and a report as one more than its position.
-#[derive(Drop)]
+#[derive(Clone, Copy)]
 struct Walk {
     walker: Walker,
     steps: u32,

@@ -1,5 +1,7 @@
 // Runs reports of losses, and the loss of each ray by itself, on stored records and rays, and compares answers and lent words with what is stored.
 // Its argument names a file of answers; how these are made and laid out is said in oracle/README.md.
+#![tactic(auto)]
+
 mod alike;
 mod lent;
 mod reports;

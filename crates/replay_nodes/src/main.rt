@@ -1,5 +1,7 @@
 // Runs the library on stored record nodes and compares each answer with the stored one, bit by bit.
 // Its argument names a file of answers; how these are made and laid out is said in oracle/README.md.
+#![tactic(auto)]
+
 mod nodes;
 
 // Runs the file that the first argument names.

@@ -1,5 +1,7 @@
 // Runs any-hit, closest and miss on stored records and rays, and compares each answer with the stored one.
 // Its argument names a file of answers; how these are made and laid out is said in oracle/README.md.
+#![tactic(auto)]
+
 mod any;
 mod head;
 mod nearest;

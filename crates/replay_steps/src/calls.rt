@@ -13,7 +13,7 @@ const POSITIONS: u32 = 0xc020_0000;
 const BYTES: u32 = 0xc030_0000;
 
 // A walker under way with what it is lent, and whether all was as stored so far.
-#[derive(Drop)]
+#[derive(Clone, Copy)]
 pub struct Run {
     pub walker: Walker,
     pub bytes: u32,

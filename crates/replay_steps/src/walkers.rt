@@ -7,7 +7,7 @@ use traverse::{Group, Walk, Walker};
 const GROUPS: usize = 32;
 
 // A walker, how many words tell of it, and whether it came about as stored.
-#[derive(Drop)]
+#[derive(Clone, Copy)]
 pub struct Start {
     pub walker: Walker,
     pub words: u32,

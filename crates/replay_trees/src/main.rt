@@ -1,5 +1,7 @@
 // Gathers the children of the nodes of stored binary trees and gives them slots, and compares each answer with the stored one, bit by bit.
 // Its argument names a file of answers; how these are made and laid out is said in oracle/README.md.
+#![tactic(auto)]
+
 mod gathered;
 mod trees;
 

@@ -1,4 +1,6 @@
 // Internal: what the programs `showrecord` and `checkrecord` read and print.
+#![tactic(auto)]
+
 ghost use Rattle.std.specs.Prelude.{◌≡◌, ◌++◌, ◌+◌, ◌*◌, ◌≤◌, length, take};
 ghost use Rattle.lists.specs.Splice.{splice};
 ghost use Rattle.text.specs.Put.{Put};

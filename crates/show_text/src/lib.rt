@@ -1,4 +1,6 @@
 // Internal: the work of the program `showrecord`, from the bytes that it reads to the bytes that it prints.
+#![tactic(auto)]
+
 ghost use Rattle.std.specs.Prelude.{◌≡◌, ◌≤◌, length};
 ghost use Rattle.lists.specs.Splice.{splice};
 ghost use Rattle.show_text.specs.ShowText.{most_leaves, tree_size, tree_text, show_text};

@@ -1,5 +1,7 @@
 // showrecord: reads little-endian words from standard input, n, leaf limit, order, the words of a tree of n leaves and n index words, and prints the
 // tree's record, a line a node, and its index list, or `refused NUMBER`. It reads one byte further than the longest input that is taken.
+#![tactic(auto)]
+
 ghost use Rattle.std.specs.Prelude.{◌≤◌, length};
 
 use libc::{STDIN_FILENO, STDOUT_FILENO};

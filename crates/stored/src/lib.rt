@@ -1,4 +1,6 @@
 // Internal: files of stored answers, read case by case (oracle/README.md says how they are laid out).
+#![tactic(auto)]
+
 mod cases;
 mod digests;
 mod lent;
@@ -22,7 +24,7 @@ const MOST_GROUPS: u32 = 100;
 
 // Where a replay stands in a file: its group, how many of the group's cases were run, how many agreed, whether all did, and the turns left, 0 at the
 // end.
-#[derive(Drop)]
+#[derive(Clone, Copy)]
 pub struct Place {
     pub fd: i32,
     pub kind: u32,

@@ -1,4 +1,6 @@
 // Internal: text in a lent buffer, words in decimal and bytes in hexadecimal. Each function returns the place behind what it wrote.
+#![tactic(auto)]
+
 ghost use Rattle.std.specs.Prelude.{◌≡◌, [], ◌∷◌, ◌+◌, ◌*◌, ◌≤◌, ◌<◌, length};
 ghost use Rattle.text.specs.Put.{Put};
 ghost use Rattle.text.specs.Text.{decimal, hex_digit, hex};

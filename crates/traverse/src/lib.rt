@@ -1,4 +1,6 @@
 // The walk of a ray through a record, step by step (cwbvh/traverse_macro.rs). A call takes a walker by value and gives back the next one.
+#![tactic(auto)]
+
 ghost use Rattle.std.specs.Prelude.{◌≡◌, List, ℕ, ◌≤◌, ◌<◌};
 ghost use Rattle.std.specs.Float.Ieee.{eq};
 ghost use Rattle.ray.specs.Ray.{ray_of};
@@ -17,7 +19,7 @@ pub use advance::{Answer, Group, Walk};
 use ray::{Ray, Vec3};
 
 // A ray under way: its current reach is ray.tmax. Of the stack's words, a group each, `depth` wait.
-#[derive(Drop)]
+#[derive(Clone, Copy)]
 pub struct Walker {
     pub ray: Ray,
     pub octant: u32,
@@ -26,14 +28,14 @@ pub struct Walker {
 }
 
 // A walker just begun, or the number of the cause for which it was refused with a walker that can't be walked; the number is 0 for none.
-#[derive(Drop)]
+#[derive(Clone, Copy)]
 pub struct Started {
     pub walker: Walker,
     pub refused: u32,
 }
 
 // The walker after a step, and what the step did.
-#[derive(Drop)]
+#[derive(Clone, Copy)]
 pub struct Stepped {
     pub walker: Walker,
     pub answer: Answer,

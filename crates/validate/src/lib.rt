@@ -1,5 +1,7 @@
 // The record check: whether a record is sound, and its deepest level (cwbvh/mod.rs, validate). One pass over the nodes, with a working word for each
 // node and each position.
+#![tactic(auto)]
+
 ghost use Rattle.std.specs.Prelude.{◌≡◌, ◌+◌, ◌≤◌, ◌<◌, length, get_or, replicate};
 ghost use Rattle.node.specs.Node.{inner_bit};
 ghost use Rattle.record_shape.specs.Record.{slot_positions, shape_at};
@@ -8,7 +10,7 @@ ghost use Rattle.validate.specs.Validity.{verdict_of};
 ghost use Rattle.validate.specs.Marks.{MarkRoom, WorkSized, Ruled, Start, Fill, MarksSlot, MarksPositions, MarksNode, all_marked};
 
 // What a record is: sound with its deepest level, or unsound; or the number of the cause for which the check is refused.
-#[derive(Drop)]
+#[derive(Clone, Copy)]
 pub enum Validity {
     Sound(u32),
     Unsound,

@@ -1,4 +1,6 @@
 // Internal: a walker kept in words that a caller lends: it begins there, steps, and is told distances. Any words hold some walker.
+#![tactic(auto)]
+
 ghost use Rattle.std.specs.Prelude.{◌≡◌, not, List, ℕ, ◌<◌, ◌+◌, ◌%◌, ◌^◌, eqb};
 ghost use Rattle.std.specs.Float.Ieee.{of_bits};
 ghost use Rattle.std.specs.Float.{binary32};
@@ -106,7 +108,7 @@ fn pattern(x: f32) -> u64
 }
 
 // The patterns of three floats.
-#[derive(Drop)]
+#[derive(Clone, Copy)]
 struct Triple {
     x: u64,
     y: u64,

@@ -1,4 +1,6 @@
 // Internal: the deepest level of the wide tree that a binary tree becomes, found by the decisions of its cost tables before anything is written.
+#![tactic(auto)]
+
 ghost use Rattle.std.specs.Prelude.{◌≡◌, Bool, ℕ, ◌≤◌};
 ghost use Rattle.bvh2.specs.Words.{tree_at, tree_of};
 ghost use Rattle.cost.specs.Table.{word_of};

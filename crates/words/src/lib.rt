@@ -1,5 +1,7 @@
 // Internal: words as fields of bits, counts of ones, the highest bit, and numbers in a slice of bytes, the lowest byte first.
 // The laws that u32 and u64 share stand in proofs/, with the width as parameter.
+#![tactic(auto)]
+
 ghost use Rattle.std.specs.Prelude.{◌≡◌, ◌+◌, ◌-◌, ◌/◌, ◌^◌, ◌%◌, ◌<◌, ◌≤◌, max, length, replicate};
 ghost use Rattle.words.specs.Fields.{field};
 ghost use Rattle.words.specs.Le.{store_le};
