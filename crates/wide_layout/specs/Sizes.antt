@@ -76,14 +76,14 @@ own_before (leaf b ps s) (suc k) = length ps + own_before s k
 own_before (inner b t s) zero = 0
 own_before (inner b t s) (suc k) = own_before s k
 
-abbrev pub field_own : {w : ℕ} → Slots w → ℕ → ℕ
-field_own end k = 0
-field_own (empty s) zero = 0
-field_own (empty s) (suc k) = field_own s k
-field_own (leaf b ps s) zero = length ps
-field_own (leaf b ps s) (suc k) = field_own s k
-field_own (inner b t s) zero = 0
-field_own (inner b t s) (suc k) = field_own s k
+abbrev pub own_at : {w : ℕ} → Slots w → ℕ → ℕ
+own_at end k = 0
+own_at (empty s) zero = 0
+own_at (empty s) (suc k) = own_at s k
+own_at (leaf b ps s) zero = length ps
+own_at (leaf b ps s) (suc k) = own_at s k
+own_at (inner b t s) zero = 0
+own_at (inner b t s) (suc k) = own_at s k
 
 -- the positions of slot k's leaf child
 abbrev pub positions_at : {w : ℕ} → Slots w → ℕ → List ℕ

@@ -10,8 +10,8 @@ use lib.Ieee.Bits.{is_true, is_false}
 use Rattle.float.specs.Sign.{sign_bit}
 use Rattle.float.proofs.Sign.{sign_of_bits, no_nan_le_r}
 use Rattle.ray.specs.Ray.{safe_inverse}
-use Rattle.ray.proofs.safe_inverse.Statement.{statement}
-use Rattle.ray.proofs.safe_inverse.Tie as tie
+use Rattle.ray.proofs.safe_inverse.Goals as goal
+use Rattle.ray.proofs.safe_inverse.Goals.{Start}
 
 abbrev lo : Float
 lo = fin true 1 (negsuc 22)
@@ -30,37 +30,34 @@ far : (v : Float) → (le lo v && le v hi) ≡ false → div binary32 (fin false
 unfolding safe_inverse
 far v p = sym (ap (λ (t : Bool). cond t (fin (sign_bit v) 1 (pos 23)) (div binary32 (fin false 1 (pos 0)) v)) p)
 
-held : (c : tie.Start) → T (fits binary32 c.args.v)
-held c = subst T (sym c.well-formed.0.1) tt
+held : (c : Start) → T (fits binary32 c.args.v)
+held c = subst T (sym c.well_formed.0.1) tt
 
-float-to-bits-if3 : tie.Need-float-to-bits-if3
-float-to-bits-if3 c = no_nan_le_r _ c.before.before.args.v c.before.if1.true
+pub float_to_bits-v : goal.float_to_bits-v
+float_to_bits-v c = no_nan_le_r _ c.args.v c.if-v.true
 
-returns : tie.Need-returns
+pub returns-then-v-ge2147483648 : goal.returns-then-v-ge2147483648
 unfolding of_bits neg
-returns c =
-    let v = c.before.before.before.args.v in
-    near v true c.before.before.if1.true c.before.if2.true
-    (sign_of_bits binary32 v (held c.before.before.before) (no_nan_le_r lo v c.before.before.if1.true) ∙ is_true
-    (leb 2147483648 (to_bits binary32 v)) (le→leb 2147483648 (to_bits binary32 v) c.if3.true))
+returns-then-v-ge2147483648 c =
+    let v = c.args.v in
+    near v true c.if-v.true c.if-v-2.true
+    (sign_of_bits binary32 v (held (goal.at.returns-then-v-ge2147483648 c).Start) (no_nan_le_r lo v c.if-v.true) ∙ is_true
+    (leb 2147483648 (to_bits binary32 v)) (le→leb 2147483648 (to_bits binary32 v) c.if-v-ge2147483648.true))
 
-returns-2 : tie.Need-returns-2
+pub returns-else-v-ge2147483648 : goal.returns-else-v-ge2147483648
 unfolding of_bits neg
-returns-2 c =
-    let v = c.before.before.before.args.v in
-    near v false c.before.before.if1.true c.before.if2.true
-    (sign_of_bits binary32 v (held c.before.before.before) (no_nan_le_r lo v c.before.before.if1.true) ∙ is_false
+returns-else-v-ge2147483648 c =
+    let v = c.args.v in
+    near v false c.if-v.true c.if-v-2.true
+    (sign_of_bits binary32 v (held (goal.at.returns-else-v-ge2147483648 c).Start) (no_nan_le_r lo v c.if-v.true) ∙ is_false
     (leb 2147483648 (to_bits binary32 v)) (not_T (leb 2147483648 (to_bits binary32 v))
-    (λ (t : T (leb 2147483648 (to_bits binary32 v))). not-le_of_lt c.if3.false (leb→le 2147483648 (to_bits binary32 v) t))))
+    (λ (t : T (leb 2147483648 (to_bits binary32 v))). not-le_of_lt c.if-v-ge2147483648.false (leb→le 2147483648 (to_bits binary32 v) t))))
 
-returns-3 : tie.Need-returns-3
+pub returns-else-v : goal.returns-else-v
 unfolding of_bits neg
-returns-3 c =
-    let v = c.before.args.v in
-    far v (elim c.if1.branch [
-      | inl w ↦ ap (λ (t : Bool). le lo v && t) w.1.left ∙ and-false (le lo v)
-      | inr w ↦ ap (λ (t : Bool). t && le v hi) w.left
+returns-else-v c =
+    let v = c.args.v in
+    far v (elim c.else-v.branch [
+      | goal.else-v-via-then-v+else-v-2 w ↦ ap (λ (t : Bool). le lo v && t) w.if-v-2.false ∙ and-false (le lo v)
+      | goal.else-v-via-else-v w ↦ ap (λ (t : Bool). t && le v hi) w.if-v.false
     ])
-
-pub safe-inverse-spec : {M : Type 1} → statement M
-safe-inverse-spec = tie.close (tie.spec float-to-bits-if3 returns returns-2 returns-3)

@@ -1,0 +1,6 @@
+use Rattle.words.proofs.HighestBit.{clear_top}
+use borrow.Author.Rules.{rules}
+use Rattle.words.proofs.clear_highest.Goals as goal
+
+pub returns : goal.returns
+returns c = clear_top 32 c.args.r c.args.bits c.requires c.ranges.bits.fits
