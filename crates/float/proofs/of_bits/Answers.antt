@@ -1,4 +1,3 @@
-use borrow.Author.Rules.{rules}
 use Rattle.float.proofs.NanBits.{nan_pattern, no_nan_pattern}
 use Rattle.float.proofs.of_bits.Goals as goal
 

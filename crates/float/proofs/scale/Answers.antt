@@ -1,6 +1,5 @@
 use mathlib.Core.Path.{refl}
 use native.Mathlib.Omega.{arith}
-use borrow.Author.Rules.{rules}
 use Rattle.float.specs.PowerOfTwo.{scale_of}
 use Rattle.float.proofs.NanBits.{no_nan_pattern}
 use Rattle.float.proofs.scale.Goals as goal

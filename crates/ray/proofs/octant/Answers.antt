@@ -1,5 +1,4 @@
 use native.Mathlib.Omega.{arith}
-use borrow.Author.Rules.{rules}
 use Rattle.ray.specs.Ray.{octant_of, below_zero}
 use Rattle.ray.proofs.Bounds.{weight_le}
 use Rattle.ray.proofs.octant.Goals as goal

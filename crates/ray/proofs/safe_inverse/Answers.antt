@@ -1,6 +1,5 @@
 -- `safe_inverse`: the sign bit of the pattern is the sign of the value, which the tests passed have shown to be no NaN.
 use mathlib.Core.Path.{◌≡◌, sym, ap, ◌∙◌, subst}
-use mathlib.Core.Logic.{inl, inr}
 use mathlib.Core.Bool.{Bool, true, false, ◌&&◌, cond, and-false}
 use native.Mathlib.Nat.{not-le_of_lt}
 use lib.IntN.{pos, negsuc}

@@ -1,5 +1,4 @@
 use Rattle.words.proofs.HighestBit.{clear_top}
-use borrow.Author.Rules.{rules}
 use Rattle.words.proofs.clear_highest.Goals as goal
 
 pub returns : goal.returns

@@ -4,7 +4,6 @@ use Rattle.words.specs.Fields.{field}
 use Rattle.words.proofs.Le.{le_byte}
 use mathlib.Core.Path.{◌∙◌, sym}
 use Rattle.words.proofs.Le.{le4}
-use borrow.Author.Rules.{rules}
 use Rattle.words.proofs.load_u32.Goals as goal
 
 pub returns : goal.returns

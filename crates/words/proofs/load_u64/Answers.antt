@@ -4,7 +4,6 @@ use Rattle.words.proofs.Le.{le_byte}
 use mathlib.Core.Path.{◌∙◌, sym, ap₂}
 use Prim.Native.Nat.{ℕ, ◌+◌, ◌*◌}
 use Rattle.words.proofs.Le.{le8}
-use borrow.Author.Rules.{rules}
 use Rattle.words.proofs.load_u64.Goals as goal
 
 pub returns : goal.returns

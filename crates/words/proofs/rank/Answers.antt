@@ -1,7 +1,6 @@
 use mathlib.Core.Path.{ap, ◌∙◌}
 use lib.Count.{ones}
 use Rattle.words.proofs.Masks.{above_mask, ones_below_lem}
-use borrow.Author.Rules.{rules}
 use Rattle.words.proofs.rank.Goals as goal
 
 pub returns : goal.returns

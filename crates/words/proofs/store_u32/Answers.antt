@@ -3,7 +3,6 @@ use native.Mathlib.Omega.{arith}
 use lib.ListN.{length-set}
 use Rattle.words.specs.Fields.{field}
 use Rattle.words.specs.Le.{store_le}
-use borrow.Author.Rules.{rules}
 use Rattle.words.proofs.store_u32.Goals as goal
 
 pub bounds-s-at-2 : goal.bounds-s-at-2

@@ -1,5 +1,4 @@
 use mathlib.Core.Path.{◌∙◌, sym}
-use borrow.Author.Rules.{rules}
 use Rattle.float.proofs.Sign.{self_equal}
 use Rattle.ray.specs.Ray.{accepted_ray}
 use Rattle.ray.proofs.Ray.accepted.Goals as goal

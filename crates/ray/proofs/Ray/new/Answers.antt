@@ -1,4 +1,3 @@
-use borrow.Author.Rules.{rules}
 use Rattle.ray.specs.Ray.{ray_of}
 use Rattle.ray.proofs.Ray.new.Goals as goal
 

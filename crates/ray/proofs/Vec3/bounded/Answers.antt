@@ -1,5 +1,4 @@
 use mathlib.Core.Path.{◌∙◌, sym}
-use borrow.Author.Rules.{rules}
 use Rattle.ray.specs.Ray.{bounded_vec}
 use Rattle.ray.proofs.Vec3.bounded.Goals as goal
 

@@ -1,6 +1,5 @@
 use mathlib.Core.Path.{◌∙◌, sym, ap}
 use mathlib.Core.Bool.{not}
-use borrow.Author.Rules.{rules}
 use Rattle.ray.specs.Ray.{plain_vec}
 use Rattle.ray.proofs.Vec3.plain.Goals as goal
 

@@ -1,4 +1,3 @@
-use borrow.Author.Rules.{rules}
 use Rattle.ray.specs.Ray.{unsigned_vec}
 use Rattle.ray.proofs.Vec3.unsigned.Goals as goal
 
