@@ -1,3 +1,2 @@
 // Internal: what two joined trees are, as theorems about the call `join`. Laws; no code.
 #![tactic(auto)]
-

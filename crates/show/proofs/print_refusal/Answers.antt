@@ -1,0 +1,6 @@
+use Rattle.text.specs.Text.{chars}
+use Rattle.show.proofs.print_refusal.Goals as goal
+
+pub returns : goal.returns
+unfolding chars
+returns c = c.print_numbered.ensures
