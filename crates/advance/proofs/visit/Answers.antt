@@ -1,0 +1,62 @@
+use mathlib.Core.Path.{sym, ◌∙◌}
+use native.Mathlib.Omega.{arith}
+use Rattle.record_shape.specs.Record.{node_count}
+use Rattle.advance.specs.Turn.{group_of, step_answer}
+use Rattle.advance.proofs.Visits.{not_past, turn_crowded, turn_past, turn-broken, turn-tested}
+use Rattle.advance.proofs.visit.Goals as goal
+
+pub returns-then-lacks_room : goal.returns-then-lacks_room
+unfolding step_answer
+returns-then-lacks_room c =
+    let a = c.args in
+    turn_crowded a.«record».now a.n a.ray a.octant a.walk a.stack.now (group_of a.g.group) a.g.depth
+    (group_of c.rest_of-rest.result) c.first_child-child.result
+    c.rest_of-rest.ensures c.first_child-child.ensures (sym c.lacks_room.ensures ∙ c.if-lacks_room.true)
+
+pub returns-then-is_past : goal.returns-then-is_past
+unfolding step_answer
+returns-then-is_past c =
+    let a = c.args in
+    turn_past a.«record».now a.n a.ray a.octant a.walk a.stack.now (group_of a.g.group) a.g.depth
+    (group_of c.rest_of-rest.result) c.first_child-child.result
+    c.rest_of-rest.ensures c.first_child-child.ensures (sym c.lacks_room.ensures ∙ c.if-lacks_room.false)
+    (sym c.is_past.ensures ∙ c.if-is_past.true)
+
+pub test_node-t-requires : goal.test_node-t-requires
+test_node-t-requires c =
+    let h = not_past c.first_child-child.result c.args.walk.tests (node_count c.args.«record».now)
+    (sym c.is_past.ensures ∙ c.if-is_past.false) in
+    (omega (arith, h.0), c.requires.0.ends, c.requires.0.eight)
+
+pub returns-then-not-t : goal.returns-then-not-t
+unfolding step_answer
+returns-then-not-t c =
+    let a = c.args in
+    turn-broken a.«record».now a.n a.ray a.octant a.walk a.stack.now (group_of a.g.group) a.g.depth
+    (group_of c.rest_of-rest.result) c.first_child-child.result
+    c.rest_of-rest.ensures c.first_child-child.ensures (sym c.lacks_room.ensures ∙ c.if-lacks_room.false)
+    (sym c.is_past.ensures ∙ c.if-is_past.false)
+    c.test_node-t.result c.test_node-t.ensures c.if-not-t.true
+
+pub overflow_cast-result : goal.overflow_cast-result
+overflow_cast-result c =
+    let h = not_past c.first_child-child.result c.args.walk.tests (node_count c.args.«record».now)
+    (sym c.is_past.ensures ∙ c.if-is_past.false) in
+    omega (arith, h.0, c.requires.0.nodes)
+
+pub follow-requires : goal.follow-requires
+follow-requires c =
+    let h = not_past c.first_child-child.result c.args.walk.tests (node_count c.args.«record».now)
+    (sym c.is_past.ensures ∙ c.if-is_past.false) in
+    omega (arith, h.1, c.requires.0.nodes)
+
+pub returns : goal.returns
+unfolding step_answer
+returns c =
+    let a = c.args in
+    turn-tested a.«record».now a.n a.ray a.octant a.walk a.stack.now (group_of a.g.group) a.g.depth
+    (group_of c.rest_of-rest.result) c.first_child-child.result
+    c.rest_of-rest.ensures c.first_child-child.ensures (sym c.lacks_room.ensures ∙ c.if-lacks_room.false)
+    (sym c.is_past.ensures ∙ c.if-is_past.false)
+    c.test_node-t.result c.test_node-t.ensures c.if-not-t.false c.follow.result c.wait-depth.result _ c.follow.ensures
+    c.wait-depth.ensures.value c.wait-depth.ensures.stack_after
