@@ -10,9 +10,10 @@ src=$(cd "$1" && pwd)
 shift
 cd "$(dirname "$0")/.."
 out=$PWD/target/bench
-"${RT:-rt}" staticlib funnelcress
-"${RT:-rt}" staticlib measured
+for crate in funnelcress measured; do
+    (cd "crates/$crate" && "${RT:-rt}" lib)
+done
 ORACLE_FLAGS="--cfg uncounted" oracle/build.sh "$src" "$out"
 rustc --edition 2024 -C opt-level=3 --crate-name bench -o "$out/bench" -L "$out" --extern obvhs="$out/libobvhs.rlib" \
-    --extern glam="$out/libglam.rlib" -L target/staticlib -l static=funnelcress -l static=measured bench/main.rs
+    --extern glam="$out/libglam.rlib" -L crates/funnelcress/out -L crates/measured/out -l static=funnelcress -l static=measured bench/main.rs
 "$out/bench" "$@"

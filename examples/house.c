@@ -1,8 +1,8 @@
 /* A small house from C: its tree converted, the record checked, a ray asked for what it meets, a report of two rays, and
  * the house joined to a corridor.
  *
- *   rt staticlib funnelcress
- *   cc -std=c11 -O2 -Iinclude examples/house.c target/staticlib/libfunnelcress.a -o target/house && target/house */
+ *   (cd crates/funnelcress && rt lib)
+ *   cc -std=c11 -O2 -Iinclude examples/house.c crates/funnelcress/out/libfunnelcress.a -o target/house && target/house */
 #include "funnelcress.h"
 #include <math.h>
 #include <stdio.h>

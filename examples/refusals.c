@@ -1,7 +1,7 @@
 /* Each cause of refusal from C, with guards around what is lent: prints a line a call, and fails where one is not refused
  * as it must be or a guard was written.
  *
- *   cc -std=c11 -O2 -Iinclude examples/refusals.c target/staticlib/libfunnelcress.a -o target/refusals && target/refusals */
+ *   cc -std=c11 -O2 -Iinclude examples/refusals.c crates/funnelcress/out/libfunnelcress.a -o target/refusals && target/refusals */
 #include "funnelcress.h"
 #include <math.h>
 #include <stdio.h>

@@ -17,12 +17,12 @@ fn repository() -> PathBuf {
 /// Proves the library and writes its archive.
 fn build(top: &Path) {
     let rt = env::var("RT").unwrap_or("rt".into());
-    let ran = Command::new(&rt).args(["staticlib", "funnelcress"]).current_dir(top).status();
+    let ran = Command::new(&rt).arg("lib").current_dir(top.join("crates/funnelcress")).status();
     match ran {
         Ok(status) if status.success() => {}
-        Ok(status) => fail(&format!("`{rt} staticlib funnelcress` ended with {status}; what it printed says why")),
+        Ok(status) => fail(&format!("`{rt} lib` in crates/funnelcress ended with {status}; what it printed says why")),
         Err(e) => fail(&format!(
-            "there is no archive at target/staticlib/libfunnelcress.a, and `{rt}`, the Rattle toolchain's command, \
+            "there is no archive at crates/funnelcress/out/libfunnelcress.a, and `{rt}`, the Rattle toolchain's command, \
              cannot be run to build one ({e}).\nInstall the toolchain and put `rt` on the PATH (or name it in RT), \
              or name an archive that was built elsewhere in FUNNELCRESS_ARCHIVE."
         )),
@@ -39,7 +39,7 @@ fn archive() -> PathBuf {
         return path;
     }
     let top = repository();
-    let path = top.join("target/staticlib/libfunnelcress.a");
+    let path = top.join("crates/funnelcress/out/libfunnelcress.a");
     if !path.is_file() {
         build(&top);
     }

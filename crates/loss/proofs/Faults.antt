@@ -120,4 +120,5 @@ module _ (bytes indices : List ℕ) (panes : ℕ) (losses : List ℕ) (r : Ray) 
         go : (all_named ≡ false) ⊎ (Ended outcome.ended → ⊥) → gives ≡ unanswered (refused 10)
         go (inl e) = ap (λ (b : Bool). given_by b outcome.ended) e
         go (inr e) =
-            cond_elim (λ (x : Result LossAnswer). x ≡ unanswered (refused 10)) all_named _ _ (λ _. refused_ten refused _ e) (λ _. refl)
+            cond_elim (λ (x : Result LossAnswer). x ≡ unanswered (refused 10)) all_named _ _
+            (λ _. refused_ten refused (λ met tests. record { answer = summed (sum_over (loss_at indices losses) met); tests = tests }) e) (λ _. refl)

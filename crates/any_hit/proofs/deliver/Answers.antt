@@ -1,0 +1,25 @@
+use Rattle.std.proofs.Common.{take, ap, ◌∙◌}
+use Rattle.query.specs.Result.{Result}
+use Rattle.any_hit.specs.AnyHit.{AnyHitAnswer, any_hit_answer, list_for}
+use Rattle.any_hit.proofs.Answers.{fits, lacks}
+use Rattle.any_hit.proofs.deliver.Goals as goal
+
+pub returns-then-count-list : goal.returns-then-count-list
+unfolding any_hit_answer list_for
+returns-then-count-list c =
+    let a = c.args in
+    let e = lacks a.count a.tests _ c.if-count-list.true in
+    record {
+      result_value = e;
+      list_after = ap (λ (x : Result AnyHitAnswer). list_for x.answer (take a.count a.found.now) a.list.now) e;
+    }
+
+pub returns : goal.returns
+unfolding any_hit_answer list_for
+returns c =
+    let a = c.args in
+    let e = fits a.count a.tests _ c.if-count-list.false in
+    record {
+      result_value = e;
+      list_after = c.copy.ensures ∙ ap (λ (x : Result AnyHitAnswer). list_for x.answer (take a.count a.found.now) a.list.now) e;
+    }

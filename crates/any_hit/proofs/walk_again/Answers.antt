@@ -1,0 +1,35 @@
+use Rattle.std.proofs.Common.{ap, arith}
+use Rattle.walk_record.proofs.Laws.{bytes_fit}
+use Rattle.advance.specs.declared.Walk.{Walk}
+use Rattle.advance.specs.Turn.{walker_of}
+use Rattle.any_hit.specs.AnyHit.{any_hit_answer}
+use Rattle.any_hit.proofs.Walks.{walk_begins}
+use Rattle.any_hit.proofs.Answers.{ends_short, ends_again}
+use Rattle.any_hit.proofs.walk_again.Goals as goal
+
+pub returns-then-list-count : goal.returns-then-list-count
+unfolding any_hit_answer
+returns-then-list-count c =
+    let e = ends_short c.args.«record».now c.args.n c.args.ray c.args.list.now c.requires.counted c.if-list-count.true in
+    record { result_value = e.0; list_after = e.1 }
+
+pub gather-again-requires : goal.gather-again-requires
+gather-again-requires c =
+    let a = c.args in
+    let p = c.requires.record_sized in
+    let r = c.begin-start in
+    let fit = bytes_fit _ (λ j. (c.type_inv.record j).fits) in
+    let w = walk_begins a.«record».now a.n a.ray a.list.now fit p.1 a.octant p.2 r.result r.ensures in
+    record {
+      record_sized = (p.0, w);
+      e_value = (c.near_ends-e.ensures, ap (λ (v : Walk). v.positions.bits) r.ensures, omega arith);
+    }
+
+pub returns : goal.returns
+unfolding any_hit_answer
+returns c =
+    let a = c.args in
+    let g = c.gather-again in
+    let e = ends_again a.«record».now a.n a.ray a.list.now c.requires.counted c.if-list-count.false c.requires.record_sized.0
+    g.result.state 0xffff_0000 (walker_of a.ray a.octant g.result.walk g.new.stack) g.result.count g.new.found (omega arith) g.ensures.1 in
+    record { result_value = e.0; list_after = e.1 }
