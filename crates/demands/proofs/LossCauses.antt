@@ -111,7 +111,7 @@ module _ (c : LossCall) (entry : loss_entry c ≡ 0) where
           any_hit_refused 0
           (ap (λ (r : Result AnyHitAnswer). r.answer)
           (any_hit_walked c.bytes (length c.indices) c.ray enters.sizes enters.accepted 0
-          ∙ refused_ten c.bytes c.indices c.panes c.losses c.ray fit A.refused _ h))
+          ∙ refused_ten c.bytes c.indices c.panes c.losses c.ray fit A.refused (λ noted tests. fitted (length noted) tests 0) h))
 
   pub walk_fails : WalkRefusal c → is_summed (walk_loss c).answer ≡ false
   walk_fails q = go (is_summed (walk_loss c).answer) refl q

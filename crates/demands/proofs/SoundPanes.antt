@@ -201,7 +201,7 @@ module _ {bytes indices : List ℕ} {panes : List Float} {d : ℕ} {ray : Ray} (
   none_reported : NoneBelow lt sees_at ray.tmax (miss_reports bytes indices panes ray) ↔ (closest_of bytes indices panes ray).answer ≡ no_hit
   none_reported =
       let u = up_to_none (λ p. lt (sees_at p) ray.tmax) (closest_reports bytes indices panes ray) in
-      let c = closest_answers.no_hit in (
+      let c = closest_answers.no_hit_lem in (
         λ h. c.1 (u.0 (subst (NoneBelow lt sees_at ray.tmax) as_closest h)),
         λ h. subst (NoneBelow lt sees_at ray.tmax) (sym as_closest) (u.1 (c.0 h)),
       )

@@ -7,7 +7,6 @@ use native.Mathlib.Omega.{arith}
 use lib.ListN.{length, get_or}
 use Rattle.lists.specs.Splice.{splice}
 use Rattle.aabb.specs.Aabb.{accepted_box}
-use Rattle.bvh2.specs.Tree.{positions}
 use Rattle.bvh2.specs.Words.{box_at, tree_at}
 use Rattle.bvh2.proofs.Subtree.{node}
 use Rattle.cost.proofs.Bound.{leaves_pos}

@@ -9,7 +9,7 @@ use lib.ListN.{length, get_or, drop, length-map}
 use Rattle.lists.specs.Splice.{splice}
 use Rattle.bvh2.specs.Words.{box_at}
 use Rattle.bvh2.proofs.Reading.{box_is}
-use Rattle.wide_layout.specs.Layout.{Entry, layout, nodes, index_list}
+use Rattle.wide_layout.specs.Layout.{Entry, layout, index_list}
 use Rattle.wide_layout.specs.Conversion.{State, convert_node, write_all, write_positions}
 use Rattle.wide_layout.proofs.Conversion.{converted}
 use Rattle.wide_layout.proofs.Sizes.{index_length}

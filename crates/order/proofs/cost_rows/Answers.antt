@@ -18,5 +18,6 @@ loop-c-preserved c =
     let e : length a.boxes ≡ 8 = omega arith in (
       omega arith,
       map_next (λ b. eight_of (direction_cost a.p b)) no_row _ a.boxes c.loop-c.c c.loop-c.cost c.cost_row-row.result e
-          (omega arith) c.loop-c.invariant.1 (c.cost_row-row.ensures ∙ ap (λ (z : Vec3). eight_of (λ s. dot_of (direction_of s) z)) c.offset-v.ensures),
+          (omega arith) c.loop-c.invariant.1
+          (c.cost_row-row.ensures ∙ ap (λ (z : Vec3). eight_of (λ s. dot_of (direction_of s) z)) c.offset-v.ensures),
     )
