@@ -1,9 +1,10 @@
 -- The samples of a ray's start, each by computation.
-use mathlib.Core.Path.{◌≡◌, refl}
+use mathlib.Core.Path.{◌≡◌, refl, subst}
 use mathlib.Core.Bool.{false}
 use mathlib.Core.List.{[], ◌∷◌}
 use lib.Count.{count_leading_zeros}
-use lib.Ieee.{nan, inf, round, of_bits, of_int, add, sub, mul, div, lt, le, eq, is_nan}
+use lib.IntN.{negsuc}
+use lib.Ieee.{Float, fin, nan, inf, round, of_bits, of_int, add, sub, mul, div, lt, le, eq, is_nan}
 use Rattle.words.specs.Fields.{field}
 use Rattle.words.specs.Le.{le_at, sum_of}
 use Rattle.words.specs.Ones.{ones_below}
@@ -55,7 +56,30 @@ closest :
     × (closest_of bytes_t indices_t panes_t (ahead_from (number 3)) ≡ closest_is (hit_at 1 (number 3)) 1)
     × (closest_of bytes_t indices_t panes_t (ahead_from (halves 7)) ≡ closest_is no_hit 1)
     × (closest_of bytes_t indices_t panes_t (ahead_from nan) ≡ closest_is (refused_closest 9) 0)
-    × (closest_of bytes_t indices_t panes_t (within_a (number 0)) ≡ closest_is (hit_at 1 (halves 3)) 1)
+unfolding closest_of closest_walk closest_found walked entered entry_conditions record_conditions first_cause pane_of pane_met counts box_in vec_in query_at
+    query_words step_words advance_words report_words visit_words pop_words ray_of unsigned_vec plain_vec is_minus_zero octant_of hit_mask slot_hit hit_bits or_of
+    passes near_of far_of max_of min_of plane_at adjusted_inverse adjusted_origin least_limit near_limit scale_of node_from le_at sum_of slot_from slot_offset
+    node_rule head_ok children_ok slots_ok slot_ok leaf_top point_ok exponent_ok in_bounds ones_below field child_index top_of pushed count_leading_zeros safe_inverse
+    bounded_vec accepted_ray accepted_box in_order entry_distance box_near box_far slab_near slab_far unsigned_zero round of_bits of_int add sub mul div lt le eq
+    is_nan
+closest = (refl, refl, refl, refl, refl)
+
+-- The ray from the middle of A enters B at 1.5, which the format holds as 3 halves: without the division that `halves` asks for.
+three_halves : fin false 3 (negsuc 0) ≡ halves 3
+unfolding round of_bits of_int div
+three_halves = refl
+
+closest_at_three_halves : closest_of bytes_t indices_t panes_t (within_a (number 0)) ≡ closest_is (hit_at 1 (fin false 3 (negsuc 0))) 1
+unfolding closest_of closest_walk closest_found walked entered entry_conditions record_conditions first_cause pane_of pane_met counts box_in vec_in query_at
+    query_words step_words advance_words report_words visit_words pop_words ray_of unsigned_vec plain_vec is_minus_zero octant_of hit_mask slot_hit hit_bits or_of
+    passes near_of far_of max_of min_of plane_at adjusted_inverse adjusted_origin least_limit near_limit scale_of node_from le_at sum_of slot_from slot_offset
+    node_rule head_ok children_ok slots_ok slot_ok leaf_top point_ok exponent_ok in_bounds ones_below field child_index top_of pushed count_leading_zeros safe_inverse
+    bounded_vec accepted_ray accepted_box in_order entry_distance box_near box_far slab_near slab_far unsigned_zero round of_bits of_int add sub mul div lt le eq
+    is_nan
+closest_at_three_halves = refl
+
+closest_within :
+    (closest_of bytes_t indices_t panes_t (within_a (number 0)) ≡ closest_is (hit_at 1 (halves 3)) 1)
     × (closest_of bytes_t indices_t panes_t (within_a minus_one) ≡ closest_is (hit_at 0 minus_half) 1)
 unfolding closest_of closest_walk closest_found walked entered entry_conditions record_conditions first_cause pane_of pane_met counts box_in vec_in query_at
     query_words step_words advance_words report_words visit_words pop_words ray_of unsigned_vec plain_vec is_minus_zero octant_of hit_mask slot_hit hit_bits or_of
@@ -63,7 +87,8 @@ unfolding closest_of closest_walk closest_found walked entered entry_conditions 
     node_rule head_ok children_ok slots_ok slot_ok leaf_top point_ok exponent_ok in_bounds ones_below field child_index top_of pushed count_leading_zeros safe_inverse
     bounded_vec accepted_ray accepted_box in_order entry_distance box_near box_far slab_near slab_far unsigned_zero round of_bits of_int add sub mul div lt le eq
     is_nan
-closest = (refl, refl, refl, refl, refl, refl, refl)
+closest_within =
+    (subst (λ (d : Float). closest_of bytes_t indices_t panes_t (within_a (number 0)) ≡ closest_is (hit_at 1 d) 1) three_halves closest_at_three_halves, refl)
 
 miss :
     (miss_of bytes_t indices_t panes_t (ahead_from (number 3)) ≡ miss_is blocked 1)
@@ -100,8 +125,8 @@ near_limits = record {
   nan_any_hit = any_hits.6;
   nan_closest = closest.4;
   nan_miss = miss.2;
-  within_0 = closest.5;
-  within_minus_1 = closest.6;
+  within_0 = closest_within.0;
+  within_minus_1 = closest_within.1;
   told_1 = told.0;
   told_3 = told.1;
   told_3_2 = told.2;

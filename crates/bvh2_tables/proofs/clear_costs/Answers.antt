@@ -1,4 +1,4 @@
-use mathlib.Core.Path.{◌≡◌, refl, ap, ◌∙◌}
+use mathlib.Core.Path.{◌≡◌, ap, ◌∙◌}
 use mathlib.Core.List.{List}
 use Prim.Native.Nat.{ℕ, ◌+◌}
 use native.Mathlib.Nat.{le_antisymm}
@@ -16,16 +16,10 @@ stored : (c : In-loop-i) → set c.loop-i.s c.loop-i.i plus_zero
 stored c =
     ap (λ (x : List _). set x c.loop-i.i plus_zero) c.loop-i.invariant.3 ∙ cleared_next plus_zero c.loop-i.i c.args.s.now (omega arith)
 
-pub loop-i-init : goal.loop-i-init
-loop-i-init c = (omega arith, c.requires, refl, refl)
-
 pub loop-i-preserved : goal.loop-i-preserved
 unfolding of_bits
 loop-i-preserved c =
     (omega arith, c.loop-i.invariant.1, ap length (stored c) ∙ cleared-length plus_zero (c.loop-i.i + 1) c.args.s.now (omega arith), stored c)
-
-pub shape_of-s : goal.shape_of-s
-shape_of-s c = c.loop-i.invariant.2
 
 pub returns : goal.returns
 returns c =

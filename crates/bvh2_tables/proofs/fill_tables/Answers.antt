@@ -2,7 +2,6 @@ use mathlib.Core.Path.{◌≡◌, sym, ap, ◌∙◌}
 use mathlib.Core.List.{◌++◌}
 use native.Mathlib.Omega.{arith}
 use lib.ListN.{length, drop}
-use lib.Seq.{length-take-le}
 use Rattle.cost.specs.Table.{word_of, cost_of}
 use Rattle.cost.proofs.Start.{ready}
 use Rattle.bvh2_tables.specs.Tables.{table_size, cleared}
@@ -15,9 +14,6 @@ use Rattle.bvh2_tables.proofs.fill_tables.Goals.{After-clear}
 words_cleared : (w : After-clear)
     → w.clear.new.s ++ drop (table_size w.args.n) w.args.decisions.now ≡ cleared 0 (table_size w.args.n) w.args.decisions.now
 words_cleared w = cleared_prefix 0 (table_size w.args.n) w.args.decisions.now _ w.requires.2 w.clear.ensures
-
-pub slice_bounds-clear-end-2 : goal.slice_bounds-clear-end-2
-slice_bounds-clear-end-2 c = sym (length-take-le _ _ (omega arith))
 
 pub returns-then-cause-ne0 : goal.returns-then-cause-ne0
 returns-then-cause-ne0 c =

@@ -20,9 +20,6 @@ returns-then-not-accepted c =
     ap accepted_ray (sym c.ray_at-ray.ensures) ∙ sym c.accepted.ensures ∙ c.if-not-accepted.true in
     sym (one_fails (accepts t) (ray_count t) c.loop-k.k c.loop-k-test.true e)
 
-pub loop-k-smaller : goal.loop-k-smaller
-loop-k-smaller c = omega (arith, c.loop-k-test.true)
-
 pub loop-k-preserved : goal.loop-k-preserved
 loop-k-preserved c =
     let t = c.args.s.now in

@@ -2,8 +2,6 @@ use mathlib.Core.Bool.{true, not}
 use mathlib.Core.Path.{◌≡◌, sym, subst}
 use lib.Dec.{T}
 use lib.Ieee.{is_nan}
-use native.Mathlib.Omega.{arith}
-use lib.ListN.{length-set}
 use Rattle.ray.specs.declared.Vec3.{Vec3}
 use Rattle.ray.specs.Ray.{bounded_vec}
 use Rattle.ray.proofs.Bounds.{bounded, no_nans}
@@ -19,14 +17,8 @@ float_to_bits-words c = (numbers _ c.requires.1).0
 pub float_to_bits-words-2 : goal.float_to_bits-words-2
 float_to_bits-words-2 c = (numbers _ c.requires.1).1
 
-pub bounds-words-at-2 : goal.bounds-words-at-2
-bounds-words-at-2 c = simp length-set (omega arith)
-
 pub float_to_bits-words-3 : goal.float_to_bits-words-3
 float_to_bits-words-3 c = (numbers _ c.requires.1).2
-
-pub bounds-words-at-3 : goal.bounds-words-at-3
-bounds-words-at-3 c = simp length-set (omega arith)
 
 pub returns : goal.returns
 returns c = three_written _ _ _ _ _ c.requires.0

@@ -1,6 +1,4 @@
-use mathlib.Core.Path.{◌∙◌}
 use native.Mathlib.Omega.{arith}
-use lib.ListN.{length-set}
 use Rattle.aabb.proofs.Union.{corners_bounded}
 use Rattle.tree_words.proofs.Writing.{node_written}
 use Rattle.tree_words.proofs.put_node.Goals as goal
@@ -11,10 +9,6 @@ put_corner-requires c = (omega (arith, c.requires.0), (corners_bounded _ c.requi
 pub put_corner-requires-2 : goal.put_corner-requires-2
 put_corner-requires-2 c =
     (rw c.put_corner.auto.words (omega (arith, c.requires.0)), (corners_bounded _ c.requires.1).1)
-
-pub shape_of-words : goal.shape_of-words
-shape_of-words c =
-    simp length-set (c.put_corner-2.auto.words ∙ c.put_corner.auto.words)
 
 pub returns : goal.returns
 returns c =
