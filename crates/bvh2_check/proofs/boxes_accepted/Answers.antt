@@ -6,9 +6,6 @@ use Rattle.lists.proofs.Tells.{all_pass, one_fails}
 use Rattle.bvh2_check.proofs.Tests.{was_false, was_true, read_box}
 use Rattle.bvh2_check.proofs.boxes_accepted.Goals as goal
 
-pub loop-node-init : goal.loop-node-init
-loop-node-init c = (omega arith, λ u l. absurd (omega arith))
-
 pub returns-then-not-accepted : goal.returns-then-not-accepted
 returns-then-not-accepted c =
     sym (one_fails _ _ c.loop-node.node (omega arith)

@@ -6,9 +6,6 @@ use Rattle.lists.proofs.Tells.{all_pass, one_fails}
 use Rattle.bvh2_check.proofs.Tests.{was_false, was_true, read_link_lem}
 use Rattle.bvh2_check.proofs.links_inside.Goals as goal
 
-pub loop-v-init : goal.loop-v-init
-loop-v-init c = (omega arith, λ u l. absurd (omega arith))
-
 pub returns-then-not-link_inside : goal.returns-then-not-link_inside
 returns-then-not-link_inside c =
     sym (one_fails _ _ c.loop-v.v (omega arith)

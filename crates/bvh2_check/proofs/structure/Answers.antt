@@ -1,13 +1,10 @@
 use mathlib.Core.Path.{sym, ◌∙◌}
 use native.Mathlib.Omega.{arith}
-use Rattle.bvh2_check.proofs.Verdict.{none, none_marks, first_marks, marks_count, rest_marks}
+use Rattle.bvh2_check.proofs.Verdict.{none, none_marks, first_marks, marks_count}
 use Rattle.bvh2_check.proofs.structure.Goals as goal
 
 pub returns-then-n-eq0 : goal.returns-then-n-eq0
 returns-then-n-eq0 c = record { value = none _ _ c.if-n-eq0.true; marks_after = none_marks _ _ c.if-n-eq0.true }
-
-pub slice_bounds-judge_cleared-length : goal.slice_bounds-judge_cleared-length
-slice_bounds-judge_cleared-length c = first_marks _ _ c.if-n-eq0.false c.requires.1
 
 pub judge_cleared-requires : goal.judge_cleared-requires
 judge_cleared-requires c = (
@@ -15,6 +12,3 @@ judge_cleared-requires c = (
   omega arith,
   sym (first_marks _ c.args.marks.now c.if-n-eq0.false c.requires.1) ∙ marks_count _ c.if-n-eq0.false,
 )
-
-pub returns-clause-marks_after : goal.returns-clause-marks_after
-returns-clause-marks_after c = rest_marks _ _ _ c.if-n-eq0.false c.judge_cleared.ensures.marks_after

@@ -21,9 +21,6 @@ loop-i-preserved c =
           (omega arith),
     )
 
-pub shape_of-s : goal.shape_of-s
-shape_of-s c = c.loop-i.invariant.1
-
 pub returns : goal.returns
 returns c =
     let a = c.args in

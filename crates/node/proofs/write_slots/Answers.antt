@@ -1,5 +1,5 @@
 use native.Mathlib.Omega.{arith}
-use mathlib.Core.Path.{◌≡◌, refl, ◌∙◌}
+use mathlib.Core.Path.{refl, ◌∙◌}
 use Rattle.node.proofs.Offsets.{puts_next}
 use Rattle.node.specs.Node.{put_slots}
 use Rattle.node.proofs.write_slots.Goals as goal
@@ -11,11 +11,3 @@ loop-k-init c = (omega arith, refl, refl)
 pub loop-k-preserved : goal.loop-k-preserved
 loop-k-preserved c =
     (omega arith, puts_next _ _ _ _ _ _ c.loop-k.invariant.1 c.write_slot.ensures, c.write_slot.auto.s ∙ c.loop-k.invariant.2)
-
-pub shape_of-s : goal.shape_of-s
-shape_of-s c = c.loop-k.invariant.2
-
-pub returns : goal.returns
-returns c =
-    let e : c.loop-k.k ≡ 8 = omega arith in
-    rw e at c.loop-k.invariant.1

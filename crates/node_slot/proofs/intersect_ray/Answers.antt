@@ -1,11 +1,8 @@
 use mathlib.Core.Path.{◌≡◌, sym, ◌∙◌}
 use native.Mathlib.Omega.{arith}
-use Rattle.node_slot.proofs.Boxes.{limit_is, ends_lt}
+use Rattle.node_slot.proofs.Boxes.{limit_is}
 use Rattle.node_slot.proofs.Masks.{placed, nothing_marked, mask_whole}
 use Rattle.node_slot.proofs.intersect_ray.Goals as goal
-
-pub marks-on-requires : goal.marks-on-requires
-marks-on-requires c = let h = ends_lt _ _ c.requires.2 in (c.requires.0, h.0, h.1, h.2)
 
 pub returns-then-on-eq0 : goal.returns-then-on-eq0
 returns-then-on-eq0 c =
