@@ -1,0 +1,94 @@
+use Rattle.std.proofs.Common.{◌≡◌, ℕ, ◌≤◌, true, List, ◌++◌, length, set, take, drop, sym, ap, ◌∙◌, subst, arith}
+use Rattle.std.proofs.Math.ListN.{replicate, length-append, length-drop, length-replicate}
+use Rattle.std.proofs.Math.Seq.{length-take-le}
+use Rattle.lists.specs.Sums.{sum_over}
+use Rattle.lists.proofs.Tells.{all_at}
+use Rattle.ray.specs.declared.Ray.{Ray}
+use Rattle.packed.specs.Packed.{ray_in, ray_count}
+use Rattle.query.specs.Met.{positions_met, tests_made, panes_met}
+use Rattle.loss.specs.Loss.{loss_at, is_summed, loss_walked, walks_by}
+use Rattle.loss.specs.Charged.{charged, Ready}
+use Rattle.loss.proofs.Faults.{summed_faultless}
+use Rattle.loss.proofs.Reports.{ray_ready}
+use Rattle.loss.proofs.Written.{totals_begin, totals_next, totals_end, totals_spare, ray_words}
+use Rattle.loss.proofs.total.Goals as goal
+use Rattle.loss.proofs.total.Goals.{At-loop-i}
+
+module _ (c : At-loop-i) where
+  cleared-length : length c.clear.new.totals ≡ c.args.panes
+  cleared-length =
+      ap length c.clear.ensures ∙ length-replicate (length (take c.args.panes c.args.pane_totals.now)) 0
+      ∙ length-take-le c.args.panes c.args.pane_totals.now c.requires.rays_in_bounds.1
+
+  -- the pane totals as they were cleared have room
+  room : c.args.panes ≤ length (c.clear.new.totals ++ drop c.args.panes c.args.pane_totals.now)
+  room =
+      let d = drop c.args.panes c.args.pane_totals.now in
+      omega (
+        arith,
+        cleared-length,
+        length-append c.clear.new.totals d,
+        length-drop c.args.panes c.args.pane_totals.now,
+        c.requires.rays_in_bounds.1,
+      )
+
+pub loop-i-init : goal.loop-i-init
+loop-i-init c =
+    let a = c.args in
+    let e = c.clear.ensures ∙ ap (λ (j : ℕ). replicate j 0) (length-take-le a.panes a.pane_totals.now c.requires.rays_in_bounds.1) in (
+      omega arith,
+      omega arith,
+      totals_begin a.«record».now a.indices.now a.panes a.losses.now a.rays.now a.ray_totals.now a.pane_totals.now
+          c.clear.new.totals e c.requires.rays_in_bounds.1,
+    )
+
+pub total_ray-made-requires : goal.total_ray-made-requires
+unfolding walks_by
+total_ray-made-requires c =
+    let a = c.args in
+    let s = c.requires.entered in
+    let b = c.requires.rays_in_bounds in
+    let t = c.loop-i.invariant.2 in
+    let h = c.loop-i-test.true in
+    let e = sym c.ray_at-ray.ensures in
+    let r = room (goal.at.total_ray-made-requires c).At-loop-i in
+    let w = all_at (walks_by a.«record».now a.indices.now a.panes a.losses.now a.rays.now) (ray_count a.rays.now) b.2 c.loop-i.i h in (
+      s.sizes,
+      subst (λ (r : Ray). Ready a.panes a.losses.now r c.loop-i.pane_totals) e
+          (ray_ready a.«record».now a.indices.now a.panes a.losses.now a.rays.now s c.loop-i.i h c.loop-i.pane_totals
+          (totals_spare a.«record».now a.indices.now a.panes a.losses.now a.rays.now t r s.fitting s.sizes.small (omega (arith, h, s.few)))),
+      subst (λ (r : Ray). is_summed (loss_walked a.«record».now a.indices.now a.panes a.losses.now r).answer ≡ true) e w,
+      omega (arith, h, b.0, ray_words a.«record».now a.indices.now a.panes a.losses.now a.rays.now t r (omega (arith, h, b.0))),
+    )
+
+pub overflow_add-tests : goal.overflow_add-tests
+overflow_add-tests c =
+    omega (arith, c.total_ray-made.type_inv, c.loop-i.invariant.1, c.loop-i.invariant.0, c.requires.entered.few)
+
+pub loop-i-preserved : goal.loop-i-preserved
+unfolding walks_by
+loop-i-preserved c =
+    let a = c.args in
+    let b = c.requires.rays_in_bounds in
+    let h = c.loop-i-test.true in
+    let e = c.ray_at-ray.ensures in
+    let w = all_at (walks_by a.«record».now a.indices.now a.panes a.losses.now a.rays.now) (ray_count a.rays.now) b.2 c.loop-i.i h in
+    let y = summed_faultless a.«record».now a.indices.now a.panes a.losses.now (ray_in a.rays.now c.loop-i.i) w in
+    let m : Ray → List ℕ = λ r. positions_met a.«record».now (length a.indices.now) r in
+    let g = c.total_ray-made in (
+      omega (arith, h),
+      omega (arith, g.type_inv, c.loop-i.invariant.1),
+      totals_next a.«record».now a.indices.now a.panes a.losses.now a.rays.now c.loop-i.invariant.2
+          (room (goal.at.loop-i-preserved c).At-loop-i) (omega (arith, h, b.0)) y.there _ _ g.result
+          (g.ensures.value ∙ ap (tests_made a.«record».now (length a.indices.now)) e)
+          (g.ensures.ray_totals_after
+          ∙ ap (λ (r : Ray). set c.loop-i.ray_totals c.loop-i.i (sum_over (loss_at a.indices.now a.losses.now) (m r))) e)
+          (g.ensures.pane_totals_after ∙ ap (λ (r : Ray). charged a.losses.now c.loop-i.pane_totals (panes_met a.indices.now (m r))) e),
+    )
+
+pub returns : goal.returns
+returns c =
+    let a = c.args in
+    totals_end a.«record».now a.indices.now a.panes a.losses.now a.rays.now c.loop-i.tests a.ray_totals.now a.pane_totals.now
+    c.clear.new.totals c.loop-i.ray_totals c.loop-i.pane_totals (cleared-length (goal.at.returns c).At-loop-i) c.loop-i.i
+    (omega (arith, c.loop-i.invariant.0, c.loop-i-test.false)) c.loop-i.invariant.2

@@ -1,0 +1,146 @@
+use Rattle.std.proofs.Common.{◌≡◌, ℕ, ◌+◌, ◌<◌, List, length, get_or, set, refl, ap, ◌∙◌, subst, rules, arith}
+use Rattle.record_shape.specs.Record.{node_count}
+use Rattle.walk.specs.Words as W
+use Rattle.walk.specs.WordStep.{WalkerWords, SteppedWords, seek_words}
+use Rattle.walk_record.specs.WalkRay.{WalkRay, by_boxes}
+use Rattle.walk_record.specs.Record.{FieldsFit, node_words_at}
+use Rattle.walk_record.proofs.Laws.{bytes_fit}
+use Rattle.advance.specs.declared.Walk.{Walk}
+use Rattle.advance.specs.declared.Answer.{Answer}
+use Rattle.advance.specs.Turn.{group_of, walker_of, step_answer}
+use Rattle.advance.proofs.Seeks.{seeking_from}
+use Rattle.query.proofs.Begins.{walkable}
+use Rattle.loss.specs.Loss.{loss_result}
+use Rattle.loss.proofs.Charged.{fit_length, fit_most}
+use Rattle.loss.proofs.Adding.{Added, adding_begins, sum_most, totals_most, adding_takes, adding_fault, After, adding_seeks}
+use Rattle.loss.proofs.walk_losses.Goals as goal
+use Rattle.loss.proofs.walk_losses.Goals.{After-pane_at-k, After-walk_after-next}
+
+-- ---- at a position
+
+module _ (c : After-pane_at-k) where
+  fit : FieldsFit c.args.bytes.now
+  fit = bytes_fit _ (λ j. (c.type_inv.bytes j).fits)
+
+  module _ (there : c.pane_at-k.result < c.args.panes) where
+    -- its pane has a loss
+    has-loss : c.pane_at-k.result < length c.args.losses.now
+    has-loss = omega (arith, there, fit_length c.args.panes c.args.losses.now c.requires.1.fitting)
+
+    -- after it
+    next : (g : W.Group) → g ≡ W.rest_of (group_of c.loop-walk-2.walk.positions) → (totals : List ℕ)
+        → totals ≡ set c.loop-walk-2.totals c.pane_at-k.result
+        (get_or c.loop-walk-2.totals c.pane_at-k.result 0 + get_or c.args.losses.now c.pane_at-k.result 0)
+        → Added c.requires.0 fit c.loop-walk-2.invariant.1 c.loop-walk-2-test.true c.first_position-p.result c.first_position-p.ensures
+        g c.pane_at-k.result totals
+    next g q totals e =
+        adding_takes c.requires.0 fit c.loop-walk-2.invariant.1 c.loop-walk-2-test.true c.first_position-p.result c.first_position-p.ensures
+        c.pane_at-k.result c.pane_at-k.ensures there g q totals e
+
+-- ---- after a search
+
+module _ (c : After-walk_after-next) where
+  fit_then : FieldsFit c.args.bytes.now
+  fit_then = bytes_fit _ (λ j. (c.type_inv.bytes j).fits)
+
+  -- the walker then
+  abbrev then : WalkerWords WalkRay
+  then = walker_of c.args.ray c.octant-octant.result c.walk_after-next.result c.seek-turn.new.stack
+
+  after : After c.requires.0 fit_then c.loop-walk-2.invariant.1 c.seek-turn.result.answer then
+  after =
+      let a = c.args in
+      let octant = c.octant-octant.result in
+      let none : c.loop-walk-2.walk.positions.bits ≡ 0 = omega (arith, c.loop-walk-2-test.false) in
+      let turned : Walk → SteppedWords WalkRay = λ v. record {
+        walker = walker_of a.ray octant v c.seek-turn.new.stack;
+        answer = step_answer c.seek-turn.result.answer;
+      } in
+      adding_seeks c.requires.0 fit_then c.loop-walk-2.invariant.1 none 0xffff_ffff c.seek-turn.result.answer then
+      (ap turned c.walk_after-next.ensures ∙ c.seek-turn.ensures
+      ∙ ap (seek_words (node_count a.bytes.now) (node_words_at a.bytes.now by_boxes) 0xffff_ffff (length a.indices.now))
+      (seeking_from a.ray octant c.loop-walk.stack c.loop-walk-2.walk none))
+
+  -- by its answer
+  stated : (b : Answer) → c.seek-turn.result.answer ≡ b → After c.requires.0 fit_then c.loop-walk-2.invariant.1 b then
+  stated b e = subst (λ (x : Answer). After c.requires.0 fit_then c.loop-walk-2.invariant.1 x then) e after
+
+pub loop-walk-init : goal.loop-walk-init
+loop-walk-init c =
+    adding_begins c.args.bytes.now c.args.indices.now c.args.panes c.args.losses.now c.args.ray (bytes_fit _ (λ j. (c.type_inv.bytes j).fits))
+    c.requires.1.accepted c.octant-octant.result c.octant-octant.ensures c.begin-walk.result c.begin-walk.ensures c.args.totals.now
+
+pub loop-walk-2-init : goal.loop-walk-2-init
+loop-walk-2-init c = (omega arith, c.loop-walk.invariant)
+
+pub returns-then-k-panes : goal.returns-then-k-panes
+unfolding loss_result
+returns-then-k-panes c =
+    let k = (goal.at.returns-then-k-panes c).After-pane_at-k in
+    record {
+      result_value = adding_fault c.requires.0 (fit k) c.loop-walk-2.invariant.1 c.loop-walk-2-test.true c.first_position-p.result
+          c.first_position-p.ensures c.pane_at-k.result c.pane_at-k.ensures c.if-k-panes.true;
+      charges = tt;
+    }
+
+pub offset_bounds-losses-k : goal.offset_bounds-losses-k
+offset_bounds-losses-k c = let h = has-loss (goal.at.offset_bounds-losses-k c).After-pane_at-k c.if-k-panes.false in search rules
+
+pub bounds-losses-k : goal.bounds-losses-k
+bounds-losses-k c = has-loss (goal.at.bounds-losses-k c).After-pane_at-k c.if-k-panes.false
+
+pub overflow_cast-taken : goal.overflow_cast-taken
+overflow_cast-taken c = omega (arith, c.type_inv.losses c.pane_at-k.result)
+
+pub overflow_add-sum : goal.overflow_add-sum
+overflow_add-sum c =
+    let h = (next (goal.at.overflow_add-sum c).After-pane_at-k c.if-k-panes.false _ refl _ refl).0 in
+    let a = c.args in
+    let m = sum_most a.bytes.now a.indices.now a.panes a.losses.now a.ray h c.requires.1.fitting in
+    let z = c.requires.0.nodes in
+    search rules
+
+pub charge-requires : goal.charge-requires
+charge-requires c =
+    let a = c.args in
+    let f = c.requires.1.fitting in
+    let t = totals_most a.bytes.now a.indices.now a.panes a.losses.now a.ray c.loop-walk-2.invariant.1 f c.pane_at-k.result in
+    let k = fit_most a.panes a.losses.now f c.pane_at-k.result in
+    let z = c.requires.0.nodes in
+    let y = c.requires.1.spare c.pane_at-k.result c.if-k-panes.false in
+    omega (arith, t, k, z, y)
+
+pub loop-walk-2-smaller : goal.loop-walk-2-smaller
+loop-walk-2-smaller c =
+    (next (goal.at.loop-walk-2-smaller c).After-pane_at-k c.if-k-panes.false _ c.rest_of-positions.ensures _ c.charge.ensures).1
+
+pub loop-walk-2-preserved : goal.loop-walk-2-preserved
+loop-walk-2-preserved c =
+    let g = next (goal.at.loop-walk-2-preserved c).After-pane_at-k c.if-k-panes.false _ c.rest_of-positions.ensures _ c.charge.ensures in
+    (omega (arith, g.1, c.loop-walk-2.invariant.0), g.0)
+
+pub seek-turn-requires : goal.seek-turn-requires
+seek-turn-requires c = walkable _ _ c.requires.0 _ c.loop-walk-2.invariant.1.leads.way c.near_ends-e.result c.near_ends-e.ensures
+
+pub loop-walk-smaller : goal.loop-walk-smaller
+loop-walk-smaller c =
+    omega (arith, (stated (goal.at.loop-walk-smaller c).After-walk_after-next _ c.in-Tested.is).1, c.loop-walk-2.invariant.0)
+
+pub loop-walk-preserved : goal.loop-walk-preserved
+loop-walk-preserved c = (stated (goal.at.loop-walk-preserved c).After-walk_after-next _ c.in-Tested.is).0
+
+pub returns-in-Done : goal.returns-in-Done
+unfolding loss_result
+returns-in-Done c =
+    let e = stated (goal.at.returns-in-Done c).After-walk_after-next _ c.in-Done.is in
+    record { result_value = e.0; charges = e.1 }
+
+pub returns-in-Refused : goal.returns-in-Refused
+unfolding loss_result
+returns-in-Refused c = record {
+  result_value = stated (goal.at.returns-in-Refused c).After-walk_after-next _ c.in-Refused.is;
+  charges = tt;
+}
+
+pub returns-in-Position : goal.returns-in-Position
+returns-in-Position c = absurd (stated (goal.at.returns-in-Position c).After-walk_after-next _ c.in-Position.is)
