@@ -9,7 +9,8 @@ use borrow.Author.Tests.{le-leb, lt-leb, le-ltb, leb-false, ltb-true, ltb-false}
 use Rattle.faststack.specs.Stack.{capacity, has_room, top_of}
 use Rattle.walk.specs.Step.{Answer, tested, position, done, refused}
 use Rattle.walk.specs.Words.{Group, unpacked, rest_of, first_position, first_child, has_child, waiting_depth}
-use Rattle.walk.specs.WordStep.{WalkerWords, SteppedWords, NodeWords, leaving, past_skips, bad_child, report_words, visit_words, pop_words, turn_words}
+use Rattle.walk.specs.WordStep.{WalkerWords, SteppedWords, NodeWords, leaving, past_skips, bad_child, report_words, visit_words, pop_words}
+use Rattle.walk.specs.WordStep.{turn_words}
 use Rattle.walk.specs.WordStep.{advance_words, step_words}
 use Rattle.walk.proofs.Cases.{cond_elim, or_false}
 use Rattle.walk.proofs.Stacks.{waiting_most}

@@ -7,7 +7,8 @@ use borrow.Author.Tests.{ltb-true, eqb-true}
 use Rattle.words.specs.Ones.{ones_below}
 use Rattle.words.proofs.Ranks.{ones_word}
 use Rattle.walk.specs.Words.{Group, unpacked, has_child, waiting_depth}
-use Rattle.walk.specs.WordStep.{WalkerWords, SteppedWords, NodeWords, is_test, finds_none, bad_child, visit_words, pop_words, turn_words, advance_words}
+use Rattle.walk.specs.WordStep.{WalkerWords, SteppedWords, NodeWords, is_test, finds_none, bad_child, visit_words, pop_words, turn_words}
+use Rattle.walk.specs.WordStep.{advance_words}
 use Rattle.walk.specs.WordStep.{seek_words}
 use Rattle.lists.proofs.Tells.{both_pass}
 use Rattle.walk.proofs.Cases.{cond_elim}

@@ -14,12 +14,14 @@ use Rattle.bvh2_samples.specs.Trees.{chain}
 
 -- the last leaves are 127 edges below the root
 edges_127 : tree_cause (chain 127 0 0) 128 ≡ 0
-unfolding of_bits le same count link_of box_at read_link labels positions all_below in_bounds bounded_vec in_order accepted_box size_conditions is_inside
+unfolding of_bits le same count link_of box_at read_link labels positions all_below in_bounds bounded_vec in_order accepted_box size_conditions
+    is_inside
     is_position is_whole each_once is_tree structure_conditions first_cause
 edges_127 = refl
 
 -- one more
 edges_128 : tree_cause (chain 128 0 0) 129 ≡ 7
-unfolding of_bits le same count link_of box_at read_link labels positions all_below in_bounds bounded_vec in_order accepted_box size_conditions is_inside
+unfolding of_bits le same count link_of box_at read_link labels positions all_below in_bounds bounded_vec in_order accepted_box size_conditions
+    is_inside
     is_position is_whole each_once is_tree structure_conditions first_cause
 edges_128 = refl

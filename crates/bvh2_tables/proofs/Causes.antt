@@ -95,7 +95,8 @@ module _ {A : Type 0} (z : A) (g : Tree ℕ → ℕ → A) (ws : List ℕ) where
   work_none zero k s e = refl
   work_none (suc n) k s e = absurd (omega arith)
 
-  pub work_tabled : (n k : ℕ) (s u : List A) → 0 < n → (k ≡ 0) ⊎ (5 ≤ k) → u ≡ tabled g ws k (cleared z (table_size n) s) → u ≡ work_after z g ws n k s
+  pub work_tabled : (n k : ℕ) (s u : List A) → 0 < n → (k ≡ 0) ⊎ (5 ≤ k) → u ≡ tabled g ws k (cleared z (table_size n) s) → u
+      ≡ work_after z g ws n k s
   unfolding work_after tabled
   work_tabled zero k s u p r e = absurd (omega arith)
   work_tabled (suc n) zero s u p r e = e

@@ -16,7 +16,8 @@ use Rattle.bvh2_tables.specs.Tables.{table_size, cleared, tabled}
 use Rattle.bvh2_tables.proofs.Cleared.{cleared_again}
 
 -- marks in a cleared slice leave it cleared
-pub still-cleared : (n : ℕ) (s t u : List ℕ) → 0 < n → t ≡ cleared 0 (table_size n) s → u ≡ cleared 0 (mark_count n) t → u ≡ cleared 0 (table_size n) s
+pub still-cleared : (n : ℕ) (s t u : List ℕ) → 0 < n → t ≡ cleared 0 (table_size n) s → u ≡ cleared 0 (mark_count n) t → u
+    ≡ cleared 0 (table_size n) s
 still-cleared n s t u p e f = f ∙ ap (cleared 0 (mark_count n)) e ∙ cleared_again 0 (mark_count n) (table_size n) s (omega arith)
 
 module _ {A : Type 0} (g : Tree ℕ → ℕ → A) (ws : List ℕ) where

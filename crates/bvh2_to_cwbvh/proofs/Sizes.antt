@@ -30,4 +30,5 @@ module _ (ws : List ℕ) (limit : ℕ) (ordered : Bool) where
 
   pub list_length : (indices : List ℕ) → Accepted ws (length indices) → length (index_list_of ws indices limit ordered) ≡ length indices
   unfolding index_list_of
-  list_length indices h = length-map (output_positions ws (length indices) limit ordered) (λ p. get_or indices p 0) ∙ positions-length (length indices) h
+  list_length indices h = length-map (output_positions ws (length indices) limit ordered) (λ p. get_or indices p 0)
+      ∙ positions-length (length indices) h

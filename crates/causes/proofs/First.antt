@@ -22,7 +22,8 @@ in_one (x ∷ l) j k e h = go (eqb x j) (eqb_tells x j) (eqb x k) (eqb_tells x k
     at : Bool → ℕ → ℕ
     at a m = elim a [ true ↦ 0 | false ↦ suc m ]
 
-    go : (a : Bool) → Tells (x ≡ j) a → (b : Bool) → Tells (x ≡ k) b → at a (place_in l j) ≡ at b (place_in l k) → at a (place_in l j) < suc (length l)
+    go : (a : Bool) → Tells (x ≡ j) a → (b : Bool) → Tells (x ≡ k) b → at a (place_in l j) ≡ at b (place_in l k)
+        → at a (place_in l j) < suc (length l)
         → (place_in l j ≡ place_in l k → place_in l j < length l → j ≡ k) → j ≡ k
     go true (passes p) true (passes q) e h r = sym p ∙ q
     go true (passes p) false (fails q) e h r = absurd (omega arith)

@@ -7,7 +7,6 @@ use native.Mathlib.Omega.{arith}
 use lib.Dec.{ltb}
 use lib.ListN.{length, take, drop, length-append, length-drop}
 use lib.Seq.{take-length, length-take-le}
-use Rattle.io.specs.Counts.{IsPrefixLen}
 use Rattle.lists.specs.Splice.{splice}
 use Rattle.lists.proofs.Tells.{Tells, passes, fails, ltb_tells}
 use Rattle.causes.specs.Sizes.{record_cause}
@@ -85,5 +84,5 @@ text_fits s t text r l e w =
     omega arith
 
 -- a number no longer than a list counts its first elements
-pub counts : (n : ℕ) (s : List ℕ) → n ≤ length s → IsPrefixLen n s
+pub counts : (n : ℕ) (s : List ℕ) → n ≤ length s → (n ≤ length s) × (n ≡ length (take n s))
 counts n s l = (l, sym (length-take-le n s l))

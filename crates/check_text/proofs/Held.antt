@@ -84,6 +84,24 @@ reads_hold first rest counts room read =
       bytes = take-take longest (held_after (longest + 80) counts) first (omega arith) ∙ sym (take-append-le longest first rest (omega arith));
     }
 
+-- the same for one count of all the rest
+pub read_holds : (first rest : List ℕ) (held : ℕ) → length first ≡ longest + 80 → held ≡ held_length (longest + 80 + length rest)
+    → StandsFor (first ++ rest) (take held first)
+unfolding held_after sum_over
+read_holds first rest held room e = rw e (reads_hold first rest (length rest ∷ []) room (add-zero (length rest)))
+
+-- where the room is full, its length is held
+pub held_room : held_length (longest + 80) ≡ longest + 80
+held_room = held_over (longest + 80) (omega arith)
+
+-- input that the room takes whole stands for itself
+pub all_holds : (input : List ℕ) → length input ≤ longest + 80 → StandsFor input input
+all_holds input l = record { long = go (held_length (length input)) (held_as_lem (length input)); bytes = refl }
+  where
+    go : (h : ℕ) → HeldAs (length input) h → length input ≡ h
+    go h (whole p) = refl
+    go h (over p) = omega arith
+
 -- ---- answers
 
 over_cause_lem : (input : List ℕ) (n : ℕ) → longest < length input → over_cause (length input) ≡ record_cause (length (drop 4 input)) n

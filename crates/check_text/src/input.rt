@@ -1,7 +1,13 @@
 // The input of `checkrecord`, read to its end, whatever its length.
-ghost use Rattle.std.specs.Prelude.{◌≡◌, ◌+◌, ◌≤◌, length};
-ghost use Rattle.io.specs.Counts.{IsPrefixLen};
-ghost use Rattle.check_text.specs.Held.{longest, held_length};
+ghost use Rattle.std.specs.Prelude.{◌≡◌, ◌+◌, ◌≤◌, ◌<◌, length, take, IfOk, IfSome};
+ghost use Rattle.std.specs.Io.{ReadsAtMost};
+ghost use Rattle.std.specs.Io.KnownBytes.{Consumes, IsAtEnd};
+ghost use Rattle.lists.specs.Splice.{splice};
+ghost use Rattle.check_text.specs.CheckText.{check_text};
+ghost use Rattle.check_text.specs.Held.{longest, held_length, StandsFor};
+
+use std::io;
+use std::io::{Error, ErrorKind, Read};
 
 // The word n and 65,535 nodes.
 const LONGEST: usize = 5242804;
@@ -27,38 +33,46 @@ fn held_length(held: usize, more: usize) -> usize
     LONGEST + 1 + (long - (LONGEST + 1)) % node::BYTES
 }
 
-// The length held where a descriptor is at the end of the input; 0 where it is not, since a read failed: what can't be read whole is no whole record.
-fn ended(fd: i32, held: usize) -> usize
-    ensures { result ≤ held }
+// Reads until a buffer is full or the input ends, and answers how many bytes it put at the buffer's start.
+fn read_full<R: Read>(input: &mut R, bytes: &mut [u8]) -> io::Result<usize>
+    ensures prefix { ReadsAtMost result bytes.new }
+    ensures taken { IfOk result (λ n. Consumes (R.remaining input.old) (R.remaining input.new) (take n bytes.new)) }
+    ensures end { IfOk result (λ n. n < length bytes.new → IsAtEnd (R.remaining input.new)) }
 {
-    let mut next = [0u8; 1];
-    if libc::read(fd, &mut next) == 0 {
-        return held;
+    let mut held = 0;
+    while held < bytes.len() {
+        let more = input.read(&mut bytes[held..])?;
+        if more == 0 {
+            break;
+        }
+        held += more;
     }
-    0
+    Ok(held)
 }
 
-// Reads the input behind a descriptor to its end, keeps its first bytes, and answers the length that stands for its own.
-fn read_input(fd: i32, bytes: &mut [u8]) -> usize
+// Reads the input to its end, keeps its first bytes, and answers the length that stands for its own. What can't be read whole is no whole record: a
+// read that fails is an error.
+fn read_input<R: Read>(input: &mut R, bytes: &mut [u8]) -> io::Result<usize>
     requires { longest + 80 ≡ length bytes.old }
-    ensures { IsPrefixLen result bytes.new }
+    ensures prefix { ReadsAtMost result bytes.new }
+    ensures held { IfOk result (λ n. IfSome (R.remaining input.old) (λ all. StandsFor all (take n bytes.new))) }
 {
-    let mut held = io::read_full(fd, bytes);
+    let mut held = read_full(input, bytes)?;
     if held < bytes.len() {
-        return ended(fd, held);
+        return Ok(held);
     }
-    let mut space = io::large_buffer();
+    let mut space = [0u8; 65536];
     let rest: &mut [u8] = &mut space;
     let mut reads: u64 = 0;
     while reads < MOST_READS {
-        let more = io::read_full(fd, rest);
+        let more = read_full(input, rest)?;
         if more == 0 {
-            return ended(fd, held);
+            return Ok(held);
         }
         held = held_length(held, more);
         reads += 1;
     }
-    held
+    Err(Error::from(ErrorKind::FileTooLarge))
 }
 
 // Room for what is kept of the input.
@@ -68,13 +82,15 @@ fn room() -> [u8; MOST_BYTES]
     [0u8; MOST_BYTES]
 }
 
-// Reads the input behind a descriptor to its end, and writes the line that answers it.
-pub fn answer(fd: i32, line: &mut [u8]) -> usize
+// Reads the input to its end, and writes the line that answers it; an error where a read fails.
+pub fn answer<R: Read>(input: &mut R, line: &mut [u8]) -> io::Result<usize>
     requires { 19 ≤ length line.old }
-    ensures { IsPrefixLen result line.new }
+    ensures prefix { ReadsAtMost result line.new }
+    ensures text { IfOk result (λ n. IfSome (R.remaining input.old)
+        (λ all. (n ≡ length (check_text all)) × (line.new ≡ splice line.old 0 (check_text all)))) }
 {
     let mut bytes = room();
-    let held = read_input(fd, &mut bytes);
+    let held = read_input(input, &mut bytes)?;
     let mut words = [0u32; MOST_WORDS];
-    super::check_text(&bytes[..held], &mut words, line)
+    Ok(super::check_text(&bytes[..held], &mut words, line))
 }

@@ -1,11 +1,13 @@
 // checkrecord: reads a little-endian word n and the bytes of a record from standard input, to its end, and prints `sound LEVEL`, `unsound` or
-// `refused NUMBER`.
+// `refused NUMBER`. Input that can't be read whole, since a read fails, is `refused 1`.
 #![tactic(auto)]
 
-use libc::{STDIN_FILENO, STDOUT_FILENO};
+use std::io;
 
-fn main() {
+fn main(rt: HostRuntime) -> io::Result<()> {
     let mut line = [0u8; 19];
-    let long = check_text::answer(STDIN_FILENO, &mut line);
-    io::write_all(STDOUT_FILENO, &line[..long]);
+    match check_text::answer(&mut rt.stdin(), &mut line) {
+        Ok(long) => rt.write_all(&line[..long]),
+        Err(_) => rt.println("refused 1"),
+    }
 }

@@ -102,7 +102,8 @@ pub record Down (ws ds : List ℕ) (e v f l r count : ℕ) (g : ℕ → List (Tr
       → Opens ws ds (e - 1) (f + 1) r half
   pub joined : (s₀ s₁ s₂ : List ℕ) (half end : ℕ) → 8 ≤ length s₀
       → ((limit : ℕ) → RowsHold (word_of limit) 0 ds (tree_at ws (e - 1) f) → Gathered (part limit (tree_at ws (e - 1) f) l) count s₀ s₁ half)
-      → ((limit : ℕ) → RowsHold (word_of limit) 0 ds (tree_at ws (e - 1) (f + 1)) → Gathered (part limit (tree_at ws (e - 1) (f + 1)) r) half s₁ s₂ end)
+      → ((limit : ℕ) → RowsHold (word_of limit) 0 ds (tree_at ws (e - 1) (f + 1))
+          → Gathered (part limit (tree_at ws (e - 1) (f + 1)) r) half s₁ s₂ end)
       → (limit : ℕ) → RowsHold (word_of limit) 0 ds (tree_at ws e v) → Gathered (g limit) count s₀ s₂ end
 
 both_written : (A B : List (Tree ℕ)) (count half end : ℕ) (s₀ s₁ s₂ : List ℕ) → Gathered A count s₀ s₁ half → Gathered B half s₁ s₂ end
@@ -168,7 +169,8 @@ module _ {ws ds : List ℕ} {e v : ℕ} (h : Tabled ws ds e v) (f : ℕ) (p : In
       }
 
 -- a node that distributes is an inner one
-kind_inner : {ws ds : List ℕ} {e v : ℕ} → Tabled ws ds e v → (i : ℕ) → i ≤ 6 → get_or ds (v * 7 + i) 0 / 0x4000_0000 ≡ 2 → word_at ws v 6 / 0x4000_0000
+kind_inner : {ws ds : List ℕ} {e v : ℕ} → Tabled ws ds e v → (i : ℕ) → i ≤ 6 → get_or ds (v * 7 + i) 0 / 0x4000_0000 ≡ 2
+    → word_at ws v 6 / 0x4000_0000
     ≡ 0
 kind_inner {ws} {ds} {e} {v} h i u z = pick (ℕ_discrete (word_at ws v 6 / 0x4000_0000) 0)
   where

@@ -109,7 +109,8 @@ Ends = OutcomeWords WalkRay (Found Float)
 
 -- from walk v over a record of these bytes and n positions, with x noted, the query ends as the goal says
 abbrev pub LeadsBy : List ℕ → (n octant : ℕ) → Reacts → Ends → Ray → Walk → List ℕ → Found Float → Type 0
-LeadsBy bytes n octant react goal ray v stack x = Leads (node_count bytes) (node_words_at bytes by_boxes) n react goal (walker_of ray octant v stack) x
+LeadsBy bytes n octant react goal ray v stack x =
+    Leads (node_count bytes) (node_words_at bytes by_boxes) n react goal (walker_of ray octant v stack) x
 
 -- the most steps that are left to walk v
 abbrev pub steps_by : List ℕ → ℕ → Ray → Walk → List ℕ → ℕ

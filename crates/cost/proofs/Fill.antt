@@ -44,7 +44,8 @@ module _ {A : Type 0} (g : Tree ℕ → ℕ → A) where
       ∙ none_below a s x k d (omega arith) u
 
   -- a node outside the tree keeps what it had
-  pub outside : (t : Tree ℕ) (s : List A) (x k : ℕ) (d : A) → count x (labels t) ≡ 0 → k < 7 → get_or (fill g t s) (x * 7 + k) d ≡ get_or s (x * 7 + k) d
+  pub outside : (t : Tree ℕ) (s : List A) (x k : ℕ) (d : A) → count x (labels t) ≡ 0 → k < 7 → get_or (fill g t s) (x * 7 + k) d
+      ≡ get_or s (x * 7 + k) d
   outside t s x k d h u = none_below t s x k d (sym (count-labels x t) ∙ h) u
 
   -- the root holds its own row

@@ -23,7 +23,8 @@ use Rattle.record_laws.specs.Writable.{Writable}
 use Rattle.bvh2_to_cwbvh.specs.Conversion.{record_of, level_of, output_positions, index_list_of}
 use Rattle.bvh2_to_cwbvh.proofs.Answers.{answered}
 use Rattle.bvh2_to_cwbvh.proofs.Sizes.{bytes-length, list_length}
-use Rattle.demands.specs.Call.{Call, Answers, leaf_count, record_at, list_at, leaf_positions, defined_record, defined_list, deepest_level, Convertible}
+use Rattle.demands.specs.Call.{Call, Answers, leaf_count, record_at, list_at, leaf_positions, defined_record, defined_list, deepest_level}
+use Rattle.demands.specs.Call.{Convertible}
 use Rattle.demands.proofs.Writes.{Writes, nothing, written}
 use Rattle.demands.proofs.Boxes.{node_boxes}
 

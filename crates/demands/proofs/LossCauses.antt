@@ -63,7 +63,8 @@ module _ (panes : ℕ) (losses : List ℕ) where
   unfolding losses_fit
   losses_show e = go (eqb (length losses) panes) refl e
     where
-      go : (b : Bool) → eqb (length losses) panes ≡ b → b && all_below (λ k. leb (get_or losses k 0) 1000000) panes ≡ false → LossesRefusal panes losses
+      go : (b : Bool) → eqb (length losses) panes ≡ b → b && all_below (λ k. leb (get_or losses k 0) 1000000) panes ≡ false
+          → LossesRefusal panes losses
       go false h q = not-each (denied (eqb_tells (length losses) panes) h)
       go true h q =
           let u = where_fails (λ k. leb (get_or losses k 0) 1000000) panes q in

@@ -93,7 +93,8 @@ module _ (bytes indices : List ℕ) (panes : List Float) (are_bytes : (i : ℕ) 
   T = tests_of (slots_at bytes by_boxes n)
 
   -- what came of some positions, where a hit was noted
-  hit_came : (reports : List ℕ) (p : ℕ) (t : Float) (y : Found Float) → y ≡ hit p t → Came (pane_of indices panes) nearer (walk_ray ray) none y reports
+  hit_came : (reports : List ℕ) (p : ℕ) (t : Float) (y : Found Float) → y ≡ hit p t
+      → Came (pane_of indices panes) nearer (walk_ray ray) none y reports
       → HitCounts indices panes ray reports p t
   unfolding pane_of
   hit_came reports p t y e (stayed f) = let z : ◌≡◌ {A = ℕ} 0 1 = cc in absurd (omega arith)
@@ -139,7 +140,8 @@ module _ (bytes indices : List ℕ) (panes : List Float) (are_bytes : (i : ℕ) 
   block_counts e =
       let w = on_entry_lem refused_miss blocked refused_blocked_apart (pane_cause bytes indices panes ray) (miss_walked bytes indices panes ray) e in
       let b = begun w.0 in
-      let f = at_end refused_miss blocked refused_blocked_apart miss_found (miss_walk bytes indices panes ray) (miss_walk bytes indices panes ray).ended
+      let f = at_end refused_miss blocked refused_blocked_apart miss_found (miss_walk bytes indices panes ray)
+              (miss_walk bytes indices panes ray).ended
       w.1 in
       let h = found_block _ _ f in (
         h.0,

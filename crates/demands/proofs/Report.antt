@@ -156,7 +156,8 @@ module _ (c : ReportCall) where
     }
 
     -- Each pane's word is its loss as often as the positions that the rays meet are its own.
-    pub pane_total_lem : (k : ℕ) → k < c.panes → pane_word c k ≡ sum (λ i. times_named (single c i) (met (single c i)) k) (rays_of c) * get_or c.losses k 0
+    pub pane_total_lem : (k : ℕ) → k < c.panes → pane_word c k
+        ≡ sum (λ i. times_named (single c i) (met (single c i)) k) (rays_of c) * get_or c.losses k 0
     unfolding totals_in
     pane_total_lem k h =
         ap (λ (r : Report). get_or r.pane_totals k 0) T.leaves

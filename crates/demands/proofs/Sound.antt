@@ -57,7 +57,8 @@ unfolding shape_in
 good_wide t h low =
     let S = shape_at (record_bytes t) (index_count t) in
     let r = record_reads t h in record {
-      sound = reads_sound S t r (RuleAt (record_bytes t) (index_count t)) (λ v l. record_rule t h v (subst (λ (m : ℕ). v < m) (record-count t) l)) low;
+      sound = reads_sound S t r (RuleAt (record_bytes t) (index_count t))
+          (λ v l. record_rule t h v (subst (λ (m : ℕ). v < m) (record-count t) l)) low;
       deepest = reads_deepest S t r;
       layout = omega (arith, record-length t);
       nodes = omega (arith, record-count t, h.nodes);

@@ -34,7 +34,8 @@ use Rattle.demands.proofs.Rays.{not_forged}
 use Rattle.demands.proofs.Listed.{answers_listed, list_found}
 
 -- A record, a list of bytes, that the record check finds sound is such a record.
-pub checked_good : (bytes : List ℕ) → ((i : ℕ) → get_or bytes i 0 < 256) → (n d words : ℕ) → check_of bytes n words ≡ sound d → CheckedRecord bytes n d
+pub checked_good : (bytes : List ℕ) → ((i : ℕ) → get_or bytes i 0 < 256) → (n d words : ℕ) → check_of bytes n words ≡ sound d
+    → CheckedRecord bytes n d
 checked_good bytes are_bytes n d words e =
     let h = (sound_iff bytes n words d).0 e in
     let f = (fits (length bytes) n words h.0).sizes in

@@ -34,7 +34,8 @@ cell_none ws decisions depth v e =
     ap (λ (b : Bool). cell_by b (get_or decisions (v * 7) 0 / 0x4000_0000) (box_at ws v) (tree_at ws depth v)) (eq-eqb v 0xffff_ffff e)
 
 module _ (ws decisions : List ℕ) (depth v : ℕ) (child : v ≡ 0xffff_ffff → ⊥) where
-  is_child : (k : ℕ) → get_or decisions (v * 7) 0 / 0x4000_0000 ≡ k → cell_of ws decisions depth v ≡ cell_by false k (box_at ws v) (tree_at ws depth v)
+  is_child : (k : ℕ) → get_or decisions (v * 7) 0 / 0x4000_0000 ≡ k → cell_of ws decisions depth v
+      ≡ cell_by false k (box_at ws v) (tree_at ws depth v)
   unfolding cell_of
   is_child k e = ap₂ (λ (b : Bool) (x : ℕ). cell_by b x (box_at ws v) (tree_at ws depth v)) (ne_eqb v 0xffff_ffff child) e
 
@@ -79,7 +80,8 @@ module _ (indices : List ℕ) (b : Aabb) (start : ℕ) (cell : ℕ → Cell) (li
   one_bounds k (as_leaf d t) s h l = let e = pow-succ' 2 k in (omega arith, omega arith)
   one_bounds k (as_node d) s h l = let e = pow-succ' 2 k in (omega arith, omega arith)
 
-  pub first_bounds : (k : ℕ) → ((first_slots indices b start cell k list).own.imask < 2 ^ k) × ((first_slots indices b start cell k list).own.inner ≤ k)
+  pub first_bounds : (k : ℕ) → ((first_slots indices b start cell k list).own.imask < 2 ^ k)
+      × ((first_slots indices b start cell k list).own.inner ≤ k)
   unfolding first_slots
   first_bounds zero = (omega arith, omega arith)
   first_bounds (suc k) = let h = first_bounds k in one_bounds k (cell k) (first_slots indices b start cell k list) h.0 h.1

@@ -142,7 +142,8 @@ pub record Entered (indices : List ℕ) (b : Aabb) (start : ℕ) (s : Slots 8) (
   pub at : z.own.at ≡ start + own_count s
   pub list : z.list ≡ splice before start (words_at indices (own_positions s))
 
-pub all_slots_lem : (indices : List ℕ) (b : Aabb) (start : ℕ) (s : Slots 8) (before : List ℕ) → start + own_count s ≤ length before → (cell : ℕ → Cell)
+pub all_slots_lem : (indices : List ℕ) (b : Aabb) (start : ℕ) (s : Slots 8) (before : List ℕ) → start + own_count s ≤ length before
+    → (cell : ℕ → Cell)
     → ((k : ℕ) → k < 8 → Matches (cell k) (content_at s k)) → Entered indices b start s before (first_slots indices b start cell 8 before)
 all_slots_lem indices b start s before room cell matches =
     let h = first_upto indices b start s before room cell matches 8 (omega arith) in

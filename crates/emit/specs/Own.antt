@@ -39,7 +39,8 @@ cell_of ws decisions depth v = cell_by (eqb v 0xffff_ffff) (get_or decisions (v 
 -- what slot i of a node of box b holds, whose own positions start at `start` and are written up to `at`
 unfoldable pub held_in : Aabb → (start i at : ℕ) → Cell → Held
 held_in b start i at none = record { meta = 0; corners = no_slot; bit = 0; inner = 0; at = at }
-held_in b start i at (as_leaf c t) = record { meta = leaf_meta (leaves t) (at - start); corners = grid_box b c; bit = 0; inner = 0; at = at + leaves t }
+held_in b start i at (as_leaf c t) =
+    record { meta = leaf_meta (leaves t) (at - start); corners = grid_box b c; bit = 0; inner = 0; at = at + leaves t }
 held_in b start i at (as_node c) = record { meta = inner_meta i; corners = grid_box b c; bit = 2 ^ i; inner = 1; at = at }
 
 -- the index list with a leaf child's words from `at` on

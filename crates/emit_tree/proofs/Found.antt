@@ -26,7 +26,8 @@ use Rattle.order.specs.Order.{gathered_order, slots_of, placed}
 use Rattle.emit_tree.specs.Emission.{slot_words}
 
 -- the boxes of gathered nodes, read by their numbers, and that they can be read
-boxes_read : (ws ds : List ℕ) (n limit d : ℕ) (g : List (Tree ℕ)) → EachTree (Reread ws ds n limit d) g → map (box_at ws) (map label_of g) ≡ map box_of g
+boxes_read : (ws ds : List ℕ) (n limit d : ℕ) (g : List (Tree ℕ)) → EachTree (Reread ws ds n limit d) g → map (box_at ws) (map label_of g)
+    ≡ map box_of g
 unfolding EachTree
 boxes_read ws ds n limit d [] h = refl
 boxes_read ws ds n limit d (t ∷ g) h =
@@ -54,7 +55,8 @@ in_order_placed z (a ∷ b ∷ c ∷ d ∷ e ∷ f ∷ g ∷ i ∷ []) h = refl
 in_order_placed z (a ∷ b ∷ c ∷ d ∷ e ∷ f ∷ g ∷ i ∷ j ∷ xs) h = absurd (omega arith)
 
 module _ {ws ds : List ℕ} {d v r : ℕ} {found : List ℕ} (h : Tabled ws ds d v)
-    (k : (limit : ℕ) → RowsHold (word_of limit) 0 ds (tree_at ws d v) → Gathered (gather limit (tree_at ws d v) 0) 0 (replicate 8 0xffff_ffff) found r)
+    (k : (limit : ℕ) → RowsHold (word_of limit) 0 ds (tree_at ws d v)
+        → Gathered (gather limit (tree_at ws d v) 0) 0 (replicate 8 0xffff_ffff) found r)
   where
     -- as many as there are, and their numbers
     number : (limit : ℕ) → RowsHold (word_of limit) 0 ds (tree_at ws d v) → length (map label_of (gather limit (tree_at ws d v) 0)) ≡ r
@@ -85,7 +87,8 @@ module _ {ws ds : List ℕ} {d v r : ℕ} {found : List ℕ} (h : Tabled ws ds d
         rw e q
 
     -- with ordering
-    pub found_slots : (ordered : Bool) → ordered ≡ true → (p : Aabb) (bs : List Aabb) → p ≡ box_at ws v → bs ≡ padded p (map (box_at ws) (take r found))
+    pub found_slots : (ordered : Bool) → ordered ≡ true → (p : Aabb) (bs : List Aabb) → p ≡ box_at ws v → bs
+        ≡ padded p (map (box_at ws) (take r found))
         → (limit : ℕ) → RowsHold (word_of limit) 0 ds (tree_at ws d v)
         → placed 0xffff_ffff (slots_of true p (take r bs)) (take r found) ≡ slot_words ordered limit (tree_at ws d v)
     unfolding slot_words padded

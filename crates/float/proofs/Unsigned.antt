@@ -114,7 +114,8 @@ module _ (x : Float) where
 -- a number and its unsigned self are each at most the other
 module _ (x : Float) (number : T (not (is_nan x))) where
   pub unsigned_below : T (le (unsigned_zero x) x)
-  unsigned_below = unsigned_cases (λ y. T (le y x)) x (zero_cases (λ y. T (le plus_zero y)) (λ s e. le_of_eq plus_zero (fin s 0 e) (equal_zero s e)) x)
+  unsigned_below = unsigned_cases (λ y. T (le y x)) x
+      (zero_cases (λ y. T (le plus_zero y)) (λ s e. le_of_eq plus_zero (fin s 0 e) (equal_zero s e)) x)
       (λ e. le_self x number)
 
   pub unsigned_above : T (le x (unsigned_zero x))

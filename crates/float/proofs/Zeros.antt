@@ -50,7 +50,8 @@ minus_zero_lem (fin s zero e) F = subst (λ (x : Float). sub binary32 x plus_zer
 abbrev PlusZero : Float → Type 0
 PlusZero x = (add binary32 x plus_zero ≡ x) ⊎ ((x ≡ fin true 0 (pos 0)) × (add binary32 x plus_zero ≡ plus_zero))
 
-pub plus_zero_lem : (x : Float) → T (fits binary32 x) → (add binary32 x plus_zero ≡ x) ⊎ ((x ≡ fin true 0 (pos 0)) × (add binary32 x plus_zero ≡ plus_zero))
+pub plus_zero_lem : (x : Float) → T (fits binary32 x) → (add binary32 x plus_zero ≡ x)
+    ⊎ ((x ≡ fin true 0 (pos 0)) × (add binary32 x plus_zero ≡ plus_zero))
 unfolding add round
 plus_zero_lem nan F = inl refl
 plus_zero_lem (inf s) F = inl refl

@@ -15,7 +15,8 @@ use Rattle.bvh2_to_cwbvh.specs.Answer.{conversion_answer}
 use Rattle.bvh2_to_cwbvh.proofs.Answers.{answered}
 use Rattle.funnelcress.specs.Converted.{conversion_by, conversion_number}
 
-pub number_converted : (c : Conversion) (nodes level : ℕ) → c ≡ Converted nodes level → level * 65536 + nodes ≡ conversion_number (conversion_answer c)
+pub number_converted : (c : Conversion) (nodes level : ℕ) → c ≡ Converted nodes level → level * 65536 + nodes
+    ≡ conversion_number (conversion_answer c)
 unfolding conversion_number conversion_answer
 number_converted c nodes level e = rw e
 

@@ -90,7 +90,8 @@ accepted_linked ws n a p = let f = accepted_facts ws n a p in record { sized = f
 pub moved_seven : (ws : List ℕ) (nodes positions v : ℕ) → length (moved_node ws nodes positions v) ≡ 7
 unfolding moved_node
 moved_seven ws nodes positions v =
-    length-append (values (word_at ws v) 6) (moved_link nodes positions (word_at ws v 6) ∷ []) ∙ ap (λ (k : ℕ). k + 1) (values_length (word_at ws v) 6)
+    length-append (values (word_at ws v) 6) (moved_link nodes positions (word_at ws v 6) ∷ [])
+        ∙ ap (λ (k : ℕ). k + 1) (values_length (word_at ws v) 6)
 
 -- the node that the code writes
 pub node_moved : (ws : List ℕ) (nodes positions v link : ℕ) → link ≡ moved_link nodes positions (word_at ws v 6)
@@ -108,7 +109,8 @@ module _ (ws : List ℕ) (nodes positions : ℕ) where
 
   module _ (s t : List ℕ) (v : ℕ) (h : 1 ≤ v) (e : t ≡ splice s ((1 + nodes) * 7) (in_turn rest_node (v - 1))) where
     pub rest_kept : (v + nodes) * 7 ≤ length s → length t ≡ length s
-    rest_kept k = ap length e ∙ length-splice s ((1 + nodes) * 7) (in_turn rest_node (v - 1)) (omega (arith, turn-length rest_node rest_seven (v - 1)))
+    rest_kept k = ap length e
+        ∙ length-splice s ((1 + nodes) * 7) (in_turn rest_node (v - 1)) (omega (arith, turn-length rest_node rest_seven (v - 1)))
 
     pub rest_next : (u : List ℕ) → (v + nodes) * 7 + 7 ≤ length s → u ≡ splice t ((v + nodes) * 7) (moved_node ws nodes positions v)
         → u ≡ splice s ((1 + nodes) * 7) (in_turn rest_node (v + 1 - 1))

@@ -24,7 +24,8 @@ use Rattle.join.proofs.Moving.{map_none, moved_seven}
 root_box : (ws : List ℕ) (n : ℕ) → Accepted ws n → 0 < n → accepted_box (box_at ws 0) ≡ true
 root_box ws n a p = (accepted_facts ws n a p).boxes 0 (omega arith)
 
-pub roots_box : (ws us : List ℕ) (n m : ℕ) → Accepted ws n → Accepted us m → 0 < n → 0 < m → accepted_box (union_of (box_at ws 0) (box_at us 0)) ≡ true
+pub roots_box : (ws us : List ℕ) (n m : ℕ) → Accepted ws n → Accepted us m → 0 < n → 0 < m → accepted_box (union_of (box_at ws 0) (box_at us 0))
+    ≡ true
 roots_box ws us n m a b p q = union_accepted (box_at ws 0) (box_at us 0) (root_box ws n a p) (root_box us m b q)
 
 -- an accepted tree with leaves has its root in words

@@ -1,5 +1,6 @@
 -- Two trees joined under a new root (02, [4]).
-use Rattle.std.specs.Prelude.{Bool, true, false, ◌&&◌, List, [], ◌∷◌, ◌++◌, map, ℕ, zero, suc, ◌+◌, ◌-◌, ◌*◌, max, eqb, leb, length, get_or, replicate}
+use Rattle.std.specs.Prelude.{Bool, true, false, ◌&&◌, List, [], ◌∷◌, ◌++◌, map, ℕ, zero, suc, ◌+◌, ◌-◌, ◌*◌, max, eqb, leb, length, get_or}
+use Rattle.std.specs.Prelude.{replicate}
 use Rattle.lists.specs.Below.{all_below}
 use Rattle.lists.specs.Splice.{splice}
 use Rattle.lists.specs.Values.{values}

@@ -87,8 +87,10 @@ module _ (c : JoinCall) where
   pub record RestKept : Type 0 where
     pub words : drop (tree_nodes (both_leaves c) * 7) (join_of c).words ≡ drop (tree_nodes (both_leaves c) * 7) c.words
     pub indices : drop (both_leaves c) (join_of c).indices ≡ drop (both_leaves c) c.indices
-    pub marks : drop (marks_needed (first_leaves c) (second_leaves c)) (join_of c).marks ≡ drop (marks_needed (first_leaves c) (second_leaves c)) c.marks
-    pub zeros : take (marks_needed (first_leaves c) (second_leaves c)) (join_of c).marks ≡ replicate (marks_needed (first_leaves c) (second_leaves c)) 0
+    pub marks : drop (marks_needed (first_leaves c) (second_leaves c)) (join_of c).marks
+        ≡ drop (marks_needed (first_leaves c) (second_leaves c)) c.marks
+    pub zeros : take (marks_needed (first_leaves c) (second_leaves c)) (join_of c).marks
+        ≡ replicate (marks_needed (first_leaves c) (second_leaves c)) 0
 
   -- nothing is written
   pub record NothingWritten : Type 0 where

@@ -66,7 +66,8 @@ module _ (bytes indices : List ℕ) (panes : ℕ) (losses : List ℕ) (rays : Li
         pub cause_pane_room : paneRoom < panes → 4 ≡ cause
         cause_pane_room h =
             sym (after_rays
-            ∙ first_here _ (ap (λ (b : Bool). leb (ray_count rays) rayRoom && b) (lt-leb panes paneRoom h) ∙ and-false (leb (ray_count rays) rayRoom)))
+            ∙ first_here _ (ap (λ (b : Bool). leb (ray_count rays) rayRoom && b) (lt-leb panes paneRoom h)
+                ∙ and-false (leb (ray_count rays) rayRoom)))
 
         module _ (ray_room : ray_count rays ≤ rayRoom) (pane_room : panes ≤ paneRoom) where
           after_room : cause ≡ first_cause (12 unless losses_fit panes losses ∷ 9 unless rays_accepted rays ∷ [])
@@ -141,7 +142,8 @@ module _ (bytes indices : List ℕ) (panes : ℕ) (losses : List ℕ) (rays : Li
 
   module _ (none : first_cause entry ≡ 0) where
     -- by the walks alone
-    behind_entry : first_cause (entry ++ walk_conditions bytes indices panes losses rays) ≡ first_cause (walk_conditions bytes indices panes losses rays)
+    behind_entry : first_cause (entry ++ walk_conditions bytes indices panes losses rays)
+        ≡ first_cause (walk_conditions bytes indices panes losses rays)
     behind_entry =
         append_later entry (walk_conditions bytes indices panes losses rays)
         (all_passed bytes indices panes losses rays (length ray_totals) (length pane_totals) none)

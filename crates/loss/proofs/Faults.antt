@@ -98,7 +98,8 @@ module _ (bytes indices : List ℕ) (panes : ℕ) (losses : List ℕ) (r : Ray) 
     walk_ten : (k : ℕ) → outcome.ended ≡ S.refused k → k ≡ 10
     unfolding any_hit_at query_at
     walk_ten =
-        query_ten (node_count bytes) (node_words_at bytes by_boxes) (length indices) append fit (steps_for (node_count bytes)) (fresh_words (walk_ray r)) []
+        query_ten (node_count bytes) (node_words_at bytes by_boxes) (length indices) append fit (steps_for (node_count bytes))
+            (fresh_words (walk_ray r)) []
 
     -- which has number 10, whatever is made of the walk,
     pub refused_ten : {A : Type 0} (refuse : ℕ → A) (found : List ℕ → ℕ → Result A) → (Ended outcome.ended → ⊥)

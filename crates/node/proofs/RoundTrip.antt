@@ -133,7 +133,8 @@ module _ (s : List ℕ) (o : ℕ) (t : List ℕ) (q : ℕ) (same : (k : ℕ) →
       let px : le_at 4 s o ≡ le_at 4 t q = ap (le_at 4 s) (sym (add-zero o)) ∙ same_word 0 (omega arith) ∙ ap (le_at 4 t) (add-zero q) in
       let metas : eight (λ i. get_or s (o + 24 + i) 0) ≡ eight (λ i. get_or t (q + 24 + i) 0) =
       eight_congr (λ i. get_or s (o + 24 + i) 0) (λ i. get_or t (q + 24 + i) 0)
-      (λ i l. ap (λ (x : ℕ). get_or s x 0) (add_assoc o 24 i) ∙ same (24 + i) (omega arith) ∙ ap (λ (x : ℕ). get_or t x 0) (sym (add_assoc q 24 i))) in
+      (λ i l. ap (λ (x : ℕ). get_or s x 0) (add_assoc o 24 i) ∙ same (24 + i) (omega arith) ∙ ap (λ (x : ℕ). get_or t x 0) (sym (add_assoc q 24 i)))
+          in
       rw (
         px,
         same_word 4 (omega arith),
@@ -241,13 +242,15 @@ module _ (s : List ℕ) (o : ℕ) (fits : o + 80 ≤ length s) (small : (k : ℕ
   head-part : head_bytes (node_from s o) ≡ take 32 (drop o s)
   unfolding head_bytes node_from
   head-part =
-      let px : bytes 4 (le_at 4 s o) ≡ take 4 (drop (o + 0) s) = ap (λ (x : ℕ). bytes 4 (le_at 4 s x)) (sym (add-zero o)) ∙ word-part 0 (omega arith) in
+      let px : bytes 4 (le_at 4 s o) ≡ take 4 (drop (o + 0) s) = ap (λ (x : ℕ). bytes 4 (le_at 4 s x)) (sym (add-zero o))
+              ∙ word-part 0 (omega arith) in
       let metas : eight (λ i. get_or (eight (λ j. get_or s (o + 24 + j) 0)) i 0) ≡ take 8 (drop (o + 24) s) =
       part_is s (o + 24) (eight (λ i. get_or (eight (λ j. get_or s (o + 24 + j) 0)) i 0)) 8 refl (omega arith)
       (λ i l. eight_at (λ j. get_or s (o + 24 + j) 0) 0 i l) in
       let small4 : get_or s (o + 12) 0 ∷ get_or s (o + 13) 0 ∷ get_or s (o + 14) 0 ∷ get_or s (o + 15) 0 ∷ [] ≡ take 4 (drop (o + 12) s) =
       part_is s (o + 12) (get_or s (o + 12) 0 ∷ get_or s (o + 13) 0 ∷ get_or s (o + 14) 0 ∷ get_or s (o + 15) 0 ∷ []) 4 refl (omega arith)
-      (below_four (λ i. get_or (get_or s (o + 12) 0 ∷ get_or s (o + 13) 0 ∷ get_or s (o + 14) 0 ∷ get_or s (o + 15) 0 ∷ []) i 0 ≡ get_or s (o + 12 + i) 0)
+      (below_four (λ i. get_or (get_or s (o + 12) 0 ∷ get_or s (o + 13) 0 ∷ get_or s (o + 14) 0 ∷ get_or s (o + 15) 0 ∷ []) i 0
+          ≡ get_or s (o + 12 + i) 0)
       (ap (λ (x : ℕ). get_or s x 0) (omega arith)) (ap (λ (x : ℕ). get_or s x 0) (omega arith)) (ap (λ (x : ℕ). get_or s x 0) (omega arith))
       (ap (λ (x : ℕ). get_or s x 0) (omega arith))) in
       more 0 4 28 _ _ px (more 4 4 24 _ _ (word-part 4 (omega arith)) (more 8 4 20 _ _ (word-part 8 (omega arith)) (more 12 4 16 _ _ small4
@@ -270,7 +273,8 @@ module _ (s : List ℕ) (o : ℕ) (fits : o + 80 ≤ length s) (small : (k : ℕ
   byte_back : (k : ℕ) → k < 80 → get_or (node_bytes (node_from s o)) k 0 ≡ get_or s (o + k) 0
   unfolding node_from
   byte_back k h =
-      ⊎_elim (λ p. node-head (node_from s o) k p ∙ ap (λ (l : List ℕ). get_or l k 0) head-part ∙ get_or-take 32 (drop o s) k 0 p ∙ get_or-drop o s k 0)
+      ⊎_elim (λ p. node-head (node_from s o) k p ∙ ap (λ (l : List ℕ). get_or l k 0) head-part ∙ get_or-take 32 (drop o s) k 0 p
+          ∙ get_or-drop o s k 0)
       (λ p. let w = offset_onto k p h in
       subst (λ (x : ℕ). get_or (node_bytes (node_from s o)) x 0 ≡ get_or s (o + x) 0) w.is
       (node_corner (node_from s o) w.axis w.end w.slot w.corner

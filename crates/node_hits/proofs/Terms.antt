@@ -22,7 +22,8 @@ use Rattle.node.specs.declared.Slot.{Slot}
 use Rattle.node.specs.declared.Node.{Node}
 use Rattle.node_rule.specs.Rule.{point_ok, Exponent, Head}
 use Rattle.node_rule.proofs.PointBits.{point_bits}
-use Rattle.node_slot.specs.Slot.{near_limit, adjusted_inverse, adjusted_origin, plane_at, near_byte, far_byte, near_x, near_y, near_z, far_x, far_y, far_z}
+use Rattle.node_slot.specs.Slot.{near_limit, adjusted_inverse, adjusted_origin, plane_at, near_byte, far_byte, near_x, near_y, near_z, far_x, far_y}
+use Rattle.node_slot.specs.Slot.{far_z}
 use Rattle.node_slot.specs.Slot.{near_of, far_of}
 use Rattle.node_hits.proofs.Limit.{limit_number}
 
@@ -53,7 +54,8 @@ pub record AxisTerms (p e lo hi : ℕ) (direction origin inverse : Float) : Type
 scale_within : (e : ℕ) → Exponent e → Within 40 (scale_of e)
 unfolding scale_of point_ok
 scale_within e h =
-    in_bounds_within (of_bits binary32 (e * 8388608)) (subst T (point_bits (e * 8388608)) (le→leb (e * 8388608 % 2147483648) 1400897536 (omega arith)))
+    in_bounds_within (of_bits binary32 (e * 8388608))
+        (subst T (point_bits (e * 8388608)) (le→leb (e * 8388608 % 2147483648) 1400897536 (omega arith)))
 
 pub byte_within : (q : ℕ) → q < 256 → Within 8 (of_int binary32 (pos q))
 unfolding of_int

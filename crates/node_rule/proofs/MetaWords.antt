@@ -63,7 +63,8 @@ spread_is i x a z hi ex ea ez hz =
     sk : (k : ℕ) → k < 8 → field 8 k (a + 0x7f7f_7f7f_7f7f_7f7f) ≡ bit_and (bit_and i (2 ^ k)) 127 + 127
     sk k l =
         field-add k a 0x7f7f_7f7f_7f7f_7f7f
-        (λ j m. let e = ak j (omega arith) in let f = repeats 127 j (lit< tt) (omega arith) in let g = and_le_r (bit_and i (2 ^ j)) 127 in omega arith)
+        (λ j m. let e = ak j (omega arith) in let f = repeats 127 j (lit< tt) (omega arith) in let g = and_le_r (bit_and i (2 ^ j)) 127 in
+            omega arith)
         ∙ ap₂ (λ (y v : ℕ). y + v) (ak k l) (repeats 127 k (lit< tt) l)
 
     yk : (k : ℕ) → k < 8 → field 8 k (bit_or (a + 0x7f7f_7f7f_7f7f_7f7f) x) ≡ bit_or (bit_and (bit_and i (2 ^ k)) 127 + 127) (bit_and i (2 ^ k))
@@ -128,7 +129,8 @@ rest_is m w hm h =
 pub tops_are : (w t : ℕ) → t ≡ bit_and (w / 2 ^ 5) 0x0707_0707_0707_0707 → t ≤ 0x0707_0707_0707_0707 → Bytes t (λ k. field 8 k w / 32)
 tops_are w t e h =
     record {
-      byte = λ k l. ap (field 8 k) e ∙ field_and 8 k (w / 2 ^ 5) 0x0707_0707_0707_0707 ∙ ap (bit_and (field 8 k (w / 2 ^ 5))) (repeats 7 k (lit< tt) l)
+      byte = λ k l. ap (field 8 k) e ∙ field_and 8 k (w / 2 ^ 5) 0x0707_0707_0707_0707
+          ∙ ap (bit_and (field 8 k (w / 2 ^ 5))) (repeats 7 k (lit< tt) l)
           ∙ and_mask (field 8 k (w / 2 ^ 5)) 3 ∙ field_shr 3 5 k w;
       fits = omega arith;
     }

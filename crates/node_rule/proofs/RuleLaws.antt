@@ -12,7 +12,8 @@ use Rattle.float.specs.Compare.{in_bounds}
 use Rattle.words.specs.Ones.{ones_below}
 use Rattle.node.specs.declared.Node.{Node}
 use Rattle.node.specs.Node.{inner_bit, code_count}
-use Rattle.node_rule.specs.Rule.{point_ok, exponent_ok, head_ok, children_ok, leaf_top, slot_ok, slots_ok, node_rule, Exponent, Head, Children, LeafTop}
+use Rattle.node_rule.specs.Rule.{point_ok, exponent_ok, head_ok, children_ok, leaf_top, slot_ok, slots_ok, node_rule, Exponent, Head, Children}
+use Rattle.node_rule.specs.Rule.{LeafTop}
 use Rattle.node_rule.specs.Rule.{one, two, three, SlotRule, empty, child, leaf, SlotOf, Rule}
 use Rattle.node_rule.specs.Tells.{Tells}
 use Rattle.node_rule.proofs.Answers.{says, asked, swap, said, denied, agree, test_tells, leb_tells, ltb_tells, eqb_tells, and_tells, or_tells}

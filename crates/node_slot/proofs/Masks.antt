@@ -32,7 +32,8 @@ use Rattle.node_slot.proofs.Boxes.{slot_is}
 
 -- ---- the marks, one more
 
-pub marks_next : (pass : ℕ → Bool) (l : List ℕ) (k v : ℕ) → k < length l → v ≡ only_if (pass k) 7 → ((j : ℕ) → j < k → get_or l j 0 ≡ only_if (pass j) 7)
+pub marks_next : (pass : ℕ → Bool) (l : List ℕ) (k v : ℕ) → k < length l → v ≡ only_if (pass k) 7
+    → ((j : ℕ) → j < k → get_or l j 0 ≡ only_if (pass j) 7)
     → (j : ℕ) → j < k + 1 → get_or (set l k v) j 0 ≡ only_if (pass j) 7
 marks_next pass l k v h e m j q = go (dec_lt j k)
   where
@@ -121,7 +122,8 @@ module _ (s : List ℕ) (o : ℕ) (r : Ray) (octant : ℕ) (e : Ends) (g : RayGr
   unfolding hit_mask
   nothing_marked z = mask_none (node_from s o) (passes_slot (node_from s o) r) octant marks (slot_passes s o e g near r.tmax) z m slot_passed
 
-  pub mask_whole : (w child index : ℕ) → octant < 8 → MetaWord (node_from s o) w → child ≡ each_byte child_bits w → index ≡ each_byte (bit_index octant) w
+  pub mask_whole : (w child index : ℕ) → octant < 8 → MetaWord (node_from s o) w → child ≡ each_byte child_bits w → index
+      ≡ each_byte (bit_index octant) w
       → word_mask 8 (bit_and child marks) index ≡ hit_mask (node_from s o) r octant
   unfolding hit_mask
   mask_whole w child index l d f h =

@@ -140,7 +140,8 @@ module _ (cost : Pair → Float) where
         (inr u),
   )
 
-  chosen_next : (p : Pair) (ps : List Pair) (b : Best) → lt (cost p) greatest_finite ≡ true → Chosen ps b → Chosen (p ∷ ps) (cheaper (priced cost p) b)
+  chosen_next : (p : Pair) (ps : List Pair) (b : Best) → lt (cost p) greatest_finite ≡ true → Chosen ps b
+      → Chosen (p ∷ ps) (cheaper (priced cost p) b)
   unfolding cheaper
   chosen_next p ps b u (q, l, v, e) = subst (λ (z : Best). Chosen (p ∷ ps) (cond (lt z.cost (cost p)) z (priced cost p))) (sym e)
       (go (lt (cost q) (cost p)) refl)

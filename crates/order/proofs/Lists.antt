@@ -80,7 +80,8 @@ unfolding keep
 none_kept f [] e = tt
 none_kept f (x ∷ xs) e = go (f x) refl e (none_kept f xs)
   where
-    go : (t : Bool) → f x ≡ t → cons_if t x (keep f xs) ≡ [] → (keep f xs ≡ [] → All (λ y. f y ≡ false) xs) → (f x ≡ false) × All (λ y. f y ≡ false) xs
+    go : (t : Bool) → f x ≡ t → cons_if t x (keep f xs) ≡ [] → (keep f xs ≡ [] → All (λ y. f y ≡ false) xs) → (f x ≡ false)
+        × All (λ y. f y ≡ false) xs
     go true d g r = absurd (cons≢nil g)
     go false d g r = (d, r g)
 

@@ -20,6 +20,7 @@ point = record { min = corner; max = corner }
 -- the lower child takes the lower slot
 pub ties : slots_of true point (point ∷ point ∷ point ∷ [])
     ≡ record { child = 0; slot = 0 } ∷ record { child = 1; slot = 1 } ∷ record { child = 2; slot = 2 } ∷ []
-unfolding slots_of cost_table direction_cost dot_of direction_of sign_of center_of assigned least_pair open_pairs partner pairs row_pairs keep some of_bits add
+unfolding slots_of cost_table direction_cost dot_of direction_of sign_of center_of assigned least_pair open_pairs partner pairs row_pairs keep some
+    of_bits add
     sub mul round lt
 ties = refl

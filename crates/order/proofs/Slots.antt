@@ -20,7 +20,8 @@ use Rattle.order.proofs.Lists.{All, all_map, all_at, all_mapped}
 use Rattle.order.proofs.Partners.{Matched, OneToOne}
 
 -- rows past the children's make no difference
-pub padded-same : (rows : List (List Float)) (k : ℕ) → assigned (cost_in (padded no_row rows)) (length rows) k ≡ assigned (cost_in rows) (length rows) k
+pub padded-same : (rows : List (List Float)) (k : ℕ) → assigned (cost_in (padded no_row rows)) (length rows) k
+    ≡ assigned (cost_in rows) (length rows) k
 unfolding padded
 padded-same rows k =
     assigned-same (cost_in (padded no_row rows)) (cost_in rows) (length rows)
@@ -44,7 +45,8 @@ abbrev pub AcceptedAll : List Aabb → Type 0
 AcceptedAll boxes = All (λ b. T (accepted_box b)) boxes
 
 module _ (parent : Aabb) (p : T (accepted_box parent)) where
-  row_below : (b : Aabb) → T (accepted_box b) → (s : ℕ) → s < 8 → lt (get_or (eight_of (direction_cost (center_of parent) b)) s nan) greatest_finite ≡ true
+  row_below : (b : Aabb) → T (accepted_box b) → (s : ℕ) → s < 8 → lt (get_or (eight_of (direction_cost (center_of parent) b)) s nan) greatest_finite
+      ≡ true
   row_below b q s l =
       subst (λ (x : Float). lt x greatest_finite ≡ true) (sym (eight_at (direction_cost (center_of parent) b) nan s l))
       (within_below (direction_cost (center_of parent) b s) (cost_within parent b (accepted parent p) (accepted b q) s))
@@ -53,10 +55,12 @@ module _ (parent : Aabb) (p : T (accepted_box parent)) where
       → lt (cost_in (cost_table parent boxes) (record { child = c; slot = s })) greatest_finite ≡ true
   unfolding cost_table
   table_below boxes h c s l m =
-      all_at (λ row. (s : ℕ) → s < 8 → lt (get_or row s nan) greatest_finite ≡ true) (map (λ b. eight_of (direction_cost (center_of parent) b)) boxes) c []
+      all_at (λ row. (s : ℕ) → s < 8 → lt (get_or row s nan) greatest_finite ≡ true)
+          (map (λ b. eight_of (direction_cost (center_of parent) b)) boxes) c []
       (subst (λ (n : ℕ). c < n) (sym (length-map boxes (λ b. eight_of (direction_cost (center_of parent) b)))) l)
       (all_mapped (λ row. (s : ℕ) → s < 8 → lt (get_or row s nan) greatest_finite ≡ true) (λ b. eight_of (direction_cost (center_of parent) b)) boxes
-      (all_map (λ b. T (accepted_box b)) (λ b. (s : ℕ) → s < 8 → lt (get_or (eight_of (direction_cost (center_of parent) b)) s nan) greatest_finite ≡ true)
+      (all_map (λ b. T (accepted_box b))
+          (λ b. (s : ℕ) → s < 8 → lt (get_or (eight_of (direction_cost (center_of parent) b)) s nan) greatest_finite ≡ true)
       boxes row_below h))
       s m
 

@@ -1,7 +1,10 @@
 -- A child's two bytes: at most 255, each grows with the coordinate, and the lower is never above the upper one; and the reciprocal of a scale is an
 -- exact power
 -- of two.
-use Rattle.std.proofs.Common.{◌≡◌, ℕ, suc, ◌+◌, ◌-◌, ◌*◌, ◌/◌, ◌%◌, ◌^◌, ◌<◌, ◌≤◌, Bool, true, false, cond, T, eqb, pos, sym, refl, ap, ◌∙◌, subst, inl, inr, zero-le, le_trans, le_of_eq, le_refl, lt_of_lt_of_le, add-zero, le_of_lt, mul-le-mul_right, suc-mul, eq-zero-or-pos, lt_of_mul-lt-mul_right, div-add-mod', zero-mul, mul_right_comm, div-mul-le_self, le_of_mul-le-mul_right, arith, lit<, eqb→eq}
+use Rattle.std.proofs.Common.{◌≡◌, ℕ, suc, ◌+◌, ◌-◌, ◌*◌, ◌/◌, ◌%◌, ◌^◌, ◌<◌, ◌≤◌, Bool, true, false, cond, T, eqb, pos, sym, refl, ap, ◌∙◌, subst}
+use Rattle.std.proofs.Common.{inl, inr, zero-le, le_trans, le_of_eq, le_refl, lt_of_lt_of_le, add-zero, le_of_lt, mul-le-mul_right, suc-mul}
+use Rattle.std.proofs.Common.{eq-zero-or-pos, lt_of_mul-lt-mul_right, div-add-mod', zero-mul, mul_right_comm, div-mul-le_self}
+use Rattle.std.proofs.Common.{le_of_mul-le-mul_right, arith, lit<, eqb→eq}
 use native.Mathlib.Nat.{le-suc, min-le_left, min-le_right, le-min}
 use native.Mathlib.Nat.{zero-div, zero-mod, lt-div-mul-add}
 use lib.Ieee.{Float, nan, inf, fin, binary32, minus, up, down, sub, mul, div, le}

@@ -1,6 +1,9 @@
 -- The steps of `quantize_min` and `quantize_max` on plain values: the whole part below 255, one more where a fraction is left, and the two ends of
 -- the range.
-use Rattle.std.proofs.Common.{◌≡◌, ℕ, suc, ◌+◌, ◌*◌, ◌/◌, ◌%◌, ◌^◌, ◌<◌, ◌≤◌, min, Bool, true, false, cond, not, T, eqb, ltb, pos, sym, refl, ap, ◌∙◌, subst, true≢false, le_trans, le_of_eq, lt_of_lt_of_le, lt_of_le_of_lt, le_of_lt, mul-le-mul_right, div-lt_iff_lt-mul, one-mul, lt_of_not-le, div-add-mod', le-div_iff_mul-le, zero-mul, mul-one, mul_right_comm, not-le_of_lt, le_of_mul-le-mul_right, arith, lit≤, eqb→eq, ltb→lt, lt→ltb, nltb→le}
+use Rattle.std.proofs.Common.{◌≡◌, ℕ, suc, ◌+◌, ◌*◌, ◌/◌, ◌%◌, ◌^◌, ◌<◌, ◌≤◌, min, Bool, true, false, cond, not, T, eqb, ltb, pos, sym, refl, ap}
+use Rattle.std.proofs.Common.{◌∙◌, subst, true≢false, le_trans, le_of_eq, lt_of_lt_of_le, lt_of_le_of_lt, le_of_lt, mul-le-mul_right}
+use Rattle.std.proofs.Common.{div-lt_iff_lt-mul, one-mul, lt_of_not-le, div-add-mod', le-div_iff_mul-le, zero-mul, mul-one, mul_right_comm}
+use Rattle.std.proofs.Common.{not-le_of_lt, le_of_mul-le-mul_right, arith, lit≤, eqb→eq, ltb→lt, lt→ltb, nltb→le}
 use native.Mathlib.Nat.{min-eq_left, min-eq_right, min-le_left}
 use native.Mathlib.Nat.{zero-div}
 use lib.Dec.{not_T}

@@ -91,7 +91,8 @@ module _ {a : Type 0} (bytes : List ℕ) (n : ℕ) (fit : FieldsFit bytes) (reac
           accepted = accepted;
           tests = omega arith;
           deep = omega arith;
-          range = fresh_range (node_count bytes) (node_words_at bytes by_boxes) _ _ (decodes (nodes_at bytes) by_boxes walk_ray_laws fit n) (walk_ray ray);
+          range = fresh_range (node_count bytes) (node_words_at bytes by_boxes) _ _ (decodes (nodes_at bytes) by_boxes walk_ray_laws fit n)
+              (walk_ray ray);
         };
         steps = steps_for (node_count bytes);
         enough = omega (arith, no_ones);

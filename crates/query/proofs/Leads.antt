@@ -201,7 +201,8 @@ module _ {RayData Distance a : Type 0} {m : ℕ} {N : NodeWords RayData Distance
       go r.answer r.walker (shown steady L r e) (in_range_lem steady L r e) (falls steady L r e) (follows steady L r e).spare
       (follows steady L r e).enough (follows steady L r e).rest
     where
-      go : (b : S.Answer) (u : WalkerWords RayData) → Shows m N n w b u → WordsFit u → (Going b → steps_left_words m u < steps_left_words m w) → (k : ℕ)
+      go : (b : S.Answer) (u : WalkerWords RayData) → Shows m N n w b u → WordsFit u → (Going b → steps_left_words m u < steps_left_words m w)
+          → (k : ℕ)
           → steps_left_words m w ≤ k
           → follow_words m N react b u x (query_words m N react k n) ≡ goal → Sought m N n react goal w x b u
       go (S.tested v) u h i f k l q = record {

@@ -39,14 +39,16 @@ pub meta_at_lem : {w : ℕ} (s : Slots w) (i o k : ℕ) → k < w → get_or (me
 unfolding metas content_at child_meta
 meta_at_lem end i o k h = absurd (omega arith)
 meta_at_lem (empty s) i o zero h = refl
-meta_at_lem (empty s) i o (suc k) h = meta_at_lem s (i + 1) o k (le_of_suc-le-suc h) ∙ ap (λ (x : ℕ). child_meta (content_at s k) x (o + own_before s k))
+meta_at_lem (empty s) i o (suc k) h = meta_at_lem s (i + 1) o k (le_of_suc-le-suc h)
+    ∙ ap (λ (x : ℕ). child_meta (content_at s k) x (o + own_before s k))
     (next i k)
 meta_at_lem (leaf b ps s) i o zero h = ap (leaf_meta (length ps)) (here o)
 meta_at_lem (leaf b ps s) i o (suc k) h =
     meta_at_lem s (i + 1) (o + length ps) k (le_of_suc-le-suc h)
     ∙ ap₂ (λ (x y : ℕ). child_meta (content_at s k) x y) (next i k) (add_assoc o (length ps) (own_before s k))
 meta_at_lem (inner b t s) i o zero h = ap inner_meta (here i)
-meta_at_lem (inner b t s) i o (suc k) h = meta_at_lem s (i + 1) o k (le_of_suc-le-suc h) ∙ ap (λ (x : ℕ). child_meta (content_at s k) x (o + own_before s k))
+meta_at_lem (inner b t s) i o (suc k) h = meta_at_lem s (i + 1) o k (le_of_suc-le-suc h)
+    ∙ ap (λ (x : ℕ). child_meta (content_at s k) x (o + own_before s k))
     (next i k)
 
 pub bytes_at : {w : ℕ} (b : Aabb) (s : Slots w) (k : ℕ) → get_or (grid_boxes b s) k no_slot ≡ child_bytes b (content_at s k)

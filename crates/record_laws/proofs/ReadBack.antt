@@ -20,9 +20,11 @@ module _ (t : Wide) where
   record-count = omega (arith, record-length t)
 
   -- byte j of node v
-  pub record_byte : (v j : ℕ) → v < nodes t → j < 80 → get_or (record_bytes t) (80 * v + j) 0 ≡ get_or (node_bytes (node_of (shape.layout_entry t v))) j 0
+  pub record_byte : (v j : ℕ) → v < nodes t → j < 80 → get_or (record_bytes t) (80 * v + j) 0
+      ≡ get_or (node_bytes (node_of (shape.layout_entry t v))) j 0
   unfolding record_bytes
-  record_byte v j h l = joined_at 80 (λ i. node_bytes (node_of (shape.layout_entry t i))) (λ i. length-node (node_of (shape.layout_entry t i))) (nodes t)
+  record_byte v j h l =
+      joined_at 80 (λ i. node_bytes (node_of (shape.layout_entry t i))) (λ i. length-node (node_of (shape.layout_entry t i))) (nodes t)
       v j 0 h l
 
   -- node v of the bytes is the node of the layout, whatever follows them

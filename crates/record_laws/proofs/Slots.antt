@@ -50,7 +50,8 @@ child_count_lem none i before h l = refl
 child_count_lem (leaf_child b ps) i before h l = (code (length ps) before h l).ones
 child_count_lem (inner_child b t) i before h l = refl
 
-child_start : (c : Content) (i before : ℕ) → length (child_positions c) ≤ 3 → before < 32 → 0 < length (child_positions c) → child_meta c i before % 32
+child_start : (c : Content) (i before : ℕ) → length (child_positions c) ≤ 3 → before < 32 → 0 < length (child_positions c)
+    → child_meta c i before % 32
     ≡ before
 unfolding child_positions child_meta
 child_start none i before h l p = absurd (omega arith)

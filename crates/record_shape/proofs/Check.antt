@@ -110,7 +110,8 @@ module _ (bytes : List ℕ) (n words : ℕ) where
       go (suc c) e b t = says_refused (suc c) e (omega arith)
 
   -- The answer is sound with level d exactly if no cause holds, the record is sound and d is its deepest level;
-  pub sound_iff : (d : ℕ) → (check_of bytes n words ≡ sound d) ↔ ((cause_of (length bytes) n words ≡ 0) × SoundRecord bytes n × DeepestLevel bytes n d)
+  pub sound_iff : (d : ℕ) → (check_of bytes n words ≡ sound d)
+      ↔ ((cause_of (length bytes) n words ≡ 0) × SoundRecord bytes n × DeepestLevel bytes n d)
   sound_iff d = (go (check_of bytes n words) check_says, λ h. check_sound h.0 h.1 d h.2)
     where
       go : (a : Verdict) → Says a → a ≡ sound d → (cause_of (length bytes) n words ≡ 0) × SoundRecord bytes n × DeepestLevel bytes n d

@@ -43,10 +43,14 @@ any_hits :
     × (any_hit_of bytes_t 2 (ahead_from (halves 9)) 2 ≡ record { answer = listed 0; tests = 1 })
     × (any_hit_of bytes_t 2 (ahead_from (inf false)) 2 ≡ record { answer = listed 0; tests = 1 })
     × (any_hit_of bytes_t 2 (ahead_from nan) 2 ≡ record { answer = refused 9; tests = 0 })
-unfolding any_hit_of list_after list_for splice entry_conditions record_conditions first_cause entered walk_of walked fitted any_hit_at query_at query_words
-    step_words advance_words report_words visit_words pop_words ray_of unsigned_vec plain_vec unsigned_zero is_minus_zero octant_of hit_mask slot_hit hit_bits or_of
-    passes near_of far_of max_of min_of plane_at adjusted_inverse adjusted_origin least_limit near_limit scale_of node_from le_at sum_of slot_from slot_offset
-    node_rule head_ok children_ok slots_ok slot_ok leaf_top point_ok exponent_ok in_bounds ones_below field child_index top_of pushed count_leading_zeros safe_inverse
+unfolding any_hit_of list_after list_for splice entry_conditions record_conditions first_cause entered walk_of walked fitted any_hit_at query_at
+    query_words
+    step_words advance_words report_words visit_words pop_words ray_of unsigned_vec plain_vec unsigned_zero is_minus_zero octant_of hit_mask
+        slot_hit hit_bits or_of
+    passes near_of far_of max_of min_of plane_at adjusted_inverse adjusted_origin least_limit near_limit scale_of node_from le_at sum_of slot_from
+        slot_offset
+    node_rule head_ok children_ok slots_ok slot_ok leaf_top point_ok exponent_ok in_bounds ones_below field child_index top_of pushed
+        count_leading_zeros safe_inverse
     bounded_vec accepted_ray round of_bits of_int add sub mul div lt le eq is_nan
 any_hits = (refl, refl, refl, refl, refl, refl, refl)
 
@@ -56,11 +60,16 @@ closest :
     × (closest_of bytes_t indices_t panes_t (ahead_from (number 3)) ≡ closest_is (hit_at 1 (number 3)) 1)
     × (closest_of bytes_t indices_t panes_t (ahead_from (halves 7)) ≡ closest_is no_hit 1)
     × (closest_of bytes_t indices_t panes_t (ahead_from nan) ≡ closest_is (refused_closest 9) 0)
-unfolding closest_of closest_walk closest_found walked entered entry_conditions record_conditions first_cause pane_of pane_met counts box_in vec_in query_at
-    query_words step_words advance_words report_words visit_words pop_words ray_of unsigned_vec plain_vec is_minus_zero octant_of hit_mask slot_hit hit_bits or_of
-    passes near_of far_of max_of min_of plane_at adjusted_inverse adjusted_origin least_limit near_limit scale_of node_from le_at sum_of slot_from slot_offset
-    node_rule head_ok children_ok slots_ok slot_ok leaf_top point_ok exponent_ok in_bounds ones_below field child_index top_of pushed count_leading_zeros safe_inverse
-    bounded_vec accepted_ray accepted_box in_order entry_distance box_near box_far slab_near slab_far unsigned_zero round of_bits of_int add sub mul div lt le eq
+unfolding closest_of closest_walk closest_found walked entered entry_conditions record_conditions first_cause pane_of pane_met counts box_in vec_in
+    query_at
+    query_words step_words advance_words report_words visit_words pop_words ray_of unsigned_vec plain_vec is_minus_zero octant_of hit_mask slot_hit
+        hit_bits or_of
+    passes near_of far_of max_of min_of plane_at adjusted_inverse adjusted_origin least_limit near_limit scale_of node_from le_at sum_of slot_from
+        slot_offset
+    node_rule head_ok children_ok slots_ok slot_ok leaf_top point_ok exponent_ok in_bounds ones_below field child_index top_of pushed
+        count_leading_zeros safe_inverse
+    bounded_vec accepted_ray accepted_box in_order entry_distance box_near box_far slab_near slab_far unsigned_zero round of_bits of_int add sub mul
+        div lt le eq
     is_nan
 closest = (refl, refl, refl, refl, refl)
 
@@ -70,42 +79,59 @@ unfolding round of_bits of_int div
 three_halves = refl
 
 closest_at_three_halves : closest_of bytes_t indices_t panes_t (within_a (number 0)) ≡ closest_is (hit_at 1 (fin false 3 (negsuc 0))) 1
-unfolding closest_of closest_walk closest_found walked entered entry_conditions record_conditions first_cause pane_of pane_met counts box_in vec_in query_at
-    query_words step_words advance_words report_words visit_words pop_words ray_of unsigned_vec plain_vec is_minus_zero octant_of hit_mask slot_hit hit_bits or_of
-    passes near_of far_of max_of min_of plane_at adjusted_inverse adjusted_origin least_limit near_limit scale_of node_from le_at sum_of slot_from slot_offset
-    node_rule head_ok children_ok slots_ok slot_ok leaf_top point_ok exponent_ok in_bounds ones_below field child_index top_of pushed count_leading_zeros safe_inverse
-    bounded_vec accepted_ray accepted_box in_order entry_distance box_near box_far slab_near slab_far unsigned_zero round of_bits of_int add sub mul div lt le eq
+unfolding closest_of closest_walk closest_found walked entered entry_conditions record_conditions first_cause pane_of pane_met counts box_in vec_in
+    query_at
+    query_words step_words advance_words report_words visit_words pop_words ray_of unsigned_vec plain_vec is_minus_zero octant_of hit_mask slot_hit
+        hit_bits or_of
+    passes near_of far_of max_of min_of plane_at adjusted_inverse adjusted_origin least_limit near_limit scale_of node_from le_at sum_of slot_from
+        slot_offset
+    node_rule head_ok children_ok slots_ok slot_ok leaf_top point_ok exponent_ok in_bounds ones_below field child_index top_of pushed
+        count_leading_zeros safe_inverse
+    bounded_vec accepted_ray accepted_box in_order entry_distance box_near box_far slab_near slab_far unsigned_zero round of_bits of_int add sub mul
+        div lt le eq
     is_nan
 closest_at_three_halves = refl
 
 closest_within :
     (closest_of bytes_t indices_t panes_t (within_a (number 0)) ≡ closest_is (hit_at 1 (halves 3)) 1)
     × (closest_of bytes_t indices_t panes_t (within_a minus_one) ≡ closest_is (hit_at 0 minus_half) 1)
-unfolding closest_of closest_walk closest_found walked entered entry_conditions record_conditions first_cause pane_of pane_met counts box_in vec_in query_at
-    query_words step_words advance_words report_words visit_words pop_words ray_of unsigned_vec plain_vec is_minus_zero octant_of hit_mask slot_hit hit_bits or_of
-    passes near_of far_of max_of min_of plane_at adjusted_inverse adjusted_origin least_limit near_limit scale_of node_from le_at sum_of slot_from slot_offset
-    node_rule head_ok children_ok slots_ok slot_ok leaf_top point_ok exponent_ok in_bounds ones_below field child_index top_of pushed count_leading_zeros safe_inverse
-    bounded_vec accepted_ray accepted_box in_order entry_distance box_near box_far slab_near slab_far unsigned_zero round of_bits of_int add sub mul div lt le eq
+unfolding closest_of closest_walk closest_found walked entered entry_conditions record_conditions first_cause pane_of pane_met counts box_in vec_in
+    query_at
+    query_words step_words advance_words report_words visit_words pop_words ray_of unsigned_vec plain_vec is_minus_zero octant_of hit_mask slot_hit
+        hit_bits or_of
+    passes near_of far_of max_of min_of plane_at adjusted_inverse adjusted_origin least_limit near_limit scale_of node_from le_at sum_of slot_from
+        slot_offset
+    node_rule head_ok children_ok slots_ok slot_ok leaf_top point_ok exponent_ok in_bounds ones_below field child_index top_of pushed
+        count_leading_zeros safe_inverse
+    bounded_vec accepted_ray accepted_box in_order entry_distance box_near box_far slab_near slab_far unsigned_zero round of_bits of_int add sub mul
+        div lt le eq
     is_nan
 closest_within =
-    (subst (λ (d : Float). closest_of bytes_t indices_t panes_t (within_a (number 0)) ≡ closest_is (hit_at 1 d) 1) three_halves closest_at_three_halves, refl)
+    (subst (λ (d : Float). closest_of bytes_t indices_t panes_t (within_a (number 0)) ≡ closest_is (hit_at 1 d) 1) three_halves
+        closest_at_three_halves, refl)
 
 miss :
     (miss_of bytes_t indices_t panes_t (ahead_from (number 3)) ≡ miss_is blocked 1)
     × (miss_of bytes_t indices_t panes_t (ahead_from (halves 7)) ≡ miss_is missed 1)
     × (miss_of bytes_t indices_t panes_t (ahead_from nan) ≡ miss_is (refused_miss 9) 0)
-unfolding miss_of miss_walk miss_found walked entered entry_conditions record_conditions first_cause pane_of pane_met counts box_in vec_in query_at query_words
-    step_words advance_words report_words visit_words pop_words ray_of unsigned_vec plain_vec is_minus_zero octant_of hit_mask slot_hit hit_bits or_of passes near_of
-    far_of max_of min_of plane_at adjusted_inverse adjusted_origin least_limit near_limit scale_of node_from le_at sum_of slot_from slot_offset node_rule head_ok
-    children_ok slots_ok slot_ok leaf_top point_ok exponent_ok in_bounds ones_below field child_index top_of pushed count_leading_zeros safe_inverse bounded_vec
-    accepted_ray accepted_box in_order entry_distance box_near box_far slab_near slab_far unsigned_zero round of_bits of_int add sub mul div lt le eq is_nan
+unfolding miss_of miss_walk miss_found walked entered entry_conditions record_conditions first_cause pane_of pane_met counts box_in vec_in query_at
+    query_words
+    step_words advance_words report_words visit_words pop_words ray_of unsigned_vec plain_vec is_minus_zero octant_of hit_mask slot_hit hit_bits
+        or_of passes near_of
+    far_of max_of min_of plane_at adjusted_inverse adjusted_origin least_limit near_limit scale_of node_from le_at sum_of slot_from slot_offset
+        node_rule head_ok
+    children_ok slots_ok slot_ok leaf_top point_ok exponent_ok in_bounds ones_below field child_index top_of pushed count_leading_zeros safe_inverse
+        bounded_vec
+    accepted_ray accepted_box in_order entry_distance box_near box_far slab_near slab_far unsigned_zero round of_bits of_int add sub mul div lt le
+        eq is_nan
 miss = (refl, refl, refl)
 
 told :
     (told_from2 (number 1 ∷ []) ≡ told_from2 [])
     × (reach_after (number 3 ∷ []) ≡ number 3)
     × (reach_after (number 2 ∷ number 3 ∷ []) ≡ number 2)
-unfolding started accepted_ray bounded_vec in_bounds is_nan ray_of unsigned_vec unsigned_zero eq octant_of safe_inverse counts of_bits of_int round div lt le
+unfolding started accepted_ray bounded_vec in_bounds is_nan ray_of unsigned_vec unsigned_zero eq octant_of safe_inverse counts of_bits of_int round
+    div lt le
 told = (refl, refl, refl)
 
 pub near_limits : NearLimits

@@ -52,9 +52,11 @@ use Rattle.samples.specs.TreeT.{number, words_t, indices_t, panes_t, bytes_t}
 use Rattle.samples.specs.Samples.{next_above, extent_byte, convert_sample, ahead, beside, root_word, root_cost, Samples}
 
 record_of_T : record_of words_t 2 3 false ≡ bytes_t
-unfolding record_of link_of box_at read_link box_of positions table decision best_of leaves half_area wide_of slots_from wide_children slots_of gathered_order
+unfolding record_of link_of box_at read_link box_of positions table decision best_of leaves half_area wide_of slots_from wide_children slots_of
+    gathered_order
     partner
-    of_bits of_int add sub mul lt record_bytes joined_below layout_entry node_of grid_box grid_boxes metas inner_mask node_bytes head_bytes put_slots put_slot
+    of_bits of_int add sub mul lt record_bytes joined_below layout_entry node_of grid_box grid_boxes metas inner_mask node_bytes head_bytes
+        put_slots put_slot
     slot_offset
     child_min child_max clamped_byte on_grid reciprocal_of scale_of exponent_of extent_scale next_power max_of to_bits round div le
 record_of_T = refl
@@ -63,44 +65,54 @@ exponents_of_T : take 3 (drop 12 (record_of words_t 2 3 false)) ≡ 121 ∷ 120 
 exponents_of_T = ap (λ (b : List ℕ). take 3 (drop 12 b)) record_of_T
 
 list_of_T : index_list_of words_t indices_t 3 false ≡ 0 ∷ 1 ∷ []
-unfolding index_list_of output_positions link_of box_at read_link box_of positions table decision best_of leaves half_area wide_of slots_from wide_children
+unfolding index_list_of output_positions link_of box_at read_link box_of positions table decision best_of leaves half_area wide_of slots_from
+    wide_children
     slots_of gathered_order
     partner of_bits of_int add sub mul lt
 list_of_T = refl
 
 ordered_T : take 8 (drop 24 (record_of words_t 2 3 true)) ≡ 0x20 ∷ 0 ∷ 0 ∷ 0 ∷ 0x21 ∷ 0 ∷ 0 ∷ 0 ∷ []
-unfolding record_of link_of box_at read_link box_of positions table decision best_of leaves half_area wide_of slots_from wide_children slots_of gathered_order
+unfolding record_of link_of box_at read_link box_of positions table decision best_of leaves half_area wide_of slots_from wide_children slots_of
+    gathered_order
     partner
-    of_bits of_int add sub mul lt cost_table direction_cost dot_of direction_of sign_of center_of assigned least_pair open_pairs pairs row_pairs keep some
-    record_bytes joined_below layout_entry node_of grid_box grid_boxes metas inner_mask node_bytes head_bytes put_slots put_slot slot_offset child_min child_max
+    of_bits of_int add sub mul lt cost_table direction_cost dot_of direction_of sign_of center_of assigned least_pair open_pairs pairs row_pairs
+        keep some
+    record_bytes joined_below layout_entry node_of grid_box grid_boxes metas inner_mask node_bytes head_bytes put_slots put_slot slot_offset
+        child_min child_max
     clamped_byte
     on_grid reciprocal_of scale_of exponent_of extent_scale next_power max_of to_bits round div le
 ordered_T = refl
 
 nothing : convert_sample [] [] 3 ≡ converted 0 0
-unfolding convert_sample conversion_of outcome_for conversion_conditions answer_for level_of nodes_of first_cause prepare_conditions slices_fit record_size
+unfolding convert_sample conversion_of outcome_for conversion_conditions answer_for level_of nodes_of first_cause prepare_conditions slices_fit
+    record_size
     size_conditions
     structure_conditions
     is_inside is_position is_whole each_once is_tree same count labels all_below in_bounds bounded_vec accepted_box aabb.in_order le
 nothing = refl
 
 limit_3 : convert_sample words_t indices_t 3 ≡ converted 1 0
-unfolding convert_sample conversion_of outcome_for conversion_conditions answer_for level_of nodes_of first_cause prepare_conditions slices_fit record_size
+unfolding convert_sample conversion_of outcome_for conversion_conditions answer_for level_of nodes_of first_cause prepare_conditions slices_fit
+    record_size
     size_conditions
     structure_conditions
-    is_inside is_position is_whole each_once is_tree same count labels all_below in_bounds bounded_vec accepted_box aabb.in_order le link_of box_at read_link
-    box_of positions table decision best_of leaves half_area wide_of slots_from wide_children slots_of gathered_order partner of_bits of_int add sub mul lt
+    is_inside is_position is_whole each_once is_tree same count labels all_below in_bounds bounded_vec accepted_box aabb.in_order le link_of box_at
+        read_link
+    box_of positions table decision best_of leaves half_area wide_of slots_from wide_children slots_of gathered_order partner of_bits of_int add sub
+        mul lt
 limit_3 = refl
 
 limit_4 : convert_sample words_t indices_t 4 ≡ refused 3
-unfolding convert_sample conversion_of outcome_for conversion_conditions answer_for level_of nodes_of first_cause prepare_conditions slices_fit record_size
+unfolding convert_sample conversion_of outcome_for conversion_conditions answer_for level_of nodes_of first_cause prepare_conditions slices_fit
+    record_size
     size_conditions
     structure_conditions
     is_inside is_position is_whole each_once is_tree same count labels all_below in_bounds bounded_vec accepted_box aabb.in_order le
 limit_4 = refl
 
 limit_4_nothing : convert_sample [] [] 4 ≡ refused 3
-unfolding convert_sample conversion_of outcome_for conversion_conditions answer_for level_of nodes_of first_cause prepare_conditions slices_fit record_size
+unfolding convert_sample conversion_of outcome_for conversion_conditions answer_for level_of nodes_of first_cause prepare_conditions slices_fit
+    record_size
     size_conditions
     structure_conditions
     is_inside is_position is_whole each_once is_tree same count labels all_below in_bounds bounded_vec accepted_box aabb.in_order le
@@ -132,10 +144,14 @@ any_hits :
     × (any_hit_of bytes_t 2 beside 2 ≡ record { answer = listed 2; tests = 1 })
     × (list_after bytes_t 2 beside (7 ∷ 7 ∷ 7 ∷ []) ≡ 1 ∷ 0 ∷ 7 ∷ [])
     × (any_hit_of [] 0 ahead 0 ≡ record { answer = listed 0; tests = 0 })
-unfolding any_hit_of list_after list_for splice entry_conditions record_conditions first_cause entered walk_of walked fitted any_hit_at query_at query_words
-    step_words advance_words report_words visit_words pop_words ray_of unsigned_vec plain_vec unsigned_zero is_minus_zero octant_of hit_mask slot_hit hit_bits or_of
-    passes near_of far_of max_of min_of plane_at adjusted_inverse adjusted_origin near_limit scale_of node_from le_at sum_of slot_from slot_offset node_rule head_ok
-    children_ok slots_ok slot_ok leaf_top point_ok exponent_ok in_bounds ones_below field child_index top_of pushed count_leading_zeros safe_inverse bounded_vec
+unfolding any_hit_of list_after list_for splice entry_conditions record_conditions first_cause entered walk_of walked fitted any_hit_at query_at
+    query_words
+    step_words advance_words report_words visit_words pop_words ray_of unsigned_vec plain_vec unsigned_zero is_minus_zero octant_of hit_mask
+        slot_hit hit_bits or_of
+    passes near_of far_of max_of min_of plane_at adjusted_inverse adjusted_origin near_limit scale_of node_from le_at sum_of slot_from slot_offset
+        node_rule head_ok
+    children_ok slots_ok slot_ok leaf_top point_ok exponent_ok in_bounds ones_below field child_index top_of pushed count_leading_zeros safe_inverse
+        bounded_vec
     accepted_ray round of_bits of_int add sub mul div lt le eq is_nan
 any_hits = (refl, refl, refl, refl, refl)
 
@@ -143,11 +159,16 @@ closest :
     (closest_of bytes_t indices_t panes_t ahead ≡ record { answer = hit_at 0 (number 1); tests = 1 })
     × (closest_of bytes_t indices_t panes_t beside ≡ record { answer = hit_at 0 (number 1); tests = 1 })
     × (closest_of [] [] [] ahead ≡ record { answer = no_hit; tests = 0 })
-unfolding closest_of closest_walk closest_found walked entered entry_conditions record_conditions first_cause pane_of pane_met counts box_in vec_in query_at
-    query_words step_words advance_words report_words visit_words pop_words ray_of unsigned_vec plain_vec is_minus_zero octant_of hit_mask slot_hit hit_bits or_of
-    passes near_of far_of max_of min_of plane_at adjusted_inverse adjusted_origin near_limit scale_of node_from le_at sum_of slot_from slot_offset node_rule head_ok
-    children_ok slots_ok slot_ok leaf_top point_ok exponent_ok in_bounds ones_below field child_index top_of pushed count_leading_zeros safe_inverse bounded_vec
-    accepted_ray accepted_box aabb.in_order aabb.entry_distance aabb.box_near aabb.box_far aabb.slab_near aabb.slab_far unsigned_zero round of_bits of_int add
+unfolding closest_of closest_walk closest_found walked entered entry_conditions record_conditions first_cause pane_of pane_met counts box_in vec_in
+    query_at
+    query_words step_words advance_words report_words visit_words pop_words ray_of unsigned_vec plain_vec is_minus_zero octant_of hit_mask slot_hit
+        hit_bits or_of
+    passes near_of far_of max_of min_of plane_at adjusted_inverse adjusted_origin near_limit scale_of node_from le_at sum_of slot_from slot_offset
+        node_rule head_ok
+    children_ok slots_ok slot_ok leaf_top point_ok exponent_ok in_bounds ones_below field child_index top_of pushed count_leading_zeros safe_inverse
+        bounded_vec
+    accepted_ray accepted_box aabb.in_order aabb.entry_distance aabb.box_near aabb.box_far aabb.slab_near aabb.slab_far unsigned_zero round of_bits
+        of_int add
     sub mul div lt le eq is_nan
 closest = (refl, refl, refl)
 

@@ -51,7 +51,8 @@ range_split x a m n = go (dec_lt x a) (dec_lt x (a + m)) (dec_lt x (a + (m + n))
   where
     go : Dec (x < a) → Dec (x < a + m) → Dec (x < a + (m + n)) → in_range x a (m + n) ≡ in_range x a m + in_range x (a + m) n
     go (yes h) d e = omega (arith, before_range x a (m + n) h, before_range x a m h, before_range x (a + m) n (omega arith))
-    go (no h) (yes k) e = omega (arith, in_range_lem x a (m + n) (omega arith) (omega arith), in_range_lem x a m (omega arith) k, before_range x (a + m) n k)
+    go (no h) (yes k) e =
+        omega (arith, in_range_lem x a (m + n) (omega arith) (omega arith), in_range_lem x a m (omega arith) k, before_range x (a + m) n k)
     go (no h) (no k) (yes l) = omega (
       arith,
       in_range_lem x a (m + n) (omega arith) l,

@@ -109,7 +109,8 @@ module _ (S : Shape) (Rule : ℕ → Type 0) (place : (j : ℕ) → j < S.nodes 
       go (inl e) = e
       go (inr (c, e)) = let a = c.from in let b = c.before in let z = w.later (omega arith) in absurd (omega arith)
 
-  pub passes_next : (i d e : ℕ) (o q : List ℕ) → Passed S Rule i o d → i < S.nodes → Rule i → 1 ≤ get_or o i 0 → get_or o i 0 ≤ 32 → NodeMarked S i o q
+  pub passes_next : (i d e : ℕ) (o q : List ℕ) → Passed S Rule i o d → i < S.nodes → Rule i → 1 ≤ get_or o i 0 → get_or o i 0 ≤ 32
+      → NodeMarked S i o q
       → d ≤ e → get_or o i 0 ≤ suc e → (e ≡ d) ⊎ (get_or o i 0 ≡ suc e) → Passed S Rule (suc i) q e
   unfolding sum Level
   passes_next i d e o q b h r lo hi s up top which = record {

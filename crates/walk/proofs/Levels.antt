@@ -136,7 +136,8 @@ module _ {RayData Distance : Type 0} {S : Shape} {Rule : ℕ → Type 0} {T : Te
 
   pub fresh-levels : (ray : RayData) → Levels (fresh ray)
   unfolding Level
-  fresh-levels ray = record { in_hand_lem = (λ h. record { node = h; level = 0; at_level = refl; deep = omega arith }, λ c i. in_none c i); waiting = tt }
+  fresh-levels ray = record
+      { in_hand_lem = (λ h. record { node = h; level = 0; at_level = refl; deep = omega arith }, λ c i. in_none c i); waiting = tt }
 
   -- as many groups as wait, so deep lies the first node of the last
   pub waiting_few : (e : ℕ) → ((v l : ℕ) → v < S.nodes → Level S l v → l ≤ e) → (st : List (List ℕ)) → Waiting st → length st ≤ e

@@ -53,12 +53,14 @@ module _ {RayData Distance : Type 0} (N : Nodes) (R : Rays RayData Distance) (la
   pub step_on_lists : (n : ℕ) (w : WalkerWords RayData) → WordsFit w
       → decoded_step (node_words_in N R) (step_in N R n w) ≡ step_of N.count (tests_of (slots_in N R n)) n (decoded (node_words_in N R) w)
   unfolding step_in
-  step_on_lists n w i = step_decoded N.count (node_words_in N R) (positions_passed (slots_in N R n)) (children_passed (slots_in N R n)) (decodes n) n w i
+  step_on_lists n w i =
+      step_decoded N.count (node_words_in N R) (positions_passed (slots_in N R n)) (children_passed (slots_in N R n)) (decodes n) n w i
 
   -- leaves words in range,
   pub step_range : (n : ℕ) (w : WalkerWords RayData) → WordsFit w → WordsFit (step_in N R n w).walker
   unfolding step_in
-  step_range n w i = WordRuns.step_range N.count (node_words_in N R) (positions_passed (slots_in N R n)) (children_passed (slots_in N R n)) (decodes n)
+  step_range n w i = WordRuns.step_range N.count (node_words_in N R) (positions_passed (slots_in N R n)) (children_passed (slots_in N R n))
+      (decodes n)
       n w i
 
   -- and, where there is a next one, lowers the number of steps left

@@ -111,7 +111,8 @@ module _ (S : Shape) where
   unfolding Level
   level_next l m p v e a c = subst (λ (x : ℕ). Level S x v) (sym e) (p, c, a)
 
-  levels_below_lem : {w : ℕ} (s : Slots w) (l m p k i c q : ℕ) → m ≡ suc l → Level S l p → ((x : ℕ) → i ≤ x → x < i + inner_children s → ChildOf S p x)
+  levels_below_lem : {w : ℕ} (s : Slots w) (l m p k i c q : ℕ) → m ≡ suc l → Level S l p
+      → ((x : ℕ) → i ≤ x → x < i + inner_children s → ChildOf S p x)
       → EachEntry (λ e. ReadsNode S e × (e.number < S.nodes)) (entries s m p k i c q)
       → EachEntry (λ e. Level S e.level e.number) (entries s m p k i c q)
   levels_below_lem end l m p k i c q g a f h = tt

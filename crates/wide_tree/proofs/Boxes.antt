@@ -43,7 +43,8 @@ module _ (P : Aabb → Type 0) where
       holds w (leaf_child b ps) s k q = (k, q)
       holds w (inner_child b t) s k q = (k.0, k.1, q)
 
-  children_boxes : {A : Type 0} (place : Placing) (limit : ℕ) (t : Tree A) (i : ℕ) → EachBox P t → EachChild ChildBoxes (wide_children place limit t i)
+  children_boxes : {A : Type 0} (place : Placing) (limit : ℕ) (t : Tree A) (i : ℕ) → EachBox P t
+      → EachChild ChildBoxes (wide_children place limit t i)
   unfolding ChildBoxes box_of
   children_boxes place limit t i h =
       children-each place limit ChildBoxes (EachBox P) below_boxes (λ t o e. root_box t o)
