@@ -34,7 +34,7 @@ fn held_length(held: usize, more: usize) -> usize
 }
 
 // Reads until a buffer is full or the input ends, and answers how many bytes it put at the buffer's start.
-fn read_full<R: Read>(input: &mut R, bytes: &mut [u8]) -> io::Result<usize>
+pub fn read_full<R: Read>(input: &mut R, bytes: &mut [u8]) -> io::Result<usize>
     ensures prefix { ReadsAtMost result bytes.new }
     ensures taken { IfOk result (λ n. Consumes (R.remaining input.old) (R.remaining input.new) (take n bytes.new)) }
     ensures end { IfOk result (λ n. n < length bytes.new → IsAtEnd (R.remaining input.new)) }

@@ -8,7 +8,7 @@ ghost use Rattle.lists.specs.Splice.{splice};
 ghost use Rattle.validate.specs.Validity.{verdict_of};
 ghost use Rattle.check_text.specs.CheckText.{all_words, answer_text, check_text};
 
-pub use input::answer;
+pub use input::{answer, read_full};
 use validate::Validity;
 
 // Writes an answer.

@@ -2,8 +2,9 @@
 // tree's record, a line a node, and its index list, or `refused NUMBER`. It reads one byte further than the longest input that is taken.
 #![tactic(auto)]
 
+ghost use Rattle.std.specs.Prelude.{◌≤◌, length};
+
 use std::io;
-use std::io::Read;
 
 // The most leaves.
 const MOST_LEAVES: usize = 256;
@@ -12,7 +13,7 @@ const MOST_LEAVES: usize = 256;
 const MOST_WORDS: usize = 3577;
 
 // One byte more than 12 and four for each of 3,577 words and 256 indices.
-const MOST_BYTES: u64 = 15345;
+const MOST_BYTES: usize = 15345;
 
 // The record of 255 nodes.
 const MOST_RECORD: usize = 20400;
@@ -20,8 +21,10 @@ const MOST_RECORD: usize = 20400;
 // 255 lines of at most 167 characters, and a line of 256 indices of at most 11.
 const MOST_TEXT: usize = 45409;
 
-// Answers what was read.
-fn answer(rt: &impl Print, bytes: &[u8]) -> io::Result<()> {
+// Answers the first got bytes.
+fn answer(rt: &impl Print, bytes: &[u8], got: usize) -> io::Result<()>
+    requires { got ≤ length bytes.now }
+{
     let mut words = [0u32; MOST_WORDS];
     let mut indices = [0u32; MOST_LEAVES];
     let mut decisions = [0u32; MOST_WORDS];
@@ -30,7 +33,7 @@ fn answer(rt: &impl Print, bytes: &[u8]) -> io::Result<()> {
     let mut list = [0u32; MOST_LEAVES];
     let mut text = [0u8; MOST_TEXT];
     let long = show_text::show_text(
-        bytes,
+        &bytes[..got],
         &mut words,
         &mut indices,
         &mut decisions,
@@ -43,7 +46,7 @@ fn answer(rt: &impl Print, bytes: &[u8]) -> io::Result<()> {
 }
 
 fn main(rt: HostRuntime) -> io::Result<()> {
-    let mut bytes = Vec::new(rt.alloc());
-    rt.stdin().take(MOST_BYTES).read_to_end(&mut bytes)?;
-    answer(&rt, &bytes)
+    let mut bytes = [0u8; MOST_BYTES];
+    let got = check_text::read_full(&mut rt.stdin(), &mut bytes)?;
+    answer(&rt, &bytes, got)
 }
