@@ -53,9 +53,10 @@ sizes_fit_lem ws n p = record { fit = told (eqb_tells (length ws) (tree_nodes n 
 -- the number of sizes is 0 exactly if neither holds
 pub sizes_none : (ws : List ℕ) (n : ℕ) → sizes_cause (length ws) n ≡ 0 ↔ TreeSized ws n
 unfolding size_conditions sorted
-sizes_none ws n =
-    (λ e. sizes_fit_lem ws n (none_passed 0 (size_conditions (length ws) n) tt e),
-        λ s. passed_none (size_conditions (length ws) n) (sizes_passed ws n s))
+sizes_none ws n = (
+  λ e. sizes_fit_lem ws n (none_passed 0 (size_conditions (length ws) n) tt e),
+  λ s. passed_none (size_conditions (length ws) n) (sizes_passed ws n s),
+)
 
 -- ---- a test that fails shows its cause
 pub sizes_show : (ws : List ℕ) (n : ℕ) → Shows (Cause ws n) (size_conditions (length ws) n)

@@ -105,4 +105,4 @@ pub walk_tells : (ws : List ℕ) (n : ℕ) (went : Bool) (o₁ : List ℕ) → L
 walk_tells ws n went o₁ w e =
     tells_walk ws n w went (marks_set (mark_count n) o₁) (replicate (mark_count n) 0) o₁ (zeros (mark_count n))
     (rw e (walked ws (tree_nodes n) n (tree_of ws) (replicate (mark_count n) 0) (rw length-replicate (omega arith)) w))
-        (all_marked_lem (mark_count n) o₁)
+    (all_marked_lem (mark_count n) o₁)

@@ -48,8 +48,11 @@ pub record Cut (ws : List ℕ) (v d : ℕ) : Type 0 where
 pub at_cut : {kind : ℕ} (ws : List ℕ) (v d w : ℕ) → w ≡ word_at ws v 6 → kind ≡ w / 0x4000_0000 → kind ≡ 0 → d ≡ 0 → Cut ws v d
 at_cut ws v d w e q h z =
     let l : link_at ws v ≡ children (w % 0x4000_0000) = rw (← e) (word-children w (sym q ∙ h)) in
-    record { tree = rw z (tree_cut ws v (w % 0x4000_0000) l); goes_on_lem =
-        tells_false (position_tells 0 (link_at ws v)) (λ e. children_position l e) }
+    record {
+      tree = rw z (tree_cut ws v (w % 0x4000_0000) l);
+      goes_on_lem =
+          tells_false (position_tells 0 (link_at ws v)) (λ e. children_position l e);
+    }
 
 -- an inner node
 pub record Fork (ws : List ℕ) (n marks v d f : ℕ) : Type 0 where

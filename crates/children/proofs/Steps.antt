@@ -103,7 +103,7 @@ pub record Down (ws ds : List ℕ) (e v f l r count : ℕ) (g : ℕ → List (Tr
   pub joined : (s₀ s₁ s₂ : List ℕ) (half end : ℕ) → 8 ≤ length s₀
       → ((limit : ℕ) → RowsHold (word_of limit) 0 ds (tree_at ws (e - 1) f) → Gathered (part limit (tree_at ws (e - 1) f) l) count s₀ s₁ half)
       → ((limit : ℕ) → RowsHold (word_of limit) 0 ds (tree_at ws (e - 1) (f + 1))
-          → Gathered (part limit (tree_at ws (e - 1) (f + 1)) r) half s₁ s₂ end)
+      → Gathered (part limit (tree_at ws (e - 1) (f + 1)) r) half s₁ s₂ end)
       → (limit : ℕ) → RowsHold (word_of limit) 0 ds (tree_at ws e v) → Gathered (g limit) count s₀ s₂ end
 
 both_written : (A B : List (Tree ℕ)) (count half end : ℕ) (s₀ s₁ s₂ : List ℕ) → Gathered A count s₀ s₁ half → Gathered B half s₁ s₂ end

@@ -49,7 +49,7 @@ leaf_fills limit v t box p e q x y = rw e (record { counted = refl; decided = x;
 pub leaf_done : {ws : List ℕ} {d c e v w kind : ℕ} → RowsReady ws d c e v → w ≡ word_at ws v 6 → kind ≡ w / 0x4000_0000 → (kind ≡ 0 → ⊥)
     → (limit : ℕ) {area : Float} {ds ds' : List ℕ} {cs cs' : List Float}
     → area ≡ half_area (box_at ws v) → ds' ≡ row (λ i. word (leaf_decision area)) (v * 7) 7 ds → cs'
-        ≡ row (λ i. (leaf_decision area).cost) (v * 7) 7 cs
+    ≡ row (λ i. (leaf_decision area).cost) (v * 7) 7 cs
     → Done limit (tree_at ws e v) 1 ds cs ds' cs'
 leaf_done {ws} {e = e} {v = v} h q r k limit a x y =
     let l = at_leaf h.tree (λ z. k (r ∙ ap (λ (u : ℕ). u / 0x4000_0000) q ∙ z)) in

@@ -25,8 +25,12 @@ record Floats (b : Aabb) : Type 0 where
 
 at : (ws : List ℕ) (v : ℕ) → Floats (box_at ws v)
 unfolding box_at
-at ws v = record { x = of_bits-fits binary32 (word_at ws v 0); y = of_bits-fits binary32 (word_at ws v 1); z =
-    of_bits-fits binary32 (word_at ws v 2) }
+at ws v = record {
+  x = of_bits-fits binary32 (word_at ws v 0);
+  y = of_bits-fits binary32 (word_at ws v 1);
+  z =
+      of_bits-fits binary32 (word_at ws v 2);
+}
 
 read : (ws : List ℕ) (d v : ℕ) (l : Link) → EachBox Floats (read_link ws d v l)
 unfolding read_link EachBox

@@ -58,7 +58,7 @@ as_its_neighbour o d near far =
 pub packed_signs_change_nothing : (s t : List Float) (k : ℕ)
     → unsigned_vec (vec_in s (k * 8)) ≡ unsigned_vec (vec_in t (k * 8)) → unsigned_vec (vec_in s (k * 8 + 3)) ≡ unsigned_vec (vec_in t (k * 8 + 3))
     → get_or s (k * 8 + 6) nan ≡ get_or t (k * 8 + 6) nan → get_or s (k * 8 + 7) nan ≡ get_or t (k * 8 + 7) nan
-        → AnsweredAlike (ray_in s k) (ray_in t k)
+    → AnsweredAlike (ray_in s k) (ray_in t k)
 unfolding ray_in
 packed_signs_change_nothing s t k o d near far = rw (near, far) (signs_change_nothing _ _ _ _ _ _ o d)
 

@@ -141,7 +141,7 @@ module _ (bytes indices : List ℕ) (panes : List Float) (are_bytes : (i : ℕ) 
       let w = on_entry_lem refused_miss blocked refused_blocked_apart (pane_cause bytes indices panes ray) (miss_walked bytes indices panes ray) e in
       let b = begun w.0 in
       let f = at_end refused_miss blocked refused_blocked_apart miss_found (miss_walk bytes indices panes ray)
-              (miss_walk bytes indices panes ray).ended
+      (miss_walk bytes indices panes ray).ended
       w.1 in
       let h = found_block _ _ f in (
         h.0,

@@ -51,7 +51,7 @@ module _ (bytes : List ℕ) (whole : length bytes % 80 ≡ 0) (are_bytes : (i : 
     run_is =
         ap (decoded_run N) (run_started bytes whole ray accepted.accepted (calls_made bytes n ray react x))
         ∙ run_on_lists (nodes_at bytes) by_boxes walk_ray_laws (bytes_fit bytes are_bytes) n beam (not_forged accepted)
-            (calls_made bytes n ray react x)
+        (calls_made bytes n ray react x)
 
     answers_are : answers_made bytes n ray react x ≡ (run_ops m T (calls_made bytes n ray react x) (fresh beam)).answers
     answers_are = ap (λ (r : Run WalkRay). r.answers) run_is

@@ -76,7 +76,7 @@ module _ (c : ReportCall) {d : ℕ} (good : CheckedRecord c.bytes (length c.indi
   nothing_on_entry =
       sym (cause_none c.bytes c.indices c.panes c.losses c.rays (length c.ray_totals) (length c.pane_totals) rays.whole
       (sizes_fit_lem good) rays.few ray_room pane_room (losses_fit_lem fine)
-          (all_pass (λ k. accepted_ray (ray_in c.rays k)) (rays_of c) rays.accepted))
+      (all_pass (λ k. accepted_ray (ray_in c.rays k)) (rays_of c) rays.accepted))
 
   ray_of_lem : (i : ℕ) → i < rays_of c → AcceptedRay (ray_in c.rays i)
   ray_of_lem i h = ray_accepted c.rays i (rays.accepted i h)

@@ -56,7 +56,7 @@ in_order_placed z (a ∷ b ∷ c ∷ d ∷ e ∷ f ∷ g ∷ i ∷ j ∷ xs) h =
 
 module _ {ws ds : List ℕ} {d v r : ℕ} {found : List ℕ} (h : Tabled ws ds d v)
     (k : (limit : ℕ) → RowsHold (word_of limit) 0 ds (tree_at ws d v)
-        → Gathered (gather limit (tree_at ws d v) 0) 0 (replicate 8 0xffff_ffff) found r)
+    → Gathered (gather limit (tree_at ws d v) 0) 0 (replicate 8 0xffff_ffff) found r)
   where
     -- as many as there are, and their numbers
     number : (limit : ℕ) → RowsHold (word_of limit) 0 ds (tree_at ws d v) → length (map label_of (gather limit (tree_at ws d v) 0)) ≡ r

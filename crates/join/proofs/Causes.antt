@@ -203,7 +203,7 @@ module _ (ws : List ℕ) (n : ℕ) (us : List ℕ) (m : ℕ) where
       where
         go : (x y z : Bool) → first_cause (5 unless x ∷ 6 unless y ∷ 7 unless z ∷ []) ≡ 0
             → first_cause (5 unless x ∷ 6 unless y ∷ 7 unless (z && edge_to_spare ws n us m) ∷ [])
-                ≡ first_cause (7 unless edge_to_spare ws n us m ∷ [])
+            ≡ first_cause (7 unless edge_to_spare ws n us m ∷ [])
         go false y z f = absurd (omega arith)
         go true false z f = absurd (omega arith)
         go true true false f = absurd (omega arith)

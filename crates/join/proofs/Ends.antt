@@ -26,7 +26,7 @@ pub tests_accepted : (ws : List ℕ) (n : ℕ) → TreeSized ws n → links_insi
 tests_accepted ws n s l b t =
     (structure_none ws n s).0
     (structure_tests ws n
-        ∙ passed_none (5 unless links_inside ws n ∷ 6 unless boxes_accepted ws n ∷ 7 unless tree_or_none ws n ∷ []) (l, (b, (t, tt))))
+    ∙ passed_none (5 unless links_inside ws n ∷ 6 unless boxes_accepted ws n ∷ 7 unless tree_or_none ws n ∷ []) (l, (b, (t, tt))))
 
 module _ (c : JoinCall) where
   -- what is looked at, in three parts

@@ -91,7 +91,7 @@ pub moved_seven : (ws : List ℕ) (nodes positions v : ℕ) → length (moved_no
 unfolding moved_node
 moved_seven ws nodes positions v =
     length-append (values (word_at ws v) 6) (moved_link nodes positions (word_at ws v 6) ∷ [])
-        ∙ ap (λ (k : ℕ). k + 1) (values_length (word_at ws v) 6)
+    ∙ ap (λ (k : ℕ). k + 1) (values_length (word_at ws v) 6)
 
 -- the node that the code writes
 pub node_moved : (ws : List ℕ) (nodes positions v link : ℕ) → link ≡ moved_link nodes positions (word_at ws v 6)

@@ -82,8 +82,8 @@ module _ (n : ℕ) (t u : Tree ℕ) where
       rw (labels_moved 2 (2 * n) j, e) at (mathlib.Core.List.Perm.map (moved_label 2 (2 * n)) q) in
       rw (labels_joined, upto-append 3 k j)
       (mathlib.Core.List.Perm.cons 0
-          (mathlib.Core.List.Perm.trans (mathlib.Core.List.Perm.append x y)
-              (mathlib.Core.List.Perm.cons 1 (perm_middle (upto 3 k) (upto (3 + k) j)))))
+      (mathlib.Core.List.Perm.trans (mathlib.Core.List.Perm.append x y)
+      (mathlib.Core.List.Perm.cons 1 (perm_middle (upto 3 k) (upto (3 + k) j)))))
 
   pub labels_once : (m : ℕ) → 0 < n → 0 < m → Perm (labels t) (upto 0 (tree_nodes n)) → Perm (labels u) (upto 0 (tree_nodes m))
       → Perm (labels (joined_tree n t u)) (upto 0 (tree_nodes (n + m)))

@@ -67,7 +67,7 @@ module _ (bytes indices : List ℕ) (panes : ℕ) (losses : List ℕ) (rays : Li
         cause_pane_room h =
             sym (after_rays
             ∙ first_here _ (ap (λ (b : Bool). leb (ray_count rays) rayRoom && b) (lt-leb panes paneRoom h)
-                ∙ and-false (leb (ray_count rays) rayRoom)))
+            ∙ and-false (leb (ray_count rays) rayRoom)))
 
         module _ (ray_room : ray_count rays ≤ rayRoom) (pane_room : panes ≤ paneRoom) where
           after_room : cause ≡ first_cause (12 unless losses_fit panes losses ∷ 9 unless rays_accepted rays ∷ [])

@@ -30,7 +30,7 @@ fit_most panes losses h k = pick (dec_lt k panes)
     pick : Dec (k < panes) → get_or losses k 0 ≤ 1000000
     pick (yes l) =
         told (below_tells (λ i. get_or losses i 0 ≤ 1000000) (λ i. leb (get_or losses i 0) 1000000)
-            (λ i. leb_tells (get_or losses i 0) 1000000) panes)
+        (λ i. leb_tells (get_or losses i 0) 1000000) panes)
         (both_pass (eqb (length losses) panes) _ h).1 k l
     pick (no l) = omega (arith, get_or-eq_default losses 0 {n = k} (omega (arith, fit_length panes losses h, l)))
 
@@ -49,7 +49,7 @@ module _ (losses : List ℕ) where
   charged_at totals [] j h = omega arith
   charged_at totals (k ∷ l) j h =
       charged_at (set totals k (get_or totals k 0 + get_or losses k 0)) l j
-          (omega (arith, length-set totals k (get_or totals k 0 + get_or losses k 0), h))
+      (omega (arith, length-set totals k (get_or totals k 0 + get_or losses k 0), h))
       ∙ pick (ℕ_discrete j k)
     where
       pick : Dec (j ≡ k) → get_or (set totals k (get_or totals k 0 + get_or losses k 0)) j 0 + count j l * get_or losses j 0

@@ -99,7 +99,7 @@ module _ (bytes indices : List ℕ) (panes : ℕ) (losses : List ℕ) (r : Ray) 
     unfolding any_hit_at query_at
     walk_ten =
         query_ten (node_count bytes) (node_words_at bytes by_boxes) (length indices) append fit (steps_for (node_count bytes))
-            (fresh_words (walk_ray r)) []
+        (fresh_words (walk_ray r)) []
 
     -- which has number 10, whatever is made of the walk,
     pub refused_ten : {A : Type 0} (refuse : ℕ → A) (found : List ℕ → ℕ → Result A) → (Ended outcome.ended → ⊥)

@@ -134,7 +134,7 @@ module _ (s : List ℕ) (o : ℕ) (t : List ℕ) (q : ℕ) (same : (k : ℕ) →
       let metas : eight (λ i. get_or s (o + 24 + i) 0) ≡ eight (λ i. get_or t (q + 24 + i) 0) =
       eight_congr (λ i. get_or s (o + 24 + i) 0) (λ i. get_or t (q + 24 + i) 0)
       (λ i l. ap (λ (x : ℕ). get_or s x 0) (add_assoc o 24 i) ∙ same (24 + i) (omega arith) ∙ ap (λ (x : ℕ). get_or t x 0) (sym (add_assoc q 24 i)))
-          in
+      in
       rw (
         px,
         same_word 4 (omega arith),
@@ -243,14 +243,14 @@ module _ (s : List ℕ) (o : ℕ) (fits : o + 80 ≤ length s) (small : (k : ℕ
   unfolding head_bytes node_from
   head-part =
       let px : bytes 4 (le_at 4 s o) ≡ take 4 (drop (o + 0) s) = ap (λ (x : ℕ). bytes 4 (le_at 4 s x)) (sym (add-zero o))
-              ∙ word-part 0 (omega arith) in
+      ∙ word-part 0 (omega arith) in
       let metas : eight (λ i. get_or (eight (λ j. get_or s (o + 24 + j) 0)) i 0) ≡ take 8 (drop (o + 24) s) =
       part_is s (o + 24) (eight (λ i. get_or (eight (λ j. get_or s (o + 24 + j) 0)) i 0)) 8 refl (omega arith)
       (λ i l. eight_at (λ j. get_or s (o + 24 + j) 0) 0 i l) in
       let small4 : get_or s (o + 12) 0 ∷ get_or s (o + 13) 0 ∷ get_or s (o + 14) 0 ∷ get_or s (o + 15) 0 ∷ [] ≡ take 4 (drop (o + 12) s) =
       part_is s (o + 12) (get_or s (o + 12) 0 ∷ get_or s (o + 13) 0 ∷ get_or s (o + 14) 0 ∷ get_or s (o + 15) 0 ∷ []) 4 refl (omega arith)
       (below_four (λ i. get_or (get_or s (o + 12) 0 ∷ get_or s (o + 13) 0 ∷ get_or s (o + 14) 0 ∷ get_or s (o + 15) 0 ∷ []) i 0
-          ≡ get_or s (o + 12 + i) 0)
+      ≡ get_or s (o + 12 + i) 0)
       (ap (λ (x : ℕ). get_or s x 0) (omega arith)) (ap (λ (x : ℕ). get_or s x 0) (omega arith)) (ap (λ (x : ℕ). get_or s x 0) (omega arith))
       (ap (λ (x : ℕ). get_or s x 0) (omega arith))) in
       more 0 4 28 _ _ px (more 4 4 24 _ _ (word-part 4 (omega arith)) (more 8 4 20 _ _ (word-part 8 (omega arith)) (more 12 4 16 _ _ small4
@@ -274,7 +274,7 @@ module _ (s : List ℕ) (o : ℕ) (fits : o + 80 ≤ length s) (small : (k : ℕ
   unfolding node_from
   byte_back k h =
       ⊎_elim (λ p. node-head (node_from s o) k p ∙ ap (λ (l : List ℕ). get_or l k 0) head-part ∙ get_or-take 32 (drop o s) k 0 p
-          ∙ get_or-drop o s k 0)
+      ∙ get_or-drop o s k 0)
       (λ p. let w = offset_onto k p h in
       subst (λ (x : ℕ). get_or (node_bytes (node_from s o)) x 0 ≡ get_or s (o + x) 0) w.is
       (node_corner (node_from s o) w.axis w.end w.slot w.corner

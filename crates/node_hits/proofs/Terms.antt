@@ -55,7 +55,7 @@ scale_within : (e : ℕ) → Exponent e → Within 40 (scale_of e)
 unfolding scale_of point_ok
 scale_within e h =
     in_bounds_within (of_bits binary32 (e * 8388608))
-        (subst T (point_bits (e * 8388608)) (le→leb (e * 8388608 % 2147483648) 1400897536 (omega arith)))
+    (subst T (point_bits (e * 8388608)) (le→leb (e * 8388608 % 2147483648) 1400897536 (omega arith)))
 
 pub byte_within : (q : ℕ) → q < 256 → Within 8 (of_int binary32 (pos q))
 unfolding of_int

@@ -64,7 +64,7 @@ spread_is i x a z hi ex ea ez hz =
     sk k l =
         field-add k a 0x7f7f_7f7f_7f7f_7f7f
         (λ j m. let e = ak j (omega arith) in let f = repeats 127 j (lit< tt) (omega arith) in let g = and_le_r (bit_and i (2 ^ j)) 127 in
-            omega arith)
+        omega arith)
         ∙ ap₂ (λ (y v : ℕ). y + v) (ak k l) (repeats 127 k (lit< tt) l)
 
     yk : (k : ℕ) → k < 8 → field 8 k (bit_or (a + 0x7f7f_7f7f_7f7f_7f7f) x) ≡ bit_or (bit_and (bit_and i (2 ^ k)) 127 + 127) (bit_and i (2 ^ k))

@@ -125,9 +125,9 @@ pair_taken table slot child c b x r h e f g =
         ≡ best_pair (cost_in table) (open_pairs (λ k. get_or slot k 0) (λ s. get_or child s 0) (cost_in table) (row_pairs c 8))
     same =
         best_alike (λ j. 8) (λ s. get_or child s 0) (λ k. get_or slot k 0) (λ s. get_or child s 0) (row_cost (get_or table c [])) (cost_in table)
-            (row_pairs c 8)
+        (row_pairs c 8)
         (row-all (Alike (λ j. 8) (λ s. get_or child s 0) (λ k. get_or slot k 0) (λ s. get_or child s 0) (row_cost (get_or table c []))
-            (cost_in table)) c 8
+        (cost_in table)) c 8
         (λ s l. record { slots = sym h; children = refl; costs = refl }))
 
 pub pair_left : (table : List (List Float)) (slot child : List ℕ) (c : ℕ) (b r : Best) → (get_or slot c 0 ≡ 8 → ⊥) → b ≡ best_open table slot child c

@@ -56,11 +56,11 @@ module _ (parent : Aabb) (p : T (accepted_box parent)) where
   unfolding cost_table
   table_below boxes h c s l m =
       all_at (λ row. (s : ℕ) → s < 8 → lt (get_or row s nan) greatest_finite ≡ true)
-          (map (λ b. eight_of (direction_cost (center_of parent) b)) boxes) c []
+      (map (λ b. eight_of (direction_cost (center_of parent) b)) boxes) c []
       (subst (λ (n : ℕ). c < n) (sym (length-map boxes (λ b. eight_of (direction_cost (center_of parent) b)))) l)
       (all_mapped (λ row. (s : ℕ) → s < 8 → lt (get_or row s nan) greatest_finite ≡ true) (λ b. eight_of (direction_cost (center_of parent) b)) boxes
       (all_map (λ b. T (accepted_box b))
-          (λ b. (s : ℕ) → s < 8 → lt (get_or (eight_of (direction_cost (center_of parent) b)) s nan) greatest_finite ≡ true)
+      (λ b. (s : ℕ) → s < 8 → lt (get_or (eight_of (direction_cost (center_of parent) b)) s nan) greatest_finite ≡ true)
       boxes row_below h))
       s m
 

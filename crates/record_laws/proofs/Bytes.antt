@@ -60,8 +60,15 @@ record ByteSlot (t : Slot) : Type 0 where
   pub high_z : t.max_z < 256
 
 no_slot_lem : ByteSlot no_slot
-no_slot_lem = record { low_x = omega arith; low_y = omega arith; low_z = omega arith; high_x = omega arith; high_y = omega arith; high_z =
-    omega arith }
+no_slot_lem = record {
+  low_x = omega arith;
+  low_y = omega arith;
+  low_z = omega arith;
+  high_x = omega arith;
+  high_y = omega arith;
+  high_z =
+      omega arith;
+}
 
 put_slot_lem : (b : List ℕ) (o i : ℕ) (t : Slot) → ByteSlot t → Bytes b → Bytes (put_slot b o i t)
 unfolding put_slot

@@ -59,7 +59,7 @@ pub record Examples : Type 0 where
 pub examples : Examples
 unfolding check_of check_conditions record_conditions first_cause soundness_of sound_nodes deepest_nodes sound_test deepest_of greatest level_upto
     parent_among shape_in slot_positions all_below sum le_at sum_of ones_below in_range node_from point_ok exponent_ok head_ok children_ok leaf_top
-        slot_ok slots_ok
+    slot_ok slots_ok
     node_rule in_bounds of_bits le
 examples = record {
   leaves = refl;

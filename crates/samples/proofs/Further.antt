@@ -66,13 +66,13 @@ closest :
 unfolding closest_of closest_walk closest_found walked entered entry_conditions record_conditions first_cause pane_of pane_met counts box_in vec_in
     query_at
     query_words step_words advance_words report_words visit_words pop_words ray_of unsigned_vec plain_vec is_minus_zero octant_of hit_mask slot_hit
-        hit_bits or_of
+    hit_bits or_of
     passes near_of far_of max_of min_of plane_at adjusted_inverse adjusted_origin near_limit scale_of node_from le_at sum_of slot_from slot_offset
-        node_rule head_ok
+    node_rule head_ok
     children_ok slots_ok slot_ok leaf_top point_ok exponent_ok in_bounds ones_below field child_index top_of pushed count_leading_zeros safe_inverse
-        bounded_vec
+    bounded_vec
     accepted_ray accepted_box in_order entry_distance box_near box_far slab_near slab_far unsigned_zero round of_bits of_int add sub mul div lt le
-        eq is_nan
+    eq is_nan
 closest = (refl, refl, refl, refl, refl, refl, refl)
 
 miss :
@@ -83,11 +83,11 @@ miss :
 unfolding miss_of miss_walk miss_found walked entered entry_conditions record_conditions first_cause pane_of pane_met counts box_in vec_in query_at
     query_words
     step_words advance_words report_words visit_words pop_words ray_of unsigned_vec plain_vec is_minus_zero octant_of hit_mask slot_hit hit_bits
-        or_of passes near_of
+    or_of passes near_of
     far_of max_of min_of plane_at adjusted_inverse adjusted_origin near_limit scale_of node_from le_at sum_of slot_from slot_offset node_rule
-        head_ok children_ok
+    head_ok children_ok
     slots_ok slot_ok leaf_top point_ok exponent_ok in_bounds ones_below field child_index top_of pushed count_leading_zeros safe_inverse bounded_vec
-        accepted_ray
+    accepted_ray
     accepted_box in_order entry_distance box_near box_far slab_near slab_far unsigned_zero round of_bits of_int add sub mul div lt le eq is_nan
 miss = (refl, refl, refl, refl)
 
@@ -96,16 +96,16 @@ unfolding show_text leaves_text order_text tree_text cause_text input_words le_a
     size_conditions
     structure_conditions slices_fit
     record_size level_of record_of nodes_of output_positions index_list_of link_of box_at read_link is_inside is_position is_whole each_once is_tree
-        all_below
+    all_below
     same count labels positions box_of leaves in_bounds bounded_vec in_order accepted_box half_area center_of best_of decision table
-        order.gathered_order
+    order.gathered_order
     order.slots_of order.sign_of order.direction_of order.dot_of order.direction_cost order.cost_table row_pairs pairs partner open_pairs least_pair
-        assigned
+    assigned
     keep some slots_from wide_children wide_of record_bytes joined_below layout_entry node_of grid_box grid_boxes metas inner_mask node_bytes
-        head_bytes
+    head_bytes
     put_slots put_slot
     slot_offset child_min child_max clamped_byte on_grid reciprocal_of scale_of exponent_of extent_scale next_power max_of of_int of_bits to_bits
-        round add sub
+    round add sub
     mul div lt le record_text node_lines node_line indices_line spaced chars decimal digits hex hex_digit
 printed = (refl, refl)
 
@@ -120,7 +120,7 @@ unfolding show_text leaves_text order_text tree_text cause_text input_words le_a
     size_conditions
     structure_conditions slices_fit
     record_size level_of record_of nodes_of output_positions index_list_of record_text node_lines indices_line spaced numbered_line chars decimal
-        digits
+    digits
 printed_else = (refl, refl, refl, refl, refl, refl)
 
 pub further : Further

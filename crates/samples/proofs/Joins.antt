@@ -20,7 +20,7 @@ pub joins : JoinSamples
 unfolding join_of join_by join_tests tree_tests edge_to_spare tree_or_none size_tests room_for under_root moved_node moved_link in_turn is_tree
     each_once
     is_whole is_position is_inside read_link box_at link_of depth labels positions first_cause accepted_box in_order union_of bounded_vec in_bounds
-        unsigned_zero
+    unsigned_zero
     max_of min_of splice upto count same all_below round neg of_bits to_bits lt le eq is_nan
 joins = record {
   twice = refl;

@@ -35,13 +35,13 @@ pub losses : LossSamples
 unfolding loss_of loss_walked losses_fit all_there report_of report_by report_conditions walk_conditions walks_by is_summed totals_in ray_in
     rays_accepted
     all_below sum sum_over count same upto splice entry_conditions record_conditions first_cause entered walked any_hit_at query_at query_words
-        step_words
+    step_words
     advance_words report_words visit_words pop_words ray_of unsigned_vec plain_vec unsigned_zero is_minus_zero octant_of hit_mask slot_hit hit_bits
-        or_of passes
+    or_of passes
     near_of far_of max_of min_of plane_at adjusted_inverse adjusted_origin near_limit scale_of node_from le_at sum_of slot_from slot_offset
-        node_rule head_ok
+    node_rule head_ok
     children_ok slots_ok slot_ok leaf_top point_ok exponent_ok in_bounds ones_below field child_index top_of pushed count_leading_zeros safe_inverse
-        bounded_vec
+    bounded_vec
     accepted_ray vec_in round neg of_bits of_int add sub mul div lt le eq is_nan
 losses = record {
   both = refl;

@@ -33,13 +33,13 @@ pub minus_zeros : MinusZeros
 unfolding any_hit_of list_after list_for splice entry_conditions record_conditions first_cause entered walk_of walked fitted any_hit_at query_at
     query_words
     step_bytes step_at step_words advance_words report_words visit_words pop_words started ray_of unsigned_vec plain_vec unsigned_zero is_minus_zero
-        octant_of
+    octant_of
     hit_mask slot_hit hit_bits or_of passes near_of far_of max_of min_of plane_at adjusted_inverse adjusted_origin near_limit scale_of node_from
-        le_at sum_of slot_from
+    le_at sum_of slot_from
     slot_offset node_rule head_ok children_ok slots_ok slot_ok leaf_top point_ok exponent_ok in_bounds ones_below field child_index top_of pushed
-        count_leading_zeros
+    count_leading_zeros
     safe_inverse bounded_vec accepted_ray closest_of closest_walk closest_found miss_of miss_walk miss_found pane_of pane_met counts box_in vec_in
-        accepted_box
+    accepted_box
     in_order entry_distance box_near box_far slab_near slab_far round neg of_bits of_int add sub mul div lt le eq is_nan
 minus_zeros = record {
   turned_z_any_hit = refl;

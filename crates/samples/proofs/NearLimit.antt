@@ -46,11 +46,11 @@ any_hits :
 unfolding any_hit_of list_after list_for splice entry_conditions record_conditions first_cause entered walk_of walked fitted any_hit_at query_at
     query_words
     step_words advance_words report_words visit_words pop_words ray_of unsigned_vec plain_vec unsigned_zero is_minus_zero octant_of hit_mask
-        slot_hit hit_bits or_of
+    slot_hit hit_bits or_of
     passes near_of far_of max_of min_of plane_at adjusted_inverse adjusted_origin least_limit near_limit scale_of node_from le_at sum_of slot_from
-        slot_offset
+    slot_offset
     node_rule head_ok children_ok slots_ok slot_ok leaf_top point_ok exponent_ok in_bounds ones_below field child_index top_of pushed
-        count_leading_zeros safe_inverse
+    count_leading_zeros safe_inverse
     bounded_vec accepted_ray round of_bits of_int add sub mul div lt le eq is_nan
 any_hits = (refl, refl, refl, refl, refl, refl, refl)
 
@@ -63,13 +63,13 @@ closest :
 unfolding closest_of closest_walk closest_found walked entered entry_conditions record_conditions first_cause pane_of pane_met counts box_in vec_in
     query_at
     query_words step_words advance_words report_words visit_words pop_words ray_of unsigned_vec plain_vec is_minus_zero octant_of hit_mask slot_hit
-        hit_bits or_of
+    hit_bits or_of
     passes near_of far_of max_of min_of plane_at adjusted_inverse adjusted_origin least_limit near_limit scale_of node_from le_at sum_of slot_from
-        slot_offset
+    slot_offset
     node_rule head_ok children_ok slots_ok slot_ok leaf_top point_ok exponent_ok in_bounds ones_below field child_index top_of pushed
-        count_leading_zeros safe_inverse
+    count_leading_zeros safe_inverse
     bounded_vec accepted_ray accepted_box in_order entry_distance box_near box_far slab_near slab_far unsigned_zero round of_bits of_int add sub mul
-        div lt le eq
+    div lt le eq
     is_nan
 closest = (refl, refl, refl, refl, refl)
 
@@ -82,13 +82,13 @@ closest_at_three_halves : closest_of bytes_t indices_t panes_t (within_a (number
 unfolding closest_of closest_walk closest_found walked entered entry_conditions record_conditions first_cause pane_of pane_met counts box_in vec_in
     query_at
     query_words step_words advance_words report_words visit_words pop_words ray_of unsigned_vec plain_vec is_minus_zero octant_of hit_mask slot_hit
-        hit_bits or_of
+    hit_bits or_of
     passes near_of far_of max_of min_of plane_at adjusted_inverse adjusted_origin least_limit near_limit scale_of node_from le_at sum_of slot_from
-        slot_offset
+    slot_offset
     node_rule head_ok children_ok slots_ok slot_ok leaf_top point_ok exponent_ok in_bounds ones_below field child_index top_of pushed
-        count_leading_zeros safe_inverse
+    count_leading_zeros safe_inverse
     bounded_vec accepted_ray accepted_box in_order entry_distance box_near box_far slab_near slab_far unsigned_zero round of_bits of_int add sub mul
-        div lt le eq
+    div lt le eq
     is_nan
 closest_at_three_halves = refl
 
@@ -98,17 +98,19 @@ closest_within :
 unfolding closest_of closest_walk closest_found walked entered entry_conditions record_conditions first_cause pane_of pane_met counts box_in vec_in
     query_at
     query_words step_words advance_words report_words visit_words pop_words ray_of unsigned_vec plain_vec is_minus_zero octant_of hit_mask slot_hit
-        hit_bits or_of
+    hit_bits or_of
     passes near_of far_of max_of min_of plane_at adjusted_inverse adjusted_origin least_limit near_limit scale_of node_from le_at sum_of slot_from
-        slot_offset
+    slot_offset
     node_rule head_ok children_ok slots_ok slot_ok leaf_top point_ok exponent_ok in_bounds ones_below field child_index top_of pushed
-        count_leading_zeros safe_inverse
+    count_leading_zeros safe_inverse
     bounded_vec accepted_ray accepted_box in_order entry_distance box_near box_far slab_near slab_far unsigned_zero round of_bits of_int add sub mul
-        div lt le eq
+    div lt le eq
     is_nan
-closest_within =
-    (subst (λ (d : Float). closest_of bytes_t indices_t panes_t (within_a (number 0)) ≡ closest_is (hit_at 1 d) 1) three_halves
-        closest_at_three_halves, refl)
+closest_within = (
+  subst (λ (d : Float). closest_of bytes_t indices_t panes_t (within_a (number 0)) ≡ closest_is (hit_at 1 d) 1) three_halves
+      closest_at_three_halves,
+  refl,
+)
 
 miss :
     (miss_of bytes_t indices_t panes_t (ahead_from (number 3)) ≡ miss_is blocked 1)
@@ -117,13 +119,13 @@ miss :
 unfolding miss_of miss_walk miss_found walked entered entry_conditions record_conditions first_cause pane_of pane_met counts box_in vec_in query_at
     query_words
     step_words advance_words report_words visit_words pop_words ray_of unsigned_vec plain_vec is_minus_zero octant_of hit_mask slot_hit hit_bits
-        or_of passes near_of
+    or_of passes near_of
     far_of max_of min_of plane_at adjusted_inverse adjusted_origin least_limit near_limit scale_of node_from le_at sum_of slot_from slot_offset
-        node_rule head_ok
+    node_rule head_ok
     children_ok slots_ok slot_ok leaf_top point_ok exponent_ok in_bounds ones_below field child_index top_of pushed count_leading_zeros safe_inverse
-        bounded_vec
+    bounded_vec
     accepted_ray accepted_box in_order entry_distance box_near box_far slab_near slab_far unsigned_zero round of_bits of_int add sub mul div lt le
-        eq is_nan
+    eq is_nan
 miss = (refl, refl, refl)
 
 told :

@@ -56,7 +56,7 @@ unfolding record_of link_of box_at read_link box_of positions table decision bes
     gathered_order
     partner
     of_bits of_int add sub mul lt record_bytes joined_below layout_entry node_of grid_box grid_boxes metas inner_mask node_bytes head_bytes
-        put_slots put_slot
+    put_slots put_slot
     slot_offset
     child_min child_max clamped_byte on_grid reciprocal_of scale_of exponent_of extent_scale next_power max_of to_bits round div le
 record_of_T = refl
@@ -76,9 +76,9 @@ unfolding record_of link_of box_at read_link box_of positions table decision bes
     gathered_order
     partner
     of_bits of_int add sub mul lt cost_table direction_cost dot_of direction_of sign_of center_of assigned least_pair open_pairs pairs row_pairs
-        keep some
+    keep some
     record_bytes joined_below layout_entry node_of grid_box grid_boxes metas inner_mask node_bytes head_bytes put_slots put_slot slot_offset
-        child_min child_max
+    child_min child_max
     clamped_byte
     on_grid reciprocal_of scale_of exponent_of extent_scale next_power max_of to_bits round div le
 ordered_T = refl
@@ -97,9 +97,9 @@ unfolding convert_sample conversion_of outcome_for conversion_conditions answer_
     size_conditions
     structure_conditions
     is_inside is_position is_whole each_once is_tree same count labels all_below in_bounds bounded_vec accepted_box aabb.in_order le link_of box_at
-        read_link
+    read_link
     box_of positions table decision best_of leaves half_area wide_of slots_from wide_children slots_of gathered_order partner of_bits of_int add sub
-        mul lt
+    mul lt
 limit_3 = refl
 
 limit_4 : convert_sample words_t indices_t 4 ≡ refused 3
@@ -147,11 +147,11 @@ any_hits :
 unfolding any_hit_of list_after list_for splice entry_conditions record_conditions first_cause entered walk_of walked fitted any_hit_at query_at
     query_words
     step_words advance_words report_words visit_words pop_words ray_of unsigned_vec plain_vec unsigned_zero is_minus_zero octant_of hit_mask
-        slot_hit hit_bits or_of
+    slot_hit hit_bits or_of
     passes near_of far_of max_of min_of plane_at adjusted_inverse adjusted_origin near_limit scale_of node_from le_at sum_of slot_from slot_offset
-        node_rule head_ok
+    node_rule head_ok
     children_ok slots_ok slot_ok leaf_top point_ok exponent_ok in_bounds ones_below field child_index top_of pushed count_leading_zeros safe_inverse
-        bounded_vec
+    bounded_vec
     accepted_ray round of_bits of_int add sub mul div lt le eq is_nan
 any_hits = (refl, refl, refl, refl, refl)
 
@@ -162,13 +162,13 @@ closest :
 unfolding closest_of closest_walk closest_found walked entered entry_conditions record_conditions first_cause pane_of pane_met counts box_in vec_in
     query_at
     query_words step_words advance_words report_words visit_words pop_words ray_of unsigned_vec plain_vec is_minus_zero octant_of hit_mask slot_hit
-        hit_bits or_of
+    hit_bits or_of
     passes near_of far_of max_of min_of plane_at adjusted_inverse adjusted_origin near_limit scale_of node_from le_at sum_of slot_from slot_offset
-        node_rule head_ok
+    node_rule head_ok
     children_ok slots_ok slot_ok leaf_top point_ok exponent_ok in_bounds ones_below field child_index top_of pushed count_leading_zeros safe_inverse
-        bounded_vec
+    bounded_vec
     accepted_ray accepted_box aabb.in_order aabb.entry_distance aabb.box_near aabb.box_far aabb.slab_near aabb.slab_far unsigned_zero round of_bits
-        of_int add
+    of_int add
     sub mul div lt le eq is_nan
 closest = (refl, refl, refl)
 

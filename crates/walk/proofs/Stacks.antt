@@ -39,7 +39,7 @@ abbrev pub due_words : ℕ → List ℕ → ℕ → Due
 due_words octant stack zero = nothing
 due_words octant stack (suc d) =
     test (first_child octant (unpacked (top_of stack (suc d)))) (children_in octant (rest_of (unpacked (top_of stack (suc d)))))
-        (groups_in octant stack d)
+    (groups_in octant stack d)
 
 pub due_stack : (octant : ℕ) (stack : List ℕ) (d : ℕ) → octant < 8 → ((i : ℕ) → get_or stack i 0 < 2 ^ 64)
     → due_on_stack (groups_in octant stack d) ≡ due_words octant stack (waiting_depth stack d)

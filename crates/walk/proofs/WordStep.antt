@@ -318,7 +318,7 @@ module _ {RayData Distance : Type 0} (m : ℕ) (N : NodeWords RayData Distance) 
   unfolding step_words step_of
   step_decoded n w i =
       cond_same (decoded_step N) (sizes_fit m n) (sizes_fit m n) (cond (forged_words m N w) (stay_words w (refused 10)) goes_on_lem)
-          (stay_words w (refused 2))
+      (stay_words w (refused 2))
       (cond (forged_walker m T (decoded N w)) (stay (decoded N w) (refused 10)) goes_on_lists) (stay (decoded N w) (refused 2)) refl
       (λ _. cond_same (decoded_step N) (forged_words m N w) (forged_walker m T (decoded N w)) (stay_words w (refused 10)) goes_on_lem
       (stay (decoded N w) (refused 10)) goes_on_lists (same_forged w) (λ _. refl) (λ a. unforged_decoded n w i a))

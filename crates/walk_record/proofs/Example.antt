@@ -100,7 +100,7 @@ pub record Examples : Type 0 where
   -- position 1 is not there: the step is refused, and so is the next, 2 being passed over again
   pub absent_refused :
       (run_at three (with_positions (λ p. not (eqb p 2)) (λ p. eqb p 1)) (step 4 ∷ step 4 ∷ step 4 ∷ step 4 ∷ step 4 ∷ [])
-          (fresh_words along)).answers
+      (fresh_words along)).answers
       ≡ tested 0 ∷ position 0 ∷ tested 1 ∷ refused 10 ∷ refused 10 ∷ []
   -- a walker with another octant than its ray's is forged
   pub forged : (run_at three by_boxes (step 4 ∷ []) (fresh_words (record { ray = along.ray; octant = 3 }))).answers ≡ refused 10 ∷ []
@@ -109,9 +109,9 @@ pub examples : Examples
 unfolding any_hit_at query_at run_at query_words run_words step_words advance_words report_words visit_words pop_words ray_of counts octant_of
     hit_mask slot_hit
     hit_bits or_of passes near_of far_of max_of min_of plane_at adjusted_inverse adjusted_origin near_limit scale_of node_from le_at sum_of
-        slot_from slot_offset
+    slot_from slot_offset
     node_rule head_ok children_ok slots_ok slot_ok leaf_top point_ok exponent_ok in_bounds ones_below field child_index top_of pushed
-        count_leading_zeros safe_inverse
+    count_leading_zeros safe_inverse
     bounded_vec accepted_ray unsigned_vec plain_vec unsigned_zero is_minus_zero round of_bits of_int add sub mul div lt le eq is_nan
 examples = record {
   octant_7 = refl;

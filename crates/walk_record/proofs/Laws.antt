@@ -111,7 +111,7 @@ module _ {RayData Distance : Type 0} (N : Nodes) (R : Rays RayData Distance) (la
           let j = q.0 in
           let c = leaf_counts (bit j) (meta j) q.1.outer in
           let g = in_range_lem (base + b) (base + meta j % 32) (slot_positions (bit j) (meta j)) (omega (arith, q.1.from))
-                  (omega (arith, q.1.upto)) in
+          (omega (arith, q.1.upto)) in
           (j, q.1.slot, (g, q.1.passed))
 
       from : PassedSlot (slots_in N R n) r v (base + b) → field 1 b (mask_in N R r v) ≡ 1

@@ -80,7 +80,7 @@ module _ (node : ℕ → Entry) where
         (linked_below u u (l + 1) i 0 c (c + inner_children u) c (q + own_count u) (omega arith) (omega arith) (above b u l p k i c q h.0)
         (from_start u c) (each_left (λ e. node e.number ≡ e) first last h.1))
         (linked_below s t l p (k + 1) (i + 1) (c + (inner_children u + nodes_below u)) d (q + (own_count u + count_below u)) (omega arith)
-            (omega arith) a
+        (omega arith) a
         (from_next (inner b u s) s t k i (i + 1) d 1 refl (λ j. refl) (λ j. omega arith) f)
         (each_right (λ e. node e.number ≡ e) first last h.1)),
   )
