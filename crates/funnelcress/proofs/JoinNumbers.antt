@@ -1,12 +1,11 @@
 -- The numbers of a join's answers, case by case; that every answer fits its number, on any words; and that no two answers share one.
-use mathlib.Core.List.{List, ◌++◌}
+use mathlib.Core.List.{List}
 use mathlib.Core.Logic.{◌⊎◌, inl, inr}
 use mathlib.Core.Path.{◌≡◌, refl, ap, ◌∙◌}
 use Prim.Native.Nat.{ℕ, zero, suc, ◌+◌, ◌≤◌}
 use native.Mathlib.Omega.{arith}
 use lib.Dec.{T, leb, leb→le}
 use borrow.Author.Tests.{leb-true}
-use Rattle.causes.specs.Causes.{first_cause}
 use Rattle.causes.proofs.Causes.{Passed, sorted, none_passed, all_numbers, first_among}
 use Rattle.join.specs.declared.Joining.{Joining}
 use Rattle.join.specs.declared.Joining.TheVariants.{Joined, Refused}

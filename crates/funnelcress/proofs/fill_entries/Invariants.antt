@@ -1,0 +1,12 @@
+-- After i turns the first i places are filled. The measure is what is left of the count.
+use Prim.Native.Nat.{◌≤◌, ◌-◌}
+use Rattle.aabb.specs.Aabb.{entry_distance}
+use Rattle.packed.specs.Packed.{box_in}
+use Rattle.funnelcress.proofs.Filled.{Filling}
+use Rattle.funnelcress.proofs.fill_entries.Given as goal
+
+abbrev pub invariant-loop-i : goal.invariant-loop-i
+invariant-loop-i l = (l.i ≤ l.count) × Filling (λ k. entry_distance (box_in l.boxes k) l.r) l.i l.initial.out l.out
+
+abbrev pub decreases-loop-i : goal.decreases-loop-i
+decreases-loop-i l = l.count - l.i
