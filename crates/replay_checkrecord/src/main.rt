@@ -1,24 +1,28 @@
-// Runs what checkrecord does, from a descriptor to a line, on files that hold the stored inputs, and compares each line with the stored one. Inputs
-// longer
-// than any record are stored by their length. Its argument names a file of answers; how these are made and laid out is said in oracle/README.md.
+// Runs what checkrecord does, from a reader to a line, on files that hold the stored inputs, and compares each line with the stored one. Inputs that
+// are longer than any record are stored by their length. Its argument names a file of answers; how these are made and laid out is said in
+// oracle/README.md.
 #![tactic(auto)]
 
 mod inputs;
 
+use std::env::Env;
+use std::fs::Files;
+use std::io;
+
 // Runs the file that the first argument names.
-fn run() -> bool {
-    let mut space = io::large_buffer();
+fn run<R: Files + Env + Print + AllocGlobal>(rt: &R) -> io::Result<bool> {
+    let mut space = [0u8; stored::CASE_BYTES];
     let buffer: &mut [u8] = &mut space;
-    let file = inputs::open();
-    let mut at = stored::open(1);
+    let mut input = inputs::open(rt)?;
+    let (mut file, mut at) = stored::open(rt, 1)?;
     while at.turns > 0 {
-        let length = stored::read_case(at, buffer);
-        let agrees = inputs::agrees(at.kind, &buffer[..length], file);
-        at = stored::next(at, length, agrees);
+        let length = stored::read_case(&mut file, at, buffer)?;
+        let agrees = inputs::agrees(at.kind, &buffer[..length], &mut input)?;
+        at = stored::next(rt, &mut file, at, length, agrees)?;
     }
-    at.all
+    Ok(at.all)
 }
 
-fn main() {
-    stored::print_verdict(run());
+fn main(rt: HostRuntime) -> io::Result<()> {
+    stored::print_verdict(&rt, run(&rt)?)
 }
