@@ -1,4 +1,4 @@
-/* Funnelcress for C: a proved box-tree converter and ray walker. Link libfunnelcress.a (`rt lib` in crates/funnelcress, x86-64
+/* Funnelcress for C: a proved box-tree converter and ray walker. Link libfunnelcress.a (`rt lib` in crates/funnelcress, x86-64-v2
  * Linux); nothing else is needed.
  *
  * For every function:
