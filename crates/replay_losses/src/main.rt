@@ -7,6 +7,10 @@ mod lent;
 mod reports;
 mod single;
 
+use std::env::Env;
+use std::fs::Files;
+use std::io;
+
 // Whether the library agrees with a case.
 fn agrees(kind: u32, case: &[u8]) -> bool {
     match kind {
@@ -17,18 +21,18 @@ fn agrees(kind: u32, case: &[u8]) -> bool {
 }
 
 // Runs the file that the first argument names.
-fn run() -> bool {
-    let mut space = io::large_buffer();
+fn run<R: Files + Env + Print + AllocGlobal>(rt: &R) -> io::Result<bool> {
+    let mut space = [0u8; stored::CASE_BYTES];
     let buffer: &mut [u8] = &mut space;
-    let mut at = stored::open(1);
+    let (mut file, mut at) = stored::open(rt, 1)?;
     while at.turns > 0 {
-        let length = stored::read_case(at, buffer);
+        let length = stored::read_case(&mut file, at, buffer)?;
         let same = agrees(at.kind, &buffer[..length]);
-        at = stored::next(at, length, same);
+        at = stored::next(rt, &mut file, at, length, same)?;
     }
-    at.all
+    Ok(at.all)
 }
 
-fn main() {
-    stored::print_verdict(run());
+fn main(rt: HostRuntime) -> io::Result<()> {
+    stored::print_verdict(&rt, run(&rt)?)
 }
