@@ -7,6 +7,10 @@ mod lent;
 mod shown;
 mod trees;
 
+use std::env::Env;
+use std::fs::Files;
+use std::io;
+
 // Whether the library agrees with a case.
 fn agrees(kind: u32, case: &[u8]) -> bool {
     match kind {
@@ -19,20 +23,20 @@ fn agrees(kind: u32, case: &[u8]) -> bool {
 }
 
 // Runs the file that argument i names.
-fn run(i: usize) -> bool {
-    let mut space = io::large_buffer();
+fn run<R: Files + Env + Print + AllocGlobal>(rt: &R, i: usize) -> io::Result<bool> {
+    let mut space = [0u8; stored::CASE_BYTES];
     let buffer: &mut [u8] = &mut space;
-    let mut at = stored::open(i);
+    let (mut file, mut at) = stored::open(rt, i)?;
     while at.turns > 0 {
-        let length = stored::read_case(at, buffer);
+        let length = stored::read_case(&mut file, at, buffer)?;
         let same = agrees(at.kind, &buffer[..length]);
-        at = stored::next(at, length, same);
+        at = stored::next(rt, &mut file, at, length, same)?;
     }
-    at.all
+    Ok(at.all)
 }
 
-fn main() {
-    let converted = run(1);
-    let shown = run(2);
-    stored::print_verdict(converted && shown);
+fn main(rt: HostRuntime) -> io::Result<()> {
+    let converted = run(&rt, 1)?;
+    let shown = run(&rt, 2)?;
+    stored::print_verdict(&rt, converted && shown)
 }
