@@ -61,7 +61,8 @@ behind : (input : List ℕ) → take (length input - 4) (drop 4 input) ≡ drop 
 behind input = rw (← length-drop 4 input) (take-length (drop 4 input))
 
 pub wrote_checked : (input : List ℕ) (n words r : ℕ) (s t : List ℕ) (v : Validity) → 4 ≤ length input → n ≡ le_at 4 input 0 → all_words ≤ words
-    → verdict_of v ≡ check_of (take (length input - 4) (drop 4 input)) n words → Wrote s (answer_text (verdict_of v)) r t → Wrote s (check_text input) r t
+    → verdict_of v ≡ check_of (take (length input - 4) (drop 4 input)) n words → Wrote s (answer_text (verdict_of v)) r t
+    → Wrote s (check_text input) r t
 unfolding check_text answer_at check_of
 wrote_checked input n words r s t v l e w a h = go (ltb (length input) 4) (ltb_tells (length input) 4)
   where

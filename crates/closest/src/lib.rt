@@ -5,7 +5,8 @@ ghost use Rattle.std.specs.Prelude.{◌≡◌, false, length};
 ghost use Rattle.ray.specs.Ray.{ray_of};
 ghost use Rattle.walk_record.specs.WalkRay.{walk_ray, forged_ray};
 ghost use Rattle.query.specs.Walk.{RecordSized};
-ghost use Rattle.closest.specs.Panes.{pane_met, position_met, pane_of_met, closest_walked, miss_walked, closest_of, miss_of, closest_result, miss_result};
+ghost use Rattle.closest.specs.Panes.{pane_met, position_met, pane_of_met, closest_walked, miss_walked};
+ghost use Rattle.closest.specs.Panes.{closest_of, miss_of, closest_result, miss_result};
 
 use advance::{Answer, Walk};
 use ray::{Ray, Vec3};
