@@ -1,6 +1,6 @@
 // Runs the conversion on stored binary trees and compares what it answers, and what it leaves in every slice, with what is stored, bit by bit; and
-// likewise
-// what showrecord prints for stored inputs. Its arguments name two files of answers; how these are made and laid out is said in oracle/README.md.
+// likewise what showrecord prints for stored inputs. Its arguments name two files of answers; how these are made and laid out is said in
+// oracle/README.md.
 #![tactic(auto)]
 
 mod lent;
