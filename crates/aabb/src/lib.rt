@@ -107,7 +107,8 @@ impl Aabb {
         let near = self.near(ray);
         let far = self.far(ray);
         if far >= near {
-            if far >= 0.0 {
+            let ahead = far >= 0.0;
+            if ahead {
                 return float::unsigned_zero(near);
             }
         }

@@ -124,7 +124,8 @@ pub fn due_group(current: Group, depth: u32, stack: &[u64]) -> Due
     requires { (depth ≤ capacity) × (capacity ≤ length stack.now) }
     ensures { due_in result ≡ due_group (group_of current) stack.now depth }
 {
-    if current.bits >= CHILDREN {
+    let untested = current.bits >= CHILDREN;
+    if untested {
         return Due {
             group: current,
             depth,

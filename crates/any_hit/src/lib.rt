@@ -149,7 +149,8 @@ fn deliver(found: &[u32], count: u32, tests: u32, list: &mut [u32]) -> AnyHitFou
     ensures result_value { result_of result ≡ fitted count tests (length list.old) }
     ensures list_after { list.new ≡ list_fitted count tests (take count found.now) list.old }
 {
-    if count as usize > list.len() {
+    let short = count as usize > list.len();
+    if short {
         let answer = AnyHit::Short(count);
         return AnyHitFound { answer, tests: 0 };
     }

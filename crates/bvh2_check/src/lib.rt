@@ -93,7 +93,8 @@ fn visit(words: &[u32], marks: &mut [u32], n: usize, node: usize, depth: u32) ->
     let link = bvh2::link_word(words, node);
     if words::kind(link) != 0 {
         let place = 2 * n - 1 + words::below_kind(link) as usize;
-        if marks[place] != 0 {
+        let met = marks[place] != 0;
+        if met {
             return false;
         }
         marks[place] = 1;

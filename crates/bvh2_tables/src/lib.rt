@@ -95,7 +95,8 @@ pub fn prepare(
     if size != 0 {
         return size;
     }
-    if 3 < limit {
+    let over = 3 < limit;
+    if over {
         return 3;
     }
     let room = has_room(n, decisions.len(), costs.len(), bytes, list);

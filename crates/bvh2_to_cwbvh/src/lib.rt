@@ -42,11 +42,13 @@ pub fn bvh2_to_cwbvh(
     if cause != 0 {
         return Conversion::Refused(cause);
     }
-    if n == 0 {
+    let empty = n == 0;
+    if empty {
         return Conversion::Converted(0, 0);
     }
     let deepest = wide_level::deepest_level(words, decisions);
-    if deepest > 31 {
+    let deep = deepest > 31;
+    if deep {
         let k = (2 * n - 1) * 7;
         words::clear(&mut decisions[..k]);
         bvh2_tables::clear_costs(costs, k);

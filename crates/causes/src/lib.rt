@@ -14,7 +14,8 @@ pub fn record_cause(bytes: usize, n: usize) -> u32
     if n > 65536 {
         return 2;
     }
-    if bytes / 80 > 65535 {
+    let long = bytes / 80 > 65535;
+    if long {
         return 2;
     }
     0

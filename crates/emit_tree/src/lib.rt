@@ -55,7 +55,8 @@ pub fn slots_of(words: &[u32], decisions: &[u32], v: usize, depth: u32, ordered:
 {
     let mut found = [0xffff_ffffu32; 8];
     let count = children::get_children(words, decisions, v, depth, &mut found);
-    if !ordered {
+    let gathered = !ordered;
+    if gathered {
         return found;
     }
     let parent = bvh2::node_box(words, v);

@@ -22,7 +22,8 @@ pub fn top(stack: &[u64], depth: usize) -> u64
     ensures { result ≡ top_of stack.now depth }
 {
     if 0 < depth {
-        if depth <= 32 {
+        let held = depth <= 32;
+        if held {
             return stack[depth - 1];
         }
     }

@@ -255,7 +255,8 @@ fn short_cause(cause: u32) -> u32
     if cause == 0 {
         return 4;
     }
-    if cause < 4 {
+    let sooner = cause < 4;
+    if sooner {
         return cause;
     }
     4

@@ -25,7 +25,8 @@ pub extern "C" fn funnelcress_begin(ray: &[f32], head: &mut [u64; 18], stack: &m
     ensures leaves { Leaves (not (eqb (begin_cause ray.now) 0)) (held head.old stack.old)
         (held head.new stack.new) (started (ray_in ray.now 0)).walker }
 {
-    if ray.len() != 8 {
+    let odd = ray.len() != 8;
+    if odd {
         return super::refusal_number(1);
     }
     let r = packed::ray_at(ray, 0);

@@ -38,7 +38,8 @@ fn lesser(a: u32, b: u32) -> u32
     if b == 0 {
         return a;
     }
-    if b < a {
+    let second = b < a;
+    if second {
         return b;
     }
     a
@@ -91,7 +92,8 @@ fn size_cause(
     if cause != 0 {
         return cause;
     }
-    if n + m > bvh2::MAX_LEAVES {
+    let many = n + m > bvh2::MAX_LEAVES;
+    if many {
         return 2;
     }
     if !has_room(n, m, marks, words, indices) {

@@ -102,7 +102,8 @@ fn walk_losses(
             let held = walk.positions;
             let p = advance::first_position(held);
             let k = pane_at(indices, panes, p);
-            if k >= panes {
+            let absent = k >= panes;
+            if absent {
                 return RayLoss::Refused(10);
             }
             let taken = losses[k] as u64;

@@ -18,7 +18,8 @@ pub fn entry_cause(fits: bool, bytes: usize, n: usize, between: u32, ray: Ray) -
     if sizes != 0 {
         return sizes;
     }
-    if between != 0 {
+    let own = between != 0;
+    if own {
         return between;
     }
     if !ray.accepted() {

@@ -27,11 +27,8 @@ pub fn safe_inverse(v: f32) -> f32
     ensures { result ≡ safe_inverse v }
 {
     if -1.1920928955078125e-7 <= v && v <= 1.1920928955078125e-7 {
-        if f32::to_bits(v) >= 0x8000_0000 {
-            -8388608.0
-        } else {
-            8388608.0
-        }
+        let negative = f32::to_bits(v) >= 0x8000_0000;
+        if negative { -8388608.0 } else { 8388608.0 }
     } else {
         1.0 / v
     }
@@ -113,7 +110,8 @@ impl Ray {
     pub fn counts(self, distance: f32) -> bool
         ensures { result ≡ counts self distance }
     {
-        if distance < self.tmin {
+        let early = distance < self.tmin;
+        if early {
             return false;
         }
         distance < self.tmax

@@ -198,7 +198,8 @@ impl Walker {
     {
         let ray = Ray::new(origin, direction, tmin, tmax);
         let stack = [0u64; 32];
-        if ray.accepted() {
+        let accepted = ray.accepted();
+        if accepted {
             let walker = Walker {
                 ray,
                 octant: ray::octant(ray.direction),

@@ -24,7 +24,8 @@ fn fill(work: &mut [u32], a: usize, k: usize, v: u32) -> bool
 {
     let mut j: usize = 0;
     while j < k {
-        if work[a + j] != 0 {
+        let marked = work[a + j] != 0;
+        if marked {
             return false;
         }
         work[a + j] = v;

@@ -186,7 +186,8 @@ pub fn begin(
 {
     let started = Walker::new(origin, direction, tmin, tmax);
     let number = started.refused;
-    if number != 0 {
+    let refused = number != 0;
+    if refused {
         return number;
     }
     let walker = started.walker;
@@ -214,7 +215,8 @@ pub fn step(s: &mut [u64; 18], t: &mut [u64; 32], record: &[u8], n: usize) -> An
 {
     let stepped = walker_in(s, t).step(record, n);
     let answer = stepped.answer;
-    if is_refused(answer) {
+    let refused = is_refused(answer);
+    if refused {
         return answer;
     }
     let walker = stepped.walker;

@@ -4,11 +4,11 @@ use Rattle.any_hit.specs.AnyHit.{AnyHitAnswer, any_hit_answer, list_for}
 use Rattle.any_hit.proofs.Answers.{fits, lacks}
 use Rattle.any_hit.proofs.deliver.Goals as goal
 
-pub returns-then-count-list : goal.returns-then-count-list
+pub returns-then-short : goal.returns-then-short
 unfolding any_hit_answer list_for
-returns-then-count-list c =
+returns-then-short c =
     let a = c.args in
-    let e = lacks a.count a.tests _ c.if-count-list.true in
+    let e = lacks a.count a.tests _ c.if-short.true in
     record {
       result_value = e;
       list_after = ap (λ (x : Result AnyHitAnswer). list_for x.answer (take a.count a.found.now) a.list.now) e;
@@ -18,7 +18,7 @@ pub returns : goal.returns
 unfolding any_hit_answer list_for
 returns c =
     let a = c.args in
-    let e = fits a.count a.tests _ c.if-count-list.false in
+    let e = fits a.count a.tests _ c.if-short.false in
     record {
       result_value = e;
       list_after = c.copy.ensures ∙ ap (λ (x : Result AnyHitAnswer). list_for x.answer (take a.count a.found.now) a.list.now) e;

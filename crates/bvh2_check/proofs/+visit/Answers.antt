@@ -21,10 +21,10 @@ bounds-marks-place t c =
     let g = leaf_of t (goal.at.bounds-marks-place t c).After-below_kind in
     simp length-set (omega arith)
 
-pub returns-then-marks-place-ne0 : goal.returns-then-marks-place-ne0
-returns-then-marks-place-ne0 t c =
-    let g = leaf_of t (goal.at.returns-then-marks-place-ne0 t c).After-below_kind in
-    held_before _ _ _ _ _ c.if-marks-node-ne0.false _ _ g.tree g.ends c.if-marks-place-ne0.true
+pub returns-then-met : goal.returns-then-met
+returns-then-met t c =
+    let g = leaf_of t (goal.at.returns-then-met t c).After-below_kind in
+    held_before _ _ _ _ _ c.if-marks-node-ne0.false _ _ g.tree g.ends c.if-met.true
 
 pub bounds-marks-place-then-kind-ne0 : goal.bounds-marks-place-then-kind-ne0
 bounds-marks-place-then-kind-ne0 t c =
@@ -34,7 +34,7 @@ bounds-marks-place-then-kind-ne0 t c =
 pub returns-then-kind-ne0 : goal.returns-then-kind-ne0
 returns-then-kind-ne0 t c =
     let g = leaf_of t (goal.at.returns-then-kind-ne0 t c).After-below_kind in
-    held_now _ _ _ _ _ c.if-marks-node-ne0.false _ _ g.tree g.ends c.if-marks-place-ne0.false
+    held_now _ _ _ _ _ c.if-marks-node-ne0.false _ _ g.tree g.ends c.if-met.false
 
 pub returns-then-depth-eq0 : goal.returns-then-depth-eq0
 returns-then-depth-eq0 t c =

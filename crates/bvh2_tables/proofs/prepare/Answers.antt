@@ -19,12 +19,12 @@ returns-then-size-ne0 c =
     let kept = both_kept s.limit s.words.now s.n c.sizes-size.result _ _ (omega arith) (omega arith) in
     record { value = cause_size s.words.now s.n s.limit _ c.sizes-size.result e h; decisions_after = kept.0; costs_after = kept.1 }
 
-pub returns-then-limit-gt3 : goal.returns-then-limit-gt3
-returns-then-limit-gt3 c =
+pub returns-then-over : goal.returns-then-over
+returns-then-over c =
     let s = c.args in
     let kept = both_kept s.limit s.words.now s.n 3 _ _ (omega arith) (omega arith) in
     record {
-      value = cause_limit s.words.now s.n s.limit _ (sym c.sizes-size.ensures ∙ c.if-size-ne0.false) c.if-limit-gt3.true;
+      value = cause_limit s.words.now s.n s.limit _ (sym c.sizes-size.ensures ∙ c.if-size-ne0.false) c.if-over.true;
       decisions_after = kept.0;
       costs_after = kept.1;
     }
@@ -41,7 +41,7 @@ returns-then-not-room c =
     let room = sym c.has_room-room.ensures ∙ c.if-not-room.true in
     let kept = both_kept s.limit s.words.now s.n 4 _ _ (omega arith) (omega arith) in
     record {
-      value = cause_room s.words.now s.n s.limit _ size c.if-limit-gt3.false room;
+      value = cause_room s.words.now s.n s.limit _ size c.if-over.false room;
       decisions_after = kept.0;
       costs_after = kept.1;
     }
@@ -53,7 +53,7 @@ returns-then-n-eq0 c =
     let size = sym c.sizes-size.ensures ∙ c.if-size-ne0.false in
     let room = sym c.has_room-room.ensures ∙ c.if-not-room.false in
     record {
-      value = nothing s.words.now s.n z ∙ cause_structure s.words.now s.n s.limit _ size c.if-limit-gt3.false room;
+      value = nothing s.words.now s.n z ∙ cause_structure s.words.now s.n s.limit _ size c.if-over.false room;
       decisions_after = work_none 0 (word_of s.limit) s.words.now s.n 0 _ z;
       costs_after = work_none plus_zero (cost_of s.limit) s.words.now s.n 0 _ z;
     }
@@ -71,7 +71,7 @@ returns c =
     let size = sym c.sizes-size.ensures ∙ c.if-size-ne0.false in
     let room = sym c.has_room-room.ensures ∙ c.if-not-room.false in
     record {
-      value = e.value ∙ cause_structure s.words.now s.n s.limit _ size c.if-limit-gt3.false room;
+      value = e.value ∙ cause_structure s.words.now s.n s.limit _ size c.if-over.false room;
       decisions_after = tabled_at (word_of s.limit) 0 s.words.now s.n c.fill_tables.result s.decisions.now _ p e.value e.decisions_after;
       costs_after = tabled_at (cost_of s.limit) plus_zero s.words.now s.n c.fill_tables.result s.costs.now _ p e.value e.costs_after;
     }

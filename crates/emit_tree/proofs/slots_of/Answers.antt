@@ -4,9 +4,9 @@ use Rattle.children.proofs.Steps.{here}
 use Rattle.emit_tree.proofs.Found.{found_few, found_read, found_slots, found_in_order}
 use Rattle.emit_tree.proofs.slots_of.Goals as goal
 
-pub returns-then-not-ordered : goal.returns-then-not-ordered
-returns-then-not-ordered c =
-    λ limit z. found_in_order c.requires c.get_children-count.ensures c.args.ordered c.if-not-ordered.true limit z
+pub returns-then-gathered : goal.returns-then-gathered
+returns-then-gathered c =
+    λ limit z. found_in_order c.requires c.get_children-count.ensures c.args.ordered c.if-gathered.true limit z
 
 pub node_box-parent-requires : goal.node_box-parent-requires
 node_box-parent-requires c = let h = here c.requires in omega arith
@@ -18,5 +18,5 @@ child_boxes-boxes-requires c =
 pub returns : goal.returns
 returns c =
     λ limit z.
-    c.order_children.ensures ∙ found_slots c.requires c.get_children-count.ensures c.args.ordered c.if-not-ordered.false
+    c.order_children.ensures ∙ found_slots c.requires c.get_children-count.ensures c.args.ordered c.if-gathered.false
     c.node_box-parent.result c.child_boxes-boxes.result c.node_box-parent.ensures c.child_boxes-boxes.ensures limit z

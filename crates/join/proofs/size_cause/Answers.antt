@@ -25,20 +25,20 @@ sized c e =
 pub returns-then-cause-ne0 : goal.returns-then-cause-ne0
 returns-then-cause-ne0 c = sizes_found _ _ _ _ _ _ _ _ (found (goal.at.returns-then-cause-ne0 c).After-lesser-cause) c.if-cause-ne0.true
 
-pub overflow_add-n : goal.overflow_add-n
-overflow_add-n c = let z = sized (goal.at.overflow_add-n c).After-lesser-cause c.if-cause-ne0.false in omega (arith, z.0.few, z.1.few)
+pub overflow_add-many : goal.overflow_add-many
+overflow_add-many c = let z = sized (goal.at.overflow_add-many c).After-lesser-cause c.if-cause-ne0.false in omega (arith, z.0.few, z.1.few)
 
-pub returns-then-n-m-gt-MAX_LEAVES : goal.returns-then-n-m-gt-MAX_LEAVES
-returns-then-n-m-gt-MAX_LEAVES c =
-    sizes_many _ _ _ _ _ _ _ _ (found (goal.at.returns-then-n-m-gt-MAX_LEAVES c).After-lesser-cause) c.if-cause-ne0.false
-    c.if-n-m-gt-MAX_LEAVES.true
+pub returns-then-many : goal.returns-then-many
+returns-then-many c =
+    sizes_many _ _ _ _ _ _ _ _ (found (goal.at.returns-then-many c).After-lesser-cause) c.if-cause-ne0.false
+    c.if-many.true
 
 pub returns-then-not-has_room : goal.returns-then-not-has_room
 returns-then-not-has_room c =
     sizes_short _ _ _ _ _ _ _ _ (found (goal.at.returns-then-not-has_room c).After-lesser-cause) c.if-cause-ne0.false
-    c.if-n-m-gt-MAX_LEAVES.false _ c.has_room.ensures c.if-not-has_room.true
+    c.if-many.false _ c.has_room.ensures c.if-not-has_room.true
 
 pub returns : goal.returns
 returns c =
     sizes_pass _ _ _ _ _ _ _ _ (found (goal.at.returns c).After-lesser-cause) c.if-cause-ne0.false
-    c.if-n-m-gt-MAX_LEAVES.false _ c.has_room.ensures c.if-not-has_room.false
+    c.if-many.false _ c.has_room.ensures c.if-not-has_room.false

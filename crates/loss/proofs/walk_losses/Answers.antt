@@ -73,28 +73,28 @@ loop-walk-init c =
 pub loop-walk-2-init : goal.loop-walk-2-init
 loop-walk-2-init c = (omega arith, c.loop-walk.invariant)
 
-pub returns-then-k-panes : goal.returns-then-k-panes
+pub returns-then-absent : goal.returns-then-absent
 unfolding loss_result
-returns-then-k-panes c =
-    let k = (goal.at.returns-then-k-panes c).After-pane_at-k in
+returns-then-absent c =
+    let k = (goal.at.returns-then-absent c).After-pane_at-k in
     record {
       result_value = adding_fault c.requires.0 (fit k) c.loop-walk-2.invariant.1 c.loop-walk-2-test.true c.first_position-p.result
-          c.first_position-p.ensures c.pane_at-k.result c.pane_at-k.ensures c.if-k-panes.true;
+          c.first_position-p.ensures c.pane_at-k.result c.pane_at-k.ensures c.if-absent.true;
       charges = tt;
     }
 
 pub offset_bounds-losses-k : goal.offset_bounds-losses-k
-offset_bounds-losses-k c = let h = has-loss (goal.at.offset_bounds-losses-k c).After-pane_at-k c.if-k-panes.false in search rules
+offset_bounds-losses-k c = let h = has-loss (goal.at.offset_bounds-losses-k c).After-pane_at-k c.if-absent.false in search rules
 
 pub bounds-losses-k : goal.bounds-losses-k
-bounds-losses-k c = has-loss (goal.at.bounds-losses-k c).After-pane_at-k c.if-k-panes.false
+bounds-losses-k c = has-loss (goal.at.bounds-losses-k c).After-pane_at-k c.if-absent.false
 
 pub overflow_cast-taken : goal.overflow_cast-taken
 overflow_cast-taken c = omega (arith, c.type_inv.losses c.pane_at-k.result)
 
 pub overflow_add-sum : goal.overflow_add-sum
 overflow_add-sum c =
-    let h = (next (goal.at.overflow_add-sum c).After-pane_at-k c.if-k-panes.false _ refl _ refl).0 in
+    let h = (next (goal.at.overflow_add-sum c).After-pane_at-k c.if-absent.false _ refl _ refl).0 in
     let a = c.args in
     let m = sum_most a.bytes.now a.indices.now a.panes a.losses.now a.ray h c.requires.1.fitting in
     let z = c.requires.0.nodes in
@@ -107,16 +107,16 @@ charge-requires c =
     let t = totals_most a.bytes.now a.indices.now a.panes a.losses.now a.ray c.loop-walk-2.invariant.1 f c.pane_at-k.result in
     let k = fit_most a.panes a.losses.now f c.pane_at-k.result in
     let z = c.requires.0.nodes in
-    let y = c.requires.1.spare c.pane_at-k.result c.if-k-panes.false in
+    let y = c.requires.1.spare c.pane_at-k.result c.if-absent.false in
     omega (arith, t, k, z, y)
 
 pub loop-walk-2-smaller : goal.loop-walk-2-smaller
 loop-walk-2-smaller c =
-    (next (goal.at.loop-walk-2-smaller c).After-pane_at-k c.if-k-panes.false _ c.rest_of-positions.ensures _ c.charge.ensures).1
+    (next (goal.at.loop-walk-2-smaller c).After-pane_at-k c.if-absent.false _ c.rest_of-positions.ensures _ c.charge.ensures).1
 
 pub loop-walk-2-preserved : goal.loop-walk-2-preserved
 loop-walk-2-preserved c =
-    let g = next (goal.at.loop-walk-2-preserved c).After-pane_at-k c.if-k-panes.false _ c.rest_of-positions.ensures _ c.charge.ensures in
+    let g = next (goal.at.loop-walk-2-preserved c).After-pane_at-k c.if-absent.false _ c.rest_of-positions.ensures _ c.charge.ensures in
     (omega (arith, g.1, c.loop-walk-2.invariant.0), g.0)
 
 pub seek-turn-requires : goal.seek-turn-requires

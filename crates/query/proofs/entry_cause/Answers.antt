@@ -12,22 +12,22 @@ returns-then-sizes-ne0 c =
     let e = c.record_cause-sizes.ensures in
     e ∙ sym (entry_sizes a.fits a.bytes a.n a.between a.ray c.if-not-fits.false (λ z. c.if-sizes-ne0.true (e ∙ z)))
 
-pub returns-then-between-ne0 : goal.returns-then-between-ne0
-returns-then-between-ne0 c =
+pub returns-then-own : goal.returns-then-own
+returns-then-own c =
     let a = c.args in
     let fit = none_record _ _ (sym c.record_cause-sizes.ensures ∙ c.if-sizes-ne0.false) in
-    sym (entry_between a.fits a.bytes a.n a.between a.ray c.if-not-fits.false fit c.if-between-ne0.true)
+    sym (entry_between a.fits a.bytes a.n a.between a.ray c.if-not-fits.false fit c.if-own.true)
 
 pub returns-then-not-accepted : goal.returns-then-not-accepted
 returns-then-not-accepted c =
     let a = c.args in
     let fit = none_record _ _ (sym c.record_cause-sizes.ensures ∙ c.if-sizes-ne0.false) in
-    sym (entry_ray a.fits a.bytes a.n a.between a.ray c.if-not-fits.false fit c.if-between-ne0.false
+    sym (entry_ray a.fits a.bytes a.n a.between a.ray c.if-not-fits.false fit c.if-own.false
     (sym c.accepted.ensures ∙ c.if-not-accepted.true))
 
 pub returns : goal.returns
 returns c =
     let a = c.args in
     let fit = none_record _ _ (sym c.record_cause-sizes.ensures ∙ c.if-sizes-ne0.false) in
-    sym (entry_none a.fits a.bytes a.n a.between a.ray c.if-not-fits.false fit c.if-between-ne0.false
+    sym (entry_none a.fits a.bytes a.n a.between a.ray c.if-not-fits.false fit c.if-own.false
     (sym c.accepted.ensures ∙ c.if-not-accepted.false))

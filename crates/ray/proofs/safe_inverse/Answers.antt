@@ -32,25 +32,25 @@ far v p = sym (ap (λ (t : Bool). cond t (fin (sign_bit v) 1 (pos 23)) (div bina
 held : (c : Start) → T (fits binary32 c.args.v)
 held c = subst T (sym c.well_formed.0.1) tt
 
-pub float_to_bits-v : goal.float_to_bits-v
-float_to_bits-v c = no_nan_le_r _ c.args.v c.if-v.true
+pub float_to_bits-negative : goal.float_to_bits-negative
+float_to_bits-negative c = no_nan_le_r _ c.args.v c.if-v.true
 
-pub returns-then-v-ge2147483648 : goal.returns-then-v-ge2147483648
+pub returns-then-negative : goal.returns-then-negative
 unfolding of_bits neg
-returns-then-v-ge2147483648 c =
+returns-then-negative c =
     let v = c.args.v in
     near v true c.if-v.true c.if-v-2.true
-    (sign_of_bits binary32 v (held (goal.at.returns-then-v-ge2147483648 c).Start) (no_nan_le_r lo v c.if-v.true) ∙ is_true
-    (leb 2147483648 (to_bits binary32 v)) (le→leb 2147483648 (to_bits binary32 v) c.if-v-ge2147483648.true))
+    (sign_of_bits binary32 v (held (goal.at.returns-then-negative c).Start) (no_nan_le_r lo v c.if-v.true) ∙ is_true
+    (leb 2147483648 (to_bits binary32 v)) (le→leb 2147483648 (to_bits binary32 v) c.if-negative.true))
 
-pub returns-else-v-ge2147483648 : goal.returns-else-v-ge2147483648
+pub returns-else-negative : goal.returns-else-negative
 unfolding of_bits neg
-returns-else-v-ge2147483648 c =
+returns-else-negative c =
     let v = c.args.v in
     near v false c.if-v.true c.if-v-2.true
-    (sign_of_bits binary32 v (held (goal.at.returns-else-v-ge2147483648 c).Start) (no_nan_le_r lo v c.if-v.true) ∙ is_false
+    (sign_of_bits binary32 v (held (goal.at.returns-else-negative c).Start) (no_nan_le_r lo v c.if-v.true) ∙ is_false
     (leb 2147483648 (to_bits binary32 v)) (not_T (leb 2147483648 (to_bits binary32 v))
-    (λ (t : T (leb 2147483648 (to_bits binary32 v))). not-le_of_lt c.if-v-ge2147483648.false (leb→le 2147483648 (to_bits binary32 v) t))))
+    (λ (t : T (leb 2147483648 (to_bits binary32 v))). not-le_of_lt c.if-negative.false (leb→le 2147483648 (to_bits binary32 v) t))))
 
 pub returns-else-v : goal.returns-else-v
 unfolding of_bits neg

@@ -6,18 +6,18 @@ pub float_from_bits-miss : goal.float_from_bits-miss
 unfolding nan_bits
 float_from_bits-miss c = tt
 
-pub returns-then-far : goal.returns-then-far
+pub returns-then-ahead : goal.returns-then-ahead
 unfolding entry_distance of_bits
-returns-then-far c = rw (
+returns-then-ahead c = rw (
   ← c.near-near.ensures,
   ← c.far-far.ensures,
   c.if-far-near.true,
-  c.if-far.true,
+  c.if-ahead.true,
 ) c.unsigned_zero.ensures
 
-pub returns-else-far : goal.returns-else-far
+pub returns-else-ahead : goal.returns-else-ahead
 unfolding entry_distance of_bits
-returns-else-far c = rw (← c.near-near.ensures, ← c.far-far.ensures, c.if-far-near.true, c.if-far.false)
+returns-else-ahead c = rw (← c.near-near.ensures, ← c.far-far.ensures, c.if-far-near.true, c.if-ahead.false)
 
 pub returns-else-far-near : goal.returns-else-far-near
 unfolding entry_distance of_bits

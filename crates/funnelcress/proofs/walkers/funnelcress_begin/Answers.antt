@@ -8,9 +8,9 @@ use Rattle.funnelcress.specs.Walkers.{begun_number}
 use Rattle.funnelcress.proofs.WalkerNumbers.{begun_refused, begin_unfit, begin_fit, begin-leaves}
 use Rattle.funnelcress.proofs.walkers.funnelcress_begin.Goals as goal
 
-pub returns-then-ray-ne8 : goal.returns-then-ray-ne8
-returns-then-ray-ne8 c =
-    let u = begin_unfit _ c.if-ray-ne8.true in
+pub returns-then-odd : goal.returns-then-odd
+returns-then-odd c =
+    let u = begin_unfit _ c.if-odd.true in
     record {
       value = c.refusal_number.ensures ∙ begun_refused 1 (λ e. omega (arith, e)) ∙ ap begun_number u;
       leaves = kept _ _ _ (ap (λ (k : ℕ). not (eqb k 0)) (sym u));
@@ -18,5 +18,5 @@ returns-then-ray-ne8 c =
 
 pub returns : goal.returns
 returns c =
-    let q = begin_fit _ _ c.if-ray-ne8.false c.ray_at-r.ensures _ c.begin.ensures.value in
+    let q = begin_fit _ _ c.if-odd.false c.ray_at-r.ensures _ c.begin.ensures.value in
     record { value = c.begun_number.ensures ∙ ap begun_number q; leaves = begin-leaves _ _ _ _ c.ray_at-r.ensures _ q c.begin.ensures.leaves }

@@ -11,11 +11,11 @@ returns-then-accepted c =
     starts (ray_of a.origin a.direction a.tmin a.tmax) c.new-ray.result c.octant.result
     c.begin.result c.new-ray.ensures (c.octant.ensures ∙ ap (λ (r : Ray). octant_of r.direction) c.new-ray.ensures)
     c.begin.ensures
-    (sym c.accepted.ensures ∙ c.if-accepted.true)
+    (sym c.accepted-accepted.ensures ∙ c.if-accepted.true)
 
 pub returns : goal.returns
 unfolding of_bits
 returns c =
     let a = c.args in
     refuses (ray_of a.origin a.direction a.tmin a.tmax) c.new-ray.result c.new-ray.ensures
-    (sym c.accepted.ensures ∙ c.if-accepted.false)
+    (sym c.accepted-accepted.ensures ∙ c.if-accepted.false)
