@@ -7,33 +7,32 @@ ghost use Rattle.aabb.specs.Aabb.{half_area, center_of, union_of, slab_near, sla
 
 use ray::{Ray, Vec3};
 
+// A box by its two corners.
 #[derive(Clone, Copy)]
 pub struct Aabb {
     pub min: Vec3,
     pub max: Vec3,
 }
 
-// Where the ray enters the slab between two planes of an axis.
-fn slab_near(lo: f32, hi: f32, origin: f32, inverse: f32) -> f32
-    ensures { result ≡ slab_near lo hi origin inverse }
+// Where the ray enters the slab between two planes of an axis, and where it leaves it.
+#[tactic(auto, unfolding(crate::specs::Aabb::slab_near, crate::specs::Aabb::slab_far))]
+fn slab(lo: f32, hi: f32, origin: f32, inverse: f32) -> (f32, f32)
+    ensures near { result.0 ≡ slab_near lo hi origin inverse }
+    ensures far { result.1 ≡ slab_far lo hi origin inverse }
 {
-    float::min((lo - origin) * inverse, (hi - origin) * inverse)
+    let a = (lo - origin) * inverse;
+    let b = (hi - origin) * inverse;
+    (float::min(a, b), float::max(a, b))
 }
 
-// Where it leaves the slab.
-fn slab_far(lo: f32, hi: f32, origin: f32, inverse: f32) -> f32
-    ensures { result ≡ slab_far lo hi origin inverse }
-{
-    float::max((lo - origin) * inverse, (hi - origin) * inverse)
-}
-
-// One end of a union on one axis.
+// The lower end of a union on one axis.
 fn lower_end(a: f32, b: f32) -> f32
     ensures { result ≡ unsigned_zero (min_of a b) }
 {
     float::unsigned_zero(float::min(a, b))
 }
 
+// The upper end. One function that is passed the lesser or the greater would be no plainer than these two.
 fn upper_end(a: f32, b: f32) -> f32
     ensures { result ≡ unsigned_zero (max_of a b) }
 {
@@ -42,6 +41,7 @@ fn upper_end(a: f32, b: f32) -> f32
 
 impl Aabb {
     // Half the surface of the box.
+    #[tactic(auto, unfolding(crate::specs::Aabb::half_area))]
     pub fn half_area(self) -> f32
         ensures { result ≡ half_area self }
     {
@@ -63,79 +63,64 @@ impl Aabb {
     }
 
     // The least box that holds both; a zero end is +0.0.
+    #[tactic(auto, unfolding(crate::specs::Aabb::union_of))]
     pub fn union(self, other: Aabb) -> Aabb
         ensures { result ≡ union_of self other }
     {
-        let min = Vec3 {
-            x: lower_end(self.min.x, other.min.x),
-            y: lower_end(self.min.y, other.min.y),
-            z: lower_end(self.min.z, other.min.z),
-        };
-        let max = Vec3 {
-            x: upper_end(self.max.x, other.max.x),
-            y: upper_end(self.max.y, other.max.y),
-            z: upper_end(self.max.z, other.max.z),
-        };
-        Aabb { min, max }
+        Aabb {
+            min: Vec3 {
+                x: lower_end(self.min.x, other.min.x),
+                y: lower_end(self.min.y, other.min.y),
+                z: lower_end(self.min.z, other.min.z),
+            },
+            max: Vec3 {
+                x: upper_end(self.max.x, other.max.x),
+                y: upper_end(self.max.y, other.max.y),
+                z: upper_end(self.max.z, other.max.z),
+            },
+        }
     }
 
-    // The largest distance at which the ray enters a slab of the box.
-    fn near(self, ray: Ray) -> f32
-        ensures { result ≡ box_near self ray }
+    // The largest distance at which the ray enters a slab of the box, and the least at which it leaves one.
+    #[tactic(auto, unfolding(crate::specs::Aabb::box_near, crate::specs::Aabb::box_far))]
+    fn span(self, ray: Ray) -> (f32, f32)
+        ensures near { result.0 ≡ box_near self ray }
+        ensures far { result.1 ≡ box_far self ray }
     {
-        let x = slab_near(self.min.x, self.max.x, ray.origin.x, ray.inverse.x);
-        let y = slab_near(self.min.y, self.max.y, ray.origin.y, ray.inverse.y);
-        let z = slab_near(self.min.z, self.max.z, ray.origin.z, ray.inverse.z);
-        float::max(float::max(x, y), z)
-    }
-
-    // The least distance at which the ray leaves a slab of the box.
-    fn far(self, ray: Ray) -> f32
-        ensures { result ≡ box_far self ray }
-    {
-        let x = slab_far(self.min.x, self.max.x, ray.origin.x, ray.inverse.x);
-        let y = slab_far(self.min.y, self.max.y, ray.origin.y, ray.inverse.y);
-        let z = slab_far(self.min.z, self.max.z, ray.origin.z, ray.inverse.z);
-        float::min(float::min(x, y), z)
+        let x = slab(self.min.x, self.max.x, ray.origin.x, ray.inverse.x);
+        let y = slab(self.min.y, self.max.y, ray.origin.y, ray.inverse.y);
+        let z = slab(self.min.z, self.max.z, ray.origin.z, ray.inverse.z);
+        let near = float::max(float::max(x.0, y.0), z.0);
+        let far = float::min(float::min(x.1, y.1), z.1);
+        (near, far)
     }
 
     // The distance at which the ray enters the box, a zero as +0.0; +infinity where it misses.
     pub fn intersect_ray(self, ray: Ray) -> f32
         ensures { result ≡ entry_distance self ray }
     {
-        let miss = f32::from_bits(0x7f80_0000);
-        let near = self.near(ray);
-        let far = self.far(ray);
-        if far >= near {
-            let ahead = far >= 0.0;
-            if ahead {
-                return float::unsigned_zero(near);
-            }
+        let (near, far) = self.span(ray);
+        let hit = far >= near && far >= 0.0;
+        if hit {
+            float::unsigned_zero(near)
+        } else {
+            f32::INFINITY
         }
-        miss
     }
 
     // Whether min is at most max on each axis.
+    #[tactic(auto, unfolding(crate::specs::Aabb::in_order))]
     fn in_order(self) -> bool
         ensures { result ≡ in_order self }
     {
-        if self.min.x <= self.max.x {
-            if self.min.y <= self.max.y {
-                return self.min.z <= self.max.z;
-            }
-        }
-        false
+        self.min.x <= self.max.x && self.min.y <= self.max.y && self.min.z <= self.max.z
     }
 
     // Whether no cause of refusal 6 holds of the box.
+    #[tactic(auto, unfolding(crate::specs::Aabb::accepted_box))]
     pub fn accepted(self) -> bool
         ensures { result ≡ accepted_box self }
     {
-        if self.min.bounded() {
-            if self.max.bounded() {
-                return self.in_order();
-            }
-        }
-        false
+        self.min.bounded() && self.max.bounded() && self.in_order()
     }
 }

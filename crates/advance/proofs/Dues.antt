@@ -2,14 +2,14 @@
 use mathlib.Core.Path.{◌≡◌, refl, sym, ap, ◌∙◌}
 use mathlib.Core.Bool.{Bool, true, false, cond}
 use mathlib.Core.List.{List}
-use Prim.Native.Nat.{ℕ, zero, suc, ◌-◌, ◌/◌, ◌%◌, ◌^◌, ◌≤◌, ◌<◌}
+use Prim.Native.Nat.{ℕ, zero, suc, ◌+◌, ◌-◌, ◌≤◌, ◌<◌}
 use native.Mathlib.Omega.{arith}
 use borrow.Author.Tests.{le-leb, lt-leb, lt-ltb, le-ltb}
 use Rattle.faststack.specs.Stack.{top_of}
 use Rattle.walk.specs.Step as S
 use Rattle.walk.specs.Words as W
 use Rattle.walk.specs.Words.{unpacked, waiting_depth, has_child}
-use Rattle.walk.specs.WordStep.{WalkerWords, NodeWords, stay_words, visit_words, pop_words, turn_words, advance_words}
+use Rattle.walk.specs.WordStep.{WalkerWords, NodeWords, no_group, stay_words, visit_words, pop_words, turn_words, advance_words}
 use Rattle.walk.proofs.Stacks.{waiting_child, waiting_most}
 use Rattle.walk.proofs.Words.{empty_front}
 use Rattle.walk.proofs.WordKept.{unskipped_turn}
@@ -22,19 +22,32 @@ module _ (g : W.Group) (stack : List ℕ) (depth : ℕ) where
   unfolding due_group
   due_hand h = rw (le-leb 0x100_0000 g.bits h)
 
-  module _ (empty : g.bits < 0x100_0000) (d : ℕ) (e : d ≡ waiting_depth stack depth) where
-    pub due_none : d ≡ 0 → record { group = record { base = 0; bits = 0 }; depth = 0 } ≡ due_group g stack depth
+  -- where the groups above the first d that wait hold no child
+  module _ (empty : g.bits < 0x100_0000) (d : ℕ) (e : waiting_depth stack d ≡ waiting_depth stack depth) where
+    behind : popped stack (waiting_depth stack d) ≡ due_group g stack depth
     unfolding due_group
-    due_none z = let q : waiting_depth stack depth ≡ 0 = sym e ∙ z in rw (lt-leb 0x100_0000 g.bits empty, q)
+    behind = rw (lt-leb 0x100_0000 g.bits empty, e)
 
-    pub due_top : 0 < d → (word : ℕ) → word ≡ top_of stack d
-        → record { group = record { base = word % 2 ^ 32; bits = word / 2 ^ 32 }; depth = d - 1 } ≡ due_group g stack depth
-    unfolding due_group
-    due_top h word f = rw (lt-leb 0x100_0000 g.bits empty, ← e, f) (go d h)
+    pub due_none : d ≤ 0 → record { group = no_group; depth = 0 } ≡ due_group g stack depth
+    due_none h = go d h ∙ behind
       where
-        go : (k : ℕ) → 0 < k → record { group = unpacked (top_of stack k); depth = k - 1 } ≡ popped stack k
-        go zero l = absurd (omega arith)
-        go (suc k) l = let z : suc k - 1 ≡ k = omega arith in rw z
+        go : (k : ℕ) → k ≤ 0 → record { group = no_group; depth = 0 } ≡ popped stack (waiting_depth stack k)
+        go zero l = refl
+        go (suc k) l = absurd (omega arith)
+
+    pub due_top : 0 < d → (found : W.Group) → found ≡ unpacked (top_of stack (d - 1 + 1)) → 0x100_0000 ≤ found.bits
+        → record { group = found; depth = d - 1 } ≡ due_group g stack depth
+    due_top h found f some = go d h f ∙ behind
+      where
+        go : (k : ℕ) → 0 < k → found ≡ unpacked (top_of stack (k - 1 + 1)) → record { group = found; depth = k - 1 }
+            ≡ popped stack (waiting_depth stack k)
+        go zero l q = absurd (omega arith)
+        go (suc k) l q =
+            let z : suc k - 1 ≡ k = omega arith in
+            let y : suc k - 1 + 1 ≡ suc k = omega arith in
+            let there : found ≡ unpacked (top_of stack (suc k)) = q ∙ ap (λ (x : ℕ). unpacked (top_of stack x)) y in
+            let holds : has_child (unpacked (top_of stack (suc k))) ≡ true = sym (ap has_child there) ∙ le-leb 0x100_0000 found.bits some in
+            rw (holds, z, there)
 
 -- no more groups wait below it than waited
 pub due_depth : (g : W.Group) (stack : List ℕ) (depth : ℕ) → (due_group g stack depth).depth ≤ depth

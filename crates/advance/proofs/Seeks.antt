@@ -1,25 +1,18 @@
 -- On from turn to turn until positions are in hand.
 use mathlib.Core.Path.{◌≡◌, refl, sym, ap, subst, ◌∙◌}
 use mathlib.Core.Bool.{Bool, true, false, ◌&&◌, cond}
-use mathlib.Core.List.{List, [], ◌∷◌}
-use mathlib.Core.Logic.{⊎_elim}
+use mathlib.Core.List.{List}
 use Prim.Native.Nat.{ℕ, zero, suc, ◌-◌, ◌≤◌, ◌<◌}
 use native.Mathlib.Omega.{arith}
-use lib.Dec.{eqb, ltb}
-use denote.Enum.Declared.{tag_of}
-use types.Run.{OneOf}
-use borrow.Author.Tests.{eq-eqb, ne_eqb, lt-ltb, ltb-true, eqb-true}
+use lib.Dec.{ltb}
+use borrow.Author.Tests.{lt-ltb, ltb-true, eqb-true}
 use Rattle.lists.proofs.Tells.{both_pass}
 use Rattle.ray.specs.declared.Ray.{Ray}
 use Rattle.faststack.specs.Stack.{capacity}
 use Rattle.walk.specs.Step as S
 use Rattle.walk.specs.WordStep.{WalkerWords, SteppedWords, NodeWords, is_test, finds_none, advance_words, seek_words}
-use Rattle.advance.specs.declared.Turn.{Turn}
-use Rattle.advance.specs.declared.Answer.{Answer}
-use Rattle.advance.specs.declared.Answer.TheVariants.{Tested, Position, Done, Refused}
 use Rattle.advance.specs.declared.Walk.{Walk}
-use Rattle.advance.specs.Turn.{step_answer, walker_of, seeking, goes_on}
-use Rattle.advance.specs.contracts.Answer.{the_type}
+use Rattle.advance.specs.Turn.{walker_of, seeking}
 use Rattle.advance.proofs.Shows.{Shows, turn_shows}
 
 -- A search from a walk without positions in hand, by its numbers, is one from the walk.
@@ -36,28 +29,6 @@ seeking_from ray octant stack v e =
     })
     stack)
     (sym e)
-
--- ---- by the tests that the code makes
-
-module _ (t : Turn) (left : ℕ) where
-  pub found_some : (v : ℕ) → t.answer ≡ Tested v → 0 < t.walk.positions.bits → false ≡ goes_on t left
-  unfolding goes_on step_answer
-  found_some v e h = rw (e, ne_eqb t.walk.positions.bits 0 (λ z. omega arith))
-
-  pub found_none : (v : ℕ) → t.answer ≡ Tested v → t.walk.positions.bits ≤ 0 → ltb 0 left ≡ goes_on t left
-  unfolding goes_on step_answer
-  found_none v e h = rw (e, eq-eqb t.walk.positions.bits 0 (omega arith))
-
-  pub found_end : OneOf (1 ∷ 2 ∷ 3 ∷ []) (tag_of the_type t.answer) → false ≡ goes_on t left
-  unfolding goes_on step_answer
-  found_end h = go t.answer h
-    where
-      go : (b : Answer) → OneOf (1 ∷ 2 ∷ 3 ∷ []) (tag_of the_type b) → false
-          ≡ (is_test (step_answer b) && eqb t.walk.positions.bits 0 && ltb 0 left)
-      go (Tested v) k = absurd (⊎_elim (λ e. omega arith) (⊎_elim (λ e. omega arith) (λ e. omega arith)) k)
-      go (Position p) k = refl
-      go Done k = refl
-      go (Refused j) k = refl
 
 -- ---- a search, turn by turn, for any fields and masks of nodes and any rays
 

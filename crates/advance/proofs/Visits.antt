@@ -2,17 +2,18 @@
 use mathlib.Core.Path.{◌≡◌, refl, sym, ap, ◌∙◌, subst}
 use mathlib.Core.Bool.{Bool, true, false, not, ◌||◌, cond}
 use mathlib.Core.List.{List}
-use Prim.Native.Nat.{ℕ, ◌+◌, ◌*◌, ◌/◌, ◌%◌, ◌≤◌, ◌<◌}
+use Prim.Native.Nat.{ℕ, ◌+◌, ◌*◌, ◌/◌, ◌%◌, ◌<◌}
 use native.Mathlib.Numerals.{add-one}
 use lib.Dec.{leb, T}
-use borrow.Author.Tests.{le-leb, lt-leb, leb-false}
+use borrow.Author.Tests.{leb-false}
 use Rattle.ray.specs.declared.Ray.{Ray}
 use Rattle.node.specs.declared.Node.{Node}
 use Rattle.node.specs.Node.{node_at}
 use Rattle.node_rule.specs.Rule.{node_rule}
 use Rattle.node_slot.specs.Mask.{hit_mask}
 use Rattle.node_test.specs.declared.Tested.{Tested}
-use Rattle.node_test.specs.Test.{tested, broken}
+use Rattle.node_test.specs.Test.{tested, read_by}
+use Rattle.std.specs.Prelude.{Option, Some, None}
 use Rattle.record_shape.specs.Record.{node_count}
 use Rattle.walk.specs.Step as S
 use Rattle.walk.specs.Words as W
@@ -24,14 +25,6 @@ use Rattle.advance.specs.declared.Walk.{Walk}
 use Rattle.advance.specs.Turn.{walker_of, lacks_room, is_past, waits, stacked, followed}
 
 -- ---- whether a child is there
-
-pub past_child : (c tests m : ℕ) → m ≤ c → true ≡ is_past c tests m
-unfolding is_past
-past_child c tests m h = rw (le-leb m c h)
-
-pub past_tests : (c tests m : ℕ) → c < m → leb m tests ≡ is_past c tests m
-unfolding is_past
-past_tests c tests m h = rw (lt-leb m c h)
 
 pub not_past : (c tests m : ℕ) → is_past c tests m ≡ false → (c < m) × (tests < m)
 unfolding is_past
@@ -82,52 +75,24 @@ module _ {RayData Distance : Type 0} (m : ℕ) (N : NodeWords RayData Distance) 
 
 -- ---- what a test gives
 
-pub record Passed (v : Node) (r : Ray) (octant : ℕ) (t : Tested) : Type 0 where
-  pub mask : t.mask ≡ hit_mask v r octant
-  pub imask : t.imask ≡ v.imask
-  pub child_base : t.child_base_idx ≡ v.child_base_idx
-  pub position_base : t.primitive_base_idx ≡ v.primitive_base_idx
+module _ (v : Node) (m n i : ℕ) (r : Ray) (octant : ℕ) where
+  abbrev by : Bool → Option Tested
+  by b = cond b (Some (read_by v r octant)) None
 
-module _ (v : Node) (m n i : ℕ) (r : Ray) (octant : ℕ) (t : Tested) (e : t ≡ tested v m n i r octant) where
-  pub met_rule : not t.meets ≡ false → (node_rule v m n i ≡ true) × Passed v r octant t
+  pub met_rule : {t : Tested} → Some t ≡ tested v m n i r octant → (node_rule v m n i ≡ true) × (t ≡ read_by v r octant)
   unfolding tested
-  met_rule h = go (node_rule v m n i) refl
+  met_rule {t} e = go (node_rule v m n i) refl
     where
-      go : (b : Bool) → node_rule v m n i ≡ b → (node_rule v m n i ≡ true) × Passed v r octant t
-      go true q =
-          let f : t ≡ record {
-            meets = true;
-            mask = hit_mask v r octant;
-            imask = v.imask;
-            child_base_idx = v.child_base_idx;
-            primitive_base_idx = v.primitive_base_idx;
-          } = rw q at e in (
-            q,
-            record {
-              mask = ap (λ (x : Tested). x.mask) f;
-              imask = ap (λ (x : Tested). x.imask) f;
-              child_base = ap
-                  (λ (x : Tested). x.child_base_idx) f;
-              position_base = ap (λ (x : Tested). x.primitive_base_idx) f;
-            },
-          )
-      go false q = absurd (let f : t ≡ broken = rw q at e in subst T (sym (ap (λ (x : Tested). not x.meets) f) ∙ h) tt)
+      go : (b : Bool) → node_rule v m n i ≡ b → (node_rule v m n i ≡ true) × (t ≡ read_by v r octant)
+      go true q = (q, let f : Some t ≡ Some (read_by v r octant) = e ∙ ap by q in cc)
+      go false q = absurd (let f : Some t ≡ None = e ∙ ap by q in cc)
 
-  pub broke_rule : not t.meets ≡ true → node_rule v m n i ≡ false
+  pub broke_rule : (o : Option Tested) → o ≡ tested v m n i r octant → ((t : Tested) → o ≡ Some t → ⊥) → node_rule v m n i ≡ false
   unfolding tested
-  broke_rule h = go (node_rule v m n i) refl
+  broke_rule o e none = go (node_rule v m n i) refl
     where
       go : (b : Bool) → node_rule v m n i ≡ b → node_rule v m n i ≡ false
-      go true q =
-          absurd
-          (let f : t ≡ record {
-            meets = true;
-            mask = hit_mask v r octant;
-            imask = v.imask;
-            child_base_idx = v.child_base_idx;
-            primitive_base_idx = v.primitive_base_idx;
-          } = rw q at e in
-          subst T (sym h ∙ ap (λ (x : Tested). not x.meets) f) tt)
+      go true q = absurd (none (read_by v r octant) (e ∙ ap by q))
       go false q = q
 
 -- ---- a visit on a record, by what its parts return
@@ -152,26 +117,25 @@ module _ (bytes : List ℕ) (n : ℕ) (ray : Ray) (octant : ℕ) (walk : Walk) (
   pub turn_past : lacks_room depth rest.bits ≡ false → is_past c walk.tests (node_count bytes) ≡ true → stay_words w (S.refused 10) ≡ goal
   turn_past e f = visit_past (node_count bytes) (node_words_at bytes by_boxes) n w g depth (room_is false e) (past_is true f)
 
-  module _ (roomy : lacks_room depth rest.bits ≡ false) (there : is_past c walk.tests (node_count bytes) ≡ false) (t : Tested)
-      (test : t ≡ tested (node_at bytes c) (node_count bytes) n c ray octant) where
+  module _ (roomy : lacks_room depth rest.bits ≡ false) (there : is_past c walk.tests (node_count bytes) ≡ false) where
+    abbrev result : Option Tested
+    result = tested (node_at bytes c) (node_count bytes) n c ray octant
+
     rule_is : (b : Bool) → node_rule (node_at bytes c) (node_count bytes) n c ≡ b → (node_words_at bytes by_boxes).rule n (W.first_child octant g) ≡ b
     rule_is b e = ap (λ (x : ℕ). node_rule (node_at bytes x) (node_count bytes) n x) (sym named) ∙ e
 
-    pub turn-broken : not t.meets ≡ true → stay_words w (S.refused 10) ≡ goal
-    turn-broken h =
+    pub turn-broken : (o : Option Tested) → o ≡ result → ((t : Tested) → o ≡ Some t → ⊥) → stay_words w (S.refused 10) ≡ goal
+    turn-broken o e none =
         visit_broken (node_count bytes) (node_words_at bytes by_boxes) n w g depth (room_is false roomy) (past_is false there)
-        (rule_is false (broke_rule (node_at bytes c) (node_count bytes) n c ray octant t test h))
+        (rule_is false (broke_rule (node_at bytes c) (node_count bytes) n c ray octant o e none))
 
-    pub turn-tested : not t.meets ≡ false → (v : Walk) (k : ℕ) (stack₁ : List ℕ) → v ≡ followed walk.tests t k → k ≡ waits depth rest.bits
+    pub turn-tested : {t : Tested} → Some t ≡ result → (v : Walk) (k : ℕ) (stack₁ : List ℕ) → v ≡ followed walk.tests t k → k ≡ waits depth rest.bits
         → stack₁ ≡ stacked stack depth rest
         → record { walker = walker_of ray octant v stack₁; answer = S.tested c } ≡ goal
     unfolding followed hit_mask
-    turn-tested h v k stack₁ ve ke se =
-        let p = met_rule (node_at bytes c) (node_count bytes) n c ray octant t test h in
-        let mask = p.1.mask ∙ ap (λ (x : ℕ). hit_mask (node_at bytes x) ray octant) named in
-        let imask = p.1.imask ∙ ap (λ (x : ℕ). (node_at bytes x).imask) named in
-        let cb = p.1.child_base ∙ ap (λ (x : ℕ). (node_at bytes x).child_base_idx) named in
-        let pb = p.1.position_base ∙ ap (λ (x : ℕ). (node_at bytes x).primitive_base_idx) named in
+    turn-tested {t} e v k stack₁ ve ke se =
+        let p = met_rule (node_at bytes c) (node_count bytes) n c ray octant e in
+        let q : t ≡ read_by (node_at bytes (W.first_child octant g)) ray octant = p.1 ∙ ap (λ (x : ℕ). read_by (node_at bytes x) ray octant) named in
         let d = ke ∙ ap (λ (x : W.Group). waits depth x.bits) left in
         let st = se ∙ ap (stacked stack depth) left in
         ap (λ (z : Walk). record { walker = walker_of ray octant z stack₁; answer = S.tested c }) ve
@@ -179,8 +143,8 @@ module _ (bytes : List ℕ) (n : ℕ) (ray : Ray) (octant : ℕ) (walk : Walk) (
           walker = record {
             ray = record { ray = ray; octant = octant };
             tests = add-one walk.tests j;
-            positions = record { base = pb j; bits = mask j % 0x100_0000 };
-            current = record { base = cb j; bits = mask j / 0x100_0000 * 0x100_0000 + imask j };
+            positions = record { base = (q j).primitive_base_idx; bits = (q j).mask % 0x100_0000 };
+            current = record { base = (q j).child_base_idx; bits = (q j).mask / 0x100_0000 * 0x100_0000 + (q j).imask };
             depth = d j;
             stack = st j;
           };

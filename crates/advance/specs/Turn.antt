@@ -1,6 +1,8 @@
--- Internal: all but `stepAnswer`, `group_of` and `walkerOf`. What the core of a walk says of the walker whose numbers it takes (01, "Walking").
+-- Internal: all but `step_answer`, `group_of` and `walker_of`. What the core of a walk says of the walker whose numbers it takes (01, "Walking").
 use Rattle.std.specs.Prelude.{Bool, not, ◌&&◌, ◌||◌, cond, List, ◌≡◌, ℕ, zero, suc, ◌+◌, ◌*◌, ◌/◌, ◌%◌, ◌≤◌, ◌<◌, eqb, leb, ltb, length}
+use Rattle.std.specs.Prelude.{Option, Some, None}
 use Rattle.ray.specs.declared.Ray.{Ray}
+use Rattle.causes.specs.Refusal.{cause_number}
 use Rattle.faststack.specs.Stack.{capacity, has_room, pushed, top_of}
 use Rattle.node_slot.specs.declared.Ends.{Ends}
 use Rattle.node_slot.specs.Parts.{ends_of}
@@ -25,7 +27,7 @@ unfoldable pub step_answer : Answer → S.Answer
 step_answer (TestedNode v) = S.tested v
 step_answer (Position p) = S.position p
 step_answer Done = S.done
-step_answer (Refused k) = S.refused k
+step_answer (Refused r) = S.refused (cause_number r)
 
 -- only the first node is in hand
 abbrev pub begun : Walk
@@ -70,8 +72,9 @@ pub record DueGroup : Type 0 where
   pub group : W.Group
   pub depth : ℕ
 
-abbrev pub due_in : Due → DueGroup
-due_in g = record { group = group_of g.group; depth = g.depth }
+abbrev pub due_in : Option Due → DueGroup
+due_in (Some g) = record { group = group_of g.group; depth = g.depth }
+due_in None = record { group = no_group; depth = 0 }
 
 -- the last of so many groups that wait
 abbrev pub popped : List ℕ → ℕ → DueGroup

@@ -1,17 +1,17 @@
 // Internal: the core of every walk (cwbvh/traverse_macro.rs): what is due, the test of a node, what follows it, and on until positions are in hand.
 #![tactic(auto)]
 
-ghost use Rattle.std.specs.Prelude.{◌≡◌, false, ◌≤◌, ◌<◌, length};
+ghost use Rattle.std.specs.Prelude.{◌≡◌, false, ◌≤◌, ◌<◌, length, IfSome};
 ghost use Rattle.faststack.specs.Stack.{capacity};
 ghost use Rattle.record_shape.specs.Record.{node_count};
-ghost use Rattle.node_slot.specs.Parts.{ends_of};
-ghost use Rattle.walk.specs.Words.{first_position, first_child, rest_of, waiting_depth};
+ghost use Rattle.walk.specs.Words.{packed, unpacked, first_position, first_child, rest_of};
 ghost use Rattle.walk.specs.WordStep.{visit_words, advance_words, seek_words};
 ghost use Rattle.walk_record.specs.WalkRay.{by_boxes};
 ghost use Rattle.walk_record.specs.Record.{node_words_at};
 ghost use Rattle.advance.specs.Turn.{group_of, walker_of, begun, turned, seeking, Walkable, due_in, due_group, lacks_room, waits, stacked, is_past};
 ghost use Rattle.advance.specs.Turn.{followed, goes_on};
 
+use causes::Refusal;
 use node_slot::Ends;
 use node_test::Tested;
 use ray::Ray;
@@ -20,14 +20,35 @@ use ray::Ray;
 pub const CHILDREN: u32 = 0x100_0000;
 
 // Bits counted from a base: positions, or children in bits 31 to 24 by slot XOR octant over an imask.
-#[derive(Clone, Copy)]
+#[derive(Clone, Copy, Debug, PartialEq, Eq)]
 pub struct Group {
     pub base: u32,
     pub bits: u32,
 }
 
+impl From<Group> for u64 {
+    ghost from_gives = { λ g word. word ≡ packed (group_of g) };
+
+    // The word of a group that waits.
+    fn from(g: Group) -> u64 {
+        u64::from(g.bits) * words::UPPER + u64::from(g.base)
+    }
+}
+
+impl From<u64> for Group {
+    ghost from_gives = { λ word g. group_of g ≡ unpacked word };
+
+    // The group of a word.
+    fn from(word: u64) -> Group {
+        Group {
+            base: (word % words::UPPER) as u32,
+            bits: (word / words::UPPER) as u32,
+        }
+    }
+}
+
 // What a walk holds beside its ray and its stack: the tests made, the positions and the group in hand, and how many groups wait.
-#[derive(Clone, Copy)]
+#[derive(Clone, Copy, Debug, PartialEq, Eq)]
 pub struct Walk {
     pub tests: u32,
     pub positions: Group,
@@ -35,13 +56,13 @@ pub struct Walk {
     pub depth: u32,
 }
 
-// What a step did: it tested a node, reported a position, found nothing left, or was refused for the cause of this number.
+// What a step did: it tested a node, reported a position, found nothing left, or was refused.
 #[derive(Clone, Copy)]
 pub enum Answer {
     Tested(u32),
     Position(u32),
     Done,
-    Refused(u32),
+    Refused(Refusal),
 }
 
 // The answer, and the walk then.
@@ -51,7 +72,7 @@ pub struct Turn {
     pub walk: Walk,
 }
 
-// The group whose first child is due, and how many groups wait below it; a group without children where none is.
+// The group whose first child is due, and how many groups wait below it.
 #[derive(Clone, Copy)]
 pub struct Due {
     pub group: Group,
@@ -74,6 +95,7 @@ pub fn begin() -> Walk
 }
 
 // The position of the highest bit of a group.
+#[tactic(auto, using(crate::proofs::Groups::highest_found))]
 pub fn first_position(g: Group) -> usize
     requires { 0 < g.bits }
     ensures { result ≡ first_position (group_of g) }
@@ -83,6 +105,7 @@ pub fn first_position(g: Group) -> usize
 }
 
 // The group without its highest bit.
+#[tactic(auto, using(crate::proofs::Groups::highest_found))]
 pub fn rest_of(g: Group) -> Group
     requires { 0 < g.bits }
     ensures { group_of result ≡ rest_of (group_of g) }
@@ -103,70 +126,44 @@ pub fn first_child(g: Group, octant: u32) -> usize
     node_slot::hit_child(g.base, g.bits, top, octant)
 }
 
-// How many groups wait, those on top left out that hold no child.
-fn waiting_depth(stack: &[u64], depth: u32) -> u32
+// The group in hand is due, or else the last that waits and holds a child.
+pub fn due_group(current: Group, depth: u32, stack: &[u64]) -> Option<Due>
     requires { (depth ≤ capacity) × (capacity ≤ length stack.now) }
-    ensures { result ≡ waiting_depth stack.now depth }
-{
-    let mut d = depth;
-    while d > 0 {
-        let group = faststack::top(stack, d as usize);
-        if group / words::UPPER >= CHILDREN as u64 {
-            return d;
-        }
-        d -= 1;
-    }
-    0
-}
-
-// The group in hand is due, or the last that waits.
-pub fn due_group(current: Group, depth: u32, stack: &[u64]) -> Due
-    requires { (depth ≤ capacity) × (capacity ≤ length stack.now) }
-    ensures { due_in result ≡ due_group (group_of current) stack.now depth }
+    ensures value { due_in result ≡ due_group (group_of current) stack.now depth }
+    ensures child { IfSome result (λ g. 0x100_0000 ≤ g.group.bits) }
 {
     let untested = current.bits >= CHILDREN;
     if untested {
-        return Due {
+        return Some(Due {
             group: current,
             depth,
-        };
+        });
     }
-    let d = waiting_depth(stack, depth);
-    if d == 0 {
-        return Due {
-            group: Group { base: 0, bits: 0 },
-            depth: 0,
-        };
+    for below in (0..depth).rev() {
+        let group = Group::from(faststack::top(stack, below as usize + 1));
+        if group.bits >= CHILDREN {
+            return Some(Due {
+                group,
+                depth: below,
+            });
+        }
     }
-    let word = faststack::top(stack, d as usize);
-    let group = Group {
-        base: (word % words::UPPER) as u32,
-        bits: (word / words::UPPER) as u32,
-    };
-    Due {
-        group,
-        depth: d - 1,
-    }
+    None
 }
 
 // Whether what is left of a group would be the 33rd to wait.
 fn lacks_room(depth: u32, bits: u32) -> bool
     ensures { result ≡ lacks_room depth bits }
 {
-    if bits < CHILDREN {
-        return false;
-    }
-    depth >= 32
+    bits >= CHILDREN && depth >= 32
 }
 
 // Whether node `child` of m does not exist, or all tests were made.
+#[tactic(auto, unfolding(crate::specs::Turn::is_past))]
 fn is_past(child: usize, tests: u32, m: usize) -> bool
     ensures { result ≡ is_past child tests m }
 {
-    if child >= m {
-        return true;
-    }
-    tests as usize >= m
+    child >= m || tests as usize >= m
 }
 
 // Lets what is left of a group wait above `depth` others, if it holds a child; how many wait then.
@@ -178,12 +175,12 @@ fn wait(stack: &mut [u64], depth: u32, rest: Group) -> u32
     if rest.bits < CHILDREN {
         return depth;
     }
-    let word = rest.bits as u64 * words::UPPER + rest.base as u64;
-    faststack::push(stack, depth as usize, word);
+    faststack::push(stack, depth as usize, u64::from(rest));
     depth + 1
 }
 
 // What follows the test of a node: its passed positions and children are in hand, and so many groups wait.
+#[tactic(auto, unfolding(crate::specs::Turn::followed))]
 fn follow(tests: u32, t: Tested, depth: u32) -> Walk
     requires { tests < 65536 }
     ensures { result ≡ followed tests t depth }
@@ -224,23 +221,22 @@ fn visit(
     let m = record.len() / node::BYTES;
     if lacks_room(g.depth, rest.bits) {
         return Turn {
-            answer: Answer::Refused(10),
+            answer: Answer::Refused(Refusal::Fault),
             walk,
         };
     }
     if is_past(child, walk.tests, m) {
         return Turn {
-            answer: Answer::Refused(10),
+            answer: Answer::Refused(Refusal::Fault),
             walk,
         };
     }
-    let t = node_test::test_node(record, child, m, n, ray, e, octant);
-    if !t.meets {
+    let Some(t) = node_test::test_node(record, child, m, n, ray, e, octant) else {
         return Turn {
-            answer: Answer::Refused(10),
+            answer: Answer::Refused(Refusal::Fault),
             walk,
         };
-    }
+    };
     let depth = wait(stack, g.depth, rest);
     Turn {
         answer: Answer::Tested(child as u32),
@@ -263,31 +259,21 @@ fn test_due(
         ≡ advance_words (node_count «record».now) (node_words_at «record».now by_boxes) n
         (walker_of ray octant walk stack.old) }
 {
-    let current = walk.current;
-    let g = due_group(current, walk.depth, stack);
-    if g.group.bits < CHILDREN {
+    let Some(g) = due_group(walk.current, walk.depth, stack) else {
         return Turn {
             answer: Answer::Done,
             walk,
         };
-    }
+    };
     visit(walk, g, ray, e, octant, stack, record, n)
 }
 
 // Whether a search for positions goes on after a turn: it tested a node, none of whose positions is passed, and tests are left.
+#[tactic(auto, unfolding(crate::specs::Turn::goes_on, crate::specs::Turn::step_answer))]
 fn goes_on(turn: Turn, left: u32) -> bool
     ensures { result ≡ goes_on turn left }
 {
-    let answer = turn.answer;
-    match answer {
-        Answer::Tested(_) => {
-            if turn.walk.positions.bits > 0 {
-                return false;
-            }
-            left > 0
-        }
-        _ => false,
-    }
+    matches!(turn.answer, Answer::Tested(_)) && turn.walk.positions.bits == 0 && left > 0
 }
 
 // On from a walk without positions in hand until some are, nothing is left, or a test is refused: one test, and up to `most` more. It takes the
@@ -324,19 +310,19 @@ pub fn seek(
         },
         depth,
     };
+    // not a `for` over `left`: the loop gives what its last turn gave
     let mut left = most;
     loop {
         let turn = test_due(walk, ray, e, octant, stack, record, n);
         if !goes_on(turn, left) {
             return turn;
         }
-        let next = turn.walk;
-        walk = next;
+        walk = turn.walk;
         left -= 1;
     }
 }
 
-// The walk after a turn, read number by number as it was stored.
+// The walk after a turn. It is read number by number, as it was stored, for speed: `turn.walk` read whole would wait for the stores.
 pub fn walk_after(turn: Turn) -> Walk
     ensures { result ≡ turn.walk }
 {

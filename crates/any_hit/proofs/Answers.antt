@@ -1,12 +1,9 @@
 -- The answers of any-hit, by the tests that the code makes and by where its walks end.
 use mathlib.Core.Bool.{Bool, true, false}
-use mathlib.Core.List.{List, [], ◌∷◌}
-use mathlib.Core.Logic.{⊎_elim}
+use mathlib.Core.List.{List, []}
 use mathlib.Core.Path.{◌≡◌, refl, sym, ap, ◌∙◌}
 use Prim.Native.Nat.{ℕ, zero, suc, ◌*◌, ◌≤◌, ◌<◌}
 use native.Mathlib.Omega.{arith}
-use denote.Enum.Declared.{tag_of}
-use types.Run.{OneOf}
 use lib.ListN.{length, take}
 use lib.Seq.{take_all}
 use borrow.Author.Tests.{le-leb, lt-leb}
@@ -24,11 +21,8 @@ use Rattle.query.specs.Entry.{entry_cause}
 use Rattle.query.specs.Result.{Result, unanswered, walked, entered}
 use Rattle.query.specs.Walk.{RecordSized}
 use Rattle.query.proofs.Begins.{query_empty}
-use Rattle.any_hit.specs.declared.State.{State}
-use Rattle.any_hit.specs.declared.State.TheVariants.{Done, Paused, Refused}
 use Rattle.any_hit.specs.AnyHit.{AnyHitAnswer, listed, refused, lacking, fitted, walk_of, any_hit_of, list_for, list_walked, list_after}
 use Rattle.any_hit.specs.Gather.{met_in, any_hit_outcome, Counted, Stands}
-use Rattle.any_hit.specs.contracts.State.{the_type}
 use Rattle.any_hit.proofs.Written.{met_front}
 
 -- ---- a list that is long enough, or short
@@ -50,15 +44,14 @@ module _ (count tests room : ℕ) where
 module _ (bytes : List ℕ) (n : ℕ) (ray : Ray) where
   -- over any number of positions that a walk reports, it never pauses
   never_paused : (most : ℕ) (w : WalkerWords WalkRay) (count : ℕ) (before found : List ℕ) → RecordSized bytes n → 25 * 65535 ≤ most
-      → Stands bytes n ray Paused most w count before found → ⊥
+      → Stands bytes n ray false most w count before found → ⊥
   never_paused most w count before found sized h k = omega (arith, sized.nodes, k.0, k.2.few)
 
-  pub counted_only : (s : State) (most : ℕ) (w : WalkerWords WalkRay) (count : ℕ) (before found : List ℕ)
-      → OneOf (0 ∷ 1 ∷ []) (tag_of the_type s) → RecordSized bytes n → 25 * 65535 ≤ most
-      → Stands bytes n ray s most w count before found → Stands bytes n ray Done most w count before found
-  counted_only Done most w count before found t sized h k = k
-  counted_only Paused most w count before found t sized h k = absurd (never_paused most w count before found sized h k)
-  counted_only (Refused j) most w count before found t sized h k = absurd (⊎_elim (λ e. omega arith) (λ e. omega arith) t)
+  pub counted_only : (done : Bool) (most : ℕ) (w : WalkerWords WalkRay) (count : ℕ) (before found : List ℕ)
+      → RecordSized bytes n → 25 * 65535 ≤ most
+      → Stands bytes n ray done most w count before found → Stands bytes n ray true most w count before found
+  counted_only true most w count before found sized h k = k
+  counted_only false most w count before found sized h k = absurd (never_paused most w count before found sized h k)
 
   module _ (list : List ℕ) where
     -- an answer with the list that it leaves
@@ -79,6 +72,10 @@ module _ (bytes : List ℕ) (n : ℕ) (ray : Ray) where
         walk_end o = walked refused (λ noted tests. fitted (length noted) tests (length list)) o
 
     module _ {count tests : ℕ} (C : Counted bytes n ray count tests) where
+      -- a walk without a fault has none when it is made again
+      pub ends_unrefused : (k : ℕ) → (any_hit_outcome bytes n ray).ended ≡ S.refused k → ⊥
+      ends_unrefused k r = let e = sym C.ended ∙ r in let z : ◌≡◌ {A = ℕ} 0 1 = cc in omega arith
+
       is_fitted : fitted count tests (length list) ≡ walk_of bytes n (walk_ray ray) (length list)
       unfolding walk_of walked
       is_fitted = rw (C.ended, C.all, C.tested) refl
@@ -97,17 +94,15 @@ module _ (bytes : List ℕ) (n : ℕ) (ray : Ray) where
       ends_short h = ends_as (unanswered (lacking 11 count)) (lacks count tests (length list) h ∙ is_fitted)
 
     -- written into a list that is long enough, by a walk
-    pub ends_again : {count tests : ℕ} → Counted bytes n ray count tests → count ≤ length list → RecordSized bytes n
-        → (s : State) (most : ℕ) (w : WalkerWords WalkRay) (again : ℕ) (after : List ℕ) → 25 * 65535 ≤ most
-        → Stands bytes n ray s most w again list after → Ends (record { answer = listed again; tests = w.tests }) after
+    pub ends_again : {count tests : ℕ} → Counted bytes n ray count tests → count ≤ length list
+        → (w : WalkerWords WalkRay) {again : ℕ} {after : List ℕ} → Counted bytes n ray again w.tests
+        → after ≡ met_in list (any_hit_outcome bytes n ray).accumulator → Ends (record { answer = listed again; tests = w.tests }) after
     unfolding list_for
-    ends_again C h sized Done most w again after m k =
-        let l = k.0.all in
+    ends_again C h w {again = again} D e =
+        let l = D.all in
         let g = ends_as (record { answer = listed again; tests = w.tests })
-        (fits again w.tests (length list) (omega (arith, C.all)) ∙ is_fitted k.0) in
-        (g.0, k.1 ∙ ap (splice list 0) (take_all (length list) (any_hit_outcome bytes n ray).accumulator (omega (arith, C.all))) ∙ g.1)
-    ends_again C h sized Paused most w again after m k = absurd (never_paused most w again list after sized m k)
-    ends_again C h sized (Refused j) most w again after m k = absurd (let e = sym C.ended ∙ k in let z : ◌≡◌ {A = ℕ} 0 1 = cc in omega arith)
+        (fits again w.tests (length list) (omega (arith, C.all)) ∙ is_fitted D) in
+        (g.0, e ∙ ap (splice list 0) (take_all (length list) (any_hit_outcome bytes n ray).accumulator (omega (arith, C.all))) ∙ g.1)
 
 -- ---- any-hit
 

@@ -1,17 +1,17 @@
 -- A walk that notes positions: what holds whenever its loops come round, from node to node and from position to position, and how it ends.
-use mathlib.Core.Bool.{false}
+use mathlib.Core.Bool.{Bool, true, false}
 use mathlib.Core.List.{List, [], ◌∷◌, ◌++◌}
-use mathlib.Core.Logic.{⊎_elim}
 use mathlib.Core.Path.{◌≡◌, refl, sym, ap, subst, ◌∙◌}
 use Prim.Native.Nat.{ℕ, ◌+◌, ◌*◌, ◌≤◌, ◌<◌}
 use native.Mathlib.Omega.{arith}
-use denote.Enum.Declared.{tag_of}
-use types.Run.{OneOf}
 use lib.Ieee.{Float}
 use lib.ListN.{length, take, set, replicate, length-append}
 use lib.Seq.{take_all, take-nil}
+use Rattle.std.specs.Prelude.{Result, Ok, Err}
 use Rattle.lists.specs.Splice.{splice}
 use Rattle.lists.proofs.Splice.{splice_none}
+use Rattle.causes.specs.declared.Refusal.{Refusal}
+use Rattle.causes.specs.Refusal.{cause_number}
 use Rattle.words.specs.Fields.{field}
 use Rattle.words.specs.Ones.{ones_below}
 use Rattle.faststack.specs.Stack.{capacity}
@@ -31,13 +31,10 @@ use Rattle.advance.specs.declared.Walk.{Walk}
 use Rattle.advance.specs.declared.Answer.{Answer}
 use Rattle.advance.specs.declared.Answer.TheVariants as A
 use Rattle.advance.specs.Turn.{step_answer, walker_of, begun}
-use Rattle.advance.specs.contracts.Answer.{the_type}
 use Rattle.query.specs.Walk.{RecordSized}
 use Rattle.query.proofs.Begins.{steady, leads_begun}
 use Rattle.query.proofs.Leads.{Steady, Sought, leads_past, leads_on, seek_sought}
-use Rattle.any_hit.specs.declared.State.{State}
-use Rattle.any_hit.specs.declared.State.TheVariants.{Done, Paused, Refused}
-use Rattle.any_hit.specs.Gather.{met_in, pause_of, any_hit_outcome, Walking, Counted}
+use Rattle.any_hit.specs.Gather.{met_in, done_by, any_hit_outcome, Walking, Counted}
 use Rattle.any_hit.proofs.Written.{met_next, met_front, met_over, met_kept}
 use Rattle.any_hit.proofs.Few.{seek_few}
 
@@ -104,23 +101,24 @@ module _ {bytes : List ℕ} {n : ℕ} {ray : Ray} (sized : RecordSized bytes n) 
   steadily = steady bytes n sized fit
 
   -- where a search for positions leaves it, at walker u
-  abbrev pub After : State → WalkerWords WalkRay → Type 0
-  After Done u = Counted bytes n ray count u.tests × (found ≡ met_in before (any_hit_outcome bytes n ray).accumulator)
-  After Paused u = Walking bytes n ray u count before found × (steps_left_words m u < steps_left_words m w) × (ones_below 32 u.positions.bits ≤ 24)
-  After (Refused k) u = (any_hit_outcome bytes n ray).ended ≡ S.refused k
+  abbrev pub After : Result Bool Refusal → WalkerWords WalkRay → Type 0
+  After (Ok true) u = Counted bytes n ray count u.tests × (found ≡ met_in before (any_hit_outcome bytes n ray).accumulator)
+  After (Ok false) u =
+      Walking bytes n ray u count before found × (steps_left_words m u < steps_left_words m w) × (ones_below 32 u.positions.bits ≤ 24)
+  After (Err f) u = (any_hit_outcome bytes n ray).ended ≡ S.refused (cause_number f)
 
   -- by the answer
   abbrev Seeks : S.Answer → WalkerWords WalkRay → Type 0
   Seeks b u = Sought m N n append (any_hit_outcome bytes n ray) w K.accumulator b u × (ones_below 32 u.positions.bits ≤ 24)
 
   pub walk_seeks : w.positions.bits ≡ 0 → (k : ℕ) (a : Answer) (u : WalkerWords WalkRay)
-      → record { walker = u; answer = step_answer a } ≡ seek_words m N k n w → After (pause_of a) u
-  unfolding pause_of step_answer
+      → record { walker = u; answer = step_answer a } ≡ seek_words m N k n w → After (done_by a) u
+  unfolding done_by step_answer
   walk_seeks none k a u e =
       let z : w.positions.bits ≤ 0 = omega (arith, none) in
       go a (subst (λ (r : SteppedWords WalkRay). Seeks r.answer r.walker) (sym e) (seek_sought steadily k w K.leads z, seek_few m N n k w z))
     where
-      go : (b : Answer) → Seeks (step_answer b) u → After (pause_of b) u
+      go : (b : Answer) → Seeks (step_answer b) u → After (done_by b) u
       go (A.Tested v) (g, l) =
           let f : count + steps_left_words m u ≤ 25 * m = omega (arith, g.less, K.few) in
           (record { accumulator = K.accumulator; leads = g.leads; counted = K.counted; few = f; met = K.met }, g.less, l)
@@ -136,12 +134,13 @@ module _ {bytes : List ℕ} {n : ℕ} {ray : Ray} (sized : RecordSized bytes n) 
       go (A.Refused j) (g, l) = ap (λ (o : OutcomeWords WalkRay (List ℕ)). o.ended) (sym g)
 
   -- with positions in hand it goes on
-  pub walk_goes : (a : Answer) (u : WalkerWords WalkRay) → After (pause_of a) u → OneOf (0 ∷ 1 ∷ []) (tag_of the_type a) → After Paused u
-  unfolding pause_of
-  walk_goes (A.Tested v) u h t = h
-  walk_goes (A.Position p) u h t = h
-  walk_goes A.Done u h t = absurd (⊎_elim (λ e. omega arith) (λ e. omega arith) t)
-  walk_goes (A.Refused k) u h t = absurd (⊎_elim (λ e. omega arith) (λ e. omega arith) t)
+  pub walk_goes : (a : Answer) (u : WalkerWords WalkRay) → After (done_by a) u → (a ≡ A.Done → ⊥) → ((f : Refusal) → a ≡ A.Refused f → ⊥)
+      → After (Ok false) u
+  unfolding done_by
+  walk_goes (A.Tested v) u h d r = h
+  walk_goes (A.Position p) u h d r = h
+  walk_goes A.Done u h d r = absurd (d refl)
+  walk_goes (A.Refused f) u h d r = absurd (r f refl)
 
   -- ---- a position in hand
 

@@ -1,6 +1,8 @@
 -- Any-hit (01, "Walking"; "Causes of refusal", 10 and 11): the positions that a walk reports, in its order.
 use Rattle.std.specs.Prelude.{true, false, List, ℕ, leb, length}
+use Rattle.std.specs.Prelude as P
 use Rattle.lists.specs.Splice.{splice}
+use Rattle.causes.specs.Refusal.{cause_number}
 use Rattle.ray.specs.declared.Ray.{Ray}
 use Rattle.walk_record.specs.WalkRay.{WalkRay, walk_ray, by_boxes}
 use Rattle.walk_record.specs.Walk.{any_hit_at}
@@ -8,8 +10,8 @@ use Rattle.causes.specs.Causes.{first_cause}
 use Rattle.query.specs.Entry.{entry_conditions, entry_cause}
 use Rattle.query.specs.Result.{Result, unanswered, walked, entered}
 use Rattle.any_hit.specs.declared.AnyHit.{AnyHit}
-use Rattle.any_hit.specs.declared.AnyHitFound.{AnyHitFound}
-use Rattle.any_hit.specs.declared.AnyHit.TheVariants.{Listed, Short, Refused}
+use Rattle.any_hit.specs.declared.AnyHitError.{AnyHitError}
+use Rattle.any_hit.specs.declared.AnyHitError.TheVariants.{Short, Refused}
 
 -- so many positions listed; or refused with a number; or refused with a number and the length needed
 pub data AnyHitAnswer : Type 0 where
@@ -18,14 +20,16 @@ pub data AnyHitAnswer : Type 0 where
   lacking : (number needed : ℕ) → AnyHitAnswer
 
 -- the cases of the answer in the requirements' terms
-unfoldable pub any_hit_answer : AnyHit → AnyHitAnswer
-any_hit_answer (Listed count) = listed count
-any_hit_answer (Short needed) = lacking 11 needed
-any_hit_answer (Refused number) = refused number
+unfoldable pub any_hit_answer : P.Result AnyHit AnyHitError → AnyHitAnswer
+any_hit_answer (P.Ok found) = listed found.count
+any_hit_answer (P.Err (Short needed)) = lacking 11 needed
+any_hit_answer (P.Err (Refused refusal)) = refused (cause_number refusal)
 
--- the result with its tests
-abbrev pub result_of : AnyHitFound → Result AnyHitAnswer
-result_of r = record { answer = any_hit_answer r.answer; tests = r.tests }
+-- the result with its tests: none beside a refusal
+unfoldable pub result_of : P.Result AnyHit AnyHitError → Result AnyHitAnswer
+unfolding any_hit_answer
+result_of (P.Ok found) = record { answer = any_hit_answer (P.Ok found); tests = found.tests }
+result_of (P.Err e) = unanswered (any_hit_answer (P.Err e))
 
 -- so many positions after so many tests: a list that is long enough, or short
 unfoldable pub fitted : (count tests room : ℕ) → Result AnyHitAnswer

@@ -1,6 +1,8 @@
 -- Internal: a walk that gathers positions and may be gone on with: what holds between two of its nodes, and where it ends.
-use Rattle.std.specs.Prelude.{List, ◌≡◌, ℕ, ◌+◌, ◌*◌, ◌≤◌, ◌<◌, length, take}
+use Rattle.std.specs.Prelude.{Bool, true, false, Result, Ok, Err, List, ◌≡◌, ℕ, ◌+◌, ◌*◌, ◌≤◌, ◌<◌, length, take}
 use Rattle.lists.specs.Splice.{splice}
+use Rattle.causes.specs.declared.Refusal.{Refusal}
+use Rattle.causes.specs.Refusal.{cause_number}
 use Rattle.ray.specs.declared.Ray.{Ray}
 use Rattle.record_shape.specs.Record.{node_count}
 use Rattle.walk.specs.Step as S
@@ -16,8 +18,6 @@ use Rattle.advance.specs.declared.Answer.TheVariants as A
 use Rattle.advance.specs.Turn.{walker_of}
 use Rattle.query.proofs.Leads.{Leads}
 use Rattle.any_hit.specs.AnyHit.{fitted, list_for}
-use Rattle.any_hit.specs.declared.State.{State}
-use Rattle.any_hit.specs.declared.State.TheVariants.{Done, Paused, Refused}
 use Rattle.any_hit.specs.declared.Gathered.{Gathered}
 
 -- positions in front of what was there, as many as there is room for
@@ -28,12 +28,12 @@ met_in before noted = splice before 0 (take (length before) noted)
 abbrev pub list_fitted : (count tests : ℕ) → (noted before : List ℕ) → List ℕ
 list_fitted count tests noted before = list_for (fitted count tests (length before)).answer noted before
 
--- where a walk stands after a search for positions with this answer
-unfoldable pub pause_of : Answer → State
-pause_of (A.Tested v) = Paused
-pause_of (A.Position p) = Paused
-pause_of A.Done = Done
-pause_of (A.Refused k) = Refused k
+-- whether a walk is done after a search for positions with this answer, or why it is refused
+unfoldable pub done_by : Answer → Result Bool Refusal
+done_by (A.Tested v) = Ok false
+done_by (A.Position p) = Ok false
+done_by A.Done = Ok true
+done_by (A.Refused f) = Err f
 
 module _ (bytes : List ℕ) (n : ℕ) (ray : Ray) where
   -- how the whole query ends
@@ -55,12 +55,12 @@ module _ (bytes : List ℕ) (n : ℕ) (ray : Ray) where
     pub tested : tests ≡ any_hit_outcome.walker.tests
 
   -- where gathering ends: with the query, or with over `most` noted and no position in hand
-  abbrev pub Stands : State → (most : ℕ) → WalkerWords WalkRay → (count : ℕ) → (before found : List ℕ) → Type 0
-  Stands Done most w count before found = Counted count w.tests × (found ≡ met_in before any_hit_outcome.accumulator)
-  Stands Paused most w count before found = (most < count) × (w.positions.bits ≡ 0) × Walking w count before found
-  Stands (Refused k) most w count before found = any_hit_outcome.ended ≡ S.refused k
+  abbrev pub Stands : (done : Bool) → (most : ℕ) → WalkerWords WalkRay → (count : ℕ) → (before found : List ℕ) → Type 0
+  Stands true most w count before found = Counted count w.tests × (found ≡ met_in before any_hit_outcome.accumulator)
+  Stands false most w count before found = (most < count) × (w.positions.bits ≡ 0) × Walking w count before found
 
-  -- a node has at most 24 positions
-  abbrev pub Gathers : (octant most : ℕ) → (before : List ℕ) → Gathered → (stack found : List ℕ) → Type 0
-  Gathers octant most before g stack found =
-      (g.count ≤ most + 24) × Stands g.state most (walker_of ray octant g.walk stack) g.count before found
+  -- a node has at most 24 positions; what refuses gathering refuses the query
+  abbrev pub Gathers : (octant most : ℕ) → (before : List ℕ) → Result Gathered Refusal → (stack found : List ℕ) → Type 0
+  Gathers octant most before (Ok g) stack found =
+      (g.count ≤ most + 24) × Stands g.done most (walker_of ray octant g.walk stack) g.count before found
+  Gathers octant most before (Err f) stack found = any_hit_outcome.ended ≡ S.refused (cause_number f)

@@ -35,9 +35,6 @@ same_position a b = cc
 pub children_position : {A : Type 0} {l : Link} {f p : ℕ} → l ≡ children f → l ≡ position p → A
 children_position a b = let z : ◌≡◌ {A = ℕ} 0 1 = cc in absurd (omega arith)
 
-pub children_malformed : {A : Type 0} {l : Link} {f : ℕ} → l ≡ children f → l ≡ malformed → A
-children_malformed a b = let z : ◌≡◌ {A = ℕ} 0 1 = cc in absurd (omega arith)
-
 pub position_malformed : {A : Type 0} {l : Link} {p : ℕ} → l ≡ position p → l ≡ malformed → A
 position_malformed a b = let z : ◌≡◌ {A = ℕ} 0 1 = cc in absurd (omega arith)
 

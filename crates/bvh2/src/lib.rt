@@ -18,22 +18,27 @@ fn coordinate(words: &[u32], v: usize, i: usize) -> f32
     float::of_bits(words[v * 7 + i])
 }
 
+// The corner of node v's box whose coordinates stand from word i on.
+fn corner(words: &[u32], v: usize, i: usize) -> Vec3
+    requires { v * 7 + i + 2 < length words.now }
+    ensures { result ≡ record { x = float_at words.now v i; y = float_at words.now v (i + 1); z = float_at words.now v (i + 2) } }
+{
+    Vec3 {
+        x: coordinate(words, v, i),
+        y: coordinate(words, v, i + 1),
+        z: coordinate(words, v, i + 2),
+    }
+}
+
 // The box of node v.
 pub fn node_box(words: &[u32], v: usize) -> Aabb
     requires { v * 7 + 6 < length words.now }
     ensures { result ≡ box_at words.now v }
 {
-    let min = Vec3 {
-        x: coordinate(words, v, 0),
-        y: coordinate(words, v, 1),
-        z: coordinate(words, v, 2),
-    };
-    let max = Vec3 {
-        x: coordinate(words, v, 3),
-        y: coordinate(words, v, 4),
-        z: coordinate(words, v, 5),
-    };
-    Aabb { min, max }
+    Aabb {
+        min: corner(words, v, 0),
+        max: corner(words, v, 3),
+    }
 }
 
 // The link word of node v: its kind is the quotient by 2^30, its index the remainder.

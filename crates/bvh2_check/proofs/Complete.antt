@@ -1,12 +1,14 @@
 -- From marks that are all zero the walk goes through and marks all exactly if each node and each position stands in the tree once.
 use mathlib.Core.Path.{◌≡◌, refl, sym, ap, ◌∙◌}
-use mathlib.Core.Bool.{Bool, true, false, ◌&&◌}
-use mathlib.Core.List.{List}
+use mathlib.Core.Bool.{Bool, true, false, not, ◌&&◌, ◌||◌}
+use mathlib.Core.List.{List, [], ◌∷◌}
 use Prim.Native.Nat.{ℕ, zero, suc, ◌+◌, ◌-◌, ◌<◌, ◌≤◌}
 use native.Mathlib.Omega.{arith}
-use lib.ListN.{get_or, replicate, length-replicate, get_or-replicate, get_or-eq_default}
+use lib.Dec.{eqb}
+use lib.ListN.{length, take, get_or, replicate, length-replicate, get_or-replicate, get_or-eq_default}
+use Rattle.std.specs.List.{list_any}
 use Rattle.lists.proofs.Counts.{Same, equal, apart, same?, same_apart, same_shift, Some, none, some, some?}
-use Rattle.lists.proofs.Tells.{Tells, passes, fails}
+use Rattle.lists.proofs.Tells.{Tells, passes, fails, tells_as, tells_same, eqb_tells}
 use Rattle.bvh2.specs.Tree.{Tree, leaf, inner}
 use Rattle.bvh2.specs.Words.{tree_nodes, tree_of}
 use Rattle.bvh2.specs.Decoded.{AllRead, LabelsWithin}
@@ -31,7 +33,7 @@ seen_position m n p (inner v b l r) w =
     omega arith
 
 -- the first k are marked
-pub all_marked_lem : (k : ℕ) (o : List ℕ) → Tells ((i : ℕ) → i < k → 1 ≤ get_or o i 0) (marks_set k o)
+all_marked_lem : (k : ℕ) (o : List ℕ) → Tells ((i : ℕ) → i < k → 1 ≤ get_or o i 0) (marks_set k o)
 unfolding marks_set
 all_marked_lem zero o = passes (λ i l. absurd (omega arith))
 all_marked_lem (suc k) o = pick (get_or o k 0) refl (marks_set k o) (all_marked_lem k o)
@@ -45,6 +47,25 @@ all_marked_lem (suc k) o = pick (get_or o k 0) refl (marks_set k o) (all_marked_
     pick zero e y t = fails (λ h. let z = h k (omega arith) in omega arith)
     pick (suc j) e true (passes h) = passes (λ i l. last j e h i l (same? i k))
     pick (suc j) e false (fails h) = fails (λ g. h (λ i l. g i (omega arith)))
+
+unset_tells : (k : ℕ) (o : List ℕ) → k ≤ length o
+    → Tells ((i : ℕ) → i < k → 1 ≤ get_or o i 0) (not (list_any (λ y. eqb y 0) (take k o)))
+unset_tells zero o h = passes (λ i l. absurd (omega arith))
+unset_tells (suc k) [] h = absurd (omega arith)
+unset_tells (suc k) (x ∷ o) h = pick (eqb x 0) (eqb_tells x 0) (list_any (λ y. eqb y 0) (take k o)) (unset_tells k o (omega arith))
+  where
+    at : (x ≡ 0 → ⊥) → ((i : ℕ) → i < k → 1 ≤ get_or o i 0) → (i : ℕ) → i < suc k → 1 ≤ get_or (x ∷ o) i 0
+    at e h zero l = omega arith
+    at e h (suc i) l = h i (omega arith)
+
+    pick : (a : Bool) → Tells (x ≡ 0) a → (b : Bool) → Tells ((i : ℕ) → i < k → 1 ≤ get_or o i 0) (not b)
+        → Tells ((i : ℕ) → i < suc k → 1 ≤ get_or (x ∷ o) i 0) (not (a || b))
+    pick true (passes e) b t = fails (λ h. let z : 1 ≤ x = h 0 (omega arith) in omega arith)
+    pick false (fails e) b t = tells_as t (at e) (λ h i l. h (suc i) (omega arith))
+
+-- none of them is zero
+pub set_any : (k : ℕ) (o : List ℕ) → k ≤ length o → not (list_any (λ y. eqb y 0) (take k o)) ≡ marks_set k o
+set_any k o h = tells_same (unset_tells k o h) (all_marked_lem k o)
 
 zeros : (l k : ℕ) → ◌≡◌ {A = ℕ} (get_or (replicate l 0) k 0) 0
 zeros l k = pick (some? (l - k))

@@ -107,8 +107,8 @@ module _ (ws : List ℕ) (m v : ℕ) (b : Aabb) (o : List ℕ) (z : get_or o v 0
   unfolding walk
   cut_off t e k = rw (e, mark_go o v z, walk, k)
 
-  pub left_stops : (t l r : Tree ℕ) (o₂ : List ℕ) (x : Bool) → t ≡ inner v b l r → x ≡ false → marking_if x o₂ ≡ walk ws m l (set o v 1) → stop o₂
-      ≡ walk ws m t o
+  pub left_stops : (t l r : Tree ℕ) (o₂ : List ℕ) (x : Bool) → t ≡ inner v b l r → x ≡ false → marking_if x o₂ ≡ walk ws m l (set o v 1)
+      → marking_if x o₂ ≡ walk ws m t o
   unfolding walk
   left_stops t l r o₂ true e f k = let i : ◌≡◌ {A = ℕ} 0 1 = cc in absurd (omega arith)
   left_stops t l r o₂ false e f k = rw (e, mark_go o v z, walk, ← k)

@@ -1,13 +1,11 @@
 -- The tests before the walk, as the code makes them.
 use mathlib.Core.Path.{◌≡◌, sym, ◌∙◌}
-use mathlib.Core.Bool.{Bool, true, false, not}
+use mathlib.Core.Bool.{false}
 use Prim.Native.Nat.{ℕ, ◌+◌, ◌*◌, ◌-◌, ◌/◌, ◌%◌, ◌<◌, ◌≤◌}
 use native.Mathlib.Omega.{arith}
 use lib.Dec.{ltb}
-use Rattle.lists.proofs.Tells.{clash, tells_true, tells_false, eqb_tells, leb_tells}
+use Rattle.lists.proofs.Tells.{tells_true, tells_false, eqb_tells, leb_tells}
 use Rattle.causes.proofs.Causes.{first_here, first_later, passed_none}
-use Rattle.aabb.specs.declared.Aabb.{Aabb}
-use Rattle.aabb.specs.Aabb.{accepted_box}
 use Rattle.bvh2.specs.Words.{tree_nodes, link_of}
 use Rattle.bvh2.specs.FirstCause.{size_conditions, sizes_cause, is_inside}
 use Rattle.bvh2.proofs.Reading.{word-children, word_position, word_malformed}
@@ -40,19 +38,3 @@ inside_position n w q r e = rw (r, word_position w (sym q ∙ e))
 pub inside_malformed : {kind : ℕ} (n w : ℕ) → kind ≡ w / 0x4000_0000 → (kind ≡ 0 → ⊥) → (kind ≡ 1 → ⊥) → false ≡ is_inside n (link_of w)
 unfolding is_inside
 inside_malformed n w q a b = rw (word_malformed w (λ z. a (q ∙ z)) (λ z. b (q ∙ z)))
-
--- a test by `!` of what a call returned
-pub was_false : (x y : Bool) → x ≡ y → not x ≡ true → y ≡ false
-was_false true y e h = clash h
-was_false false y e h = sym e
-
-pub was_true : (x y : Bool) → x ≡ y → not x ≡ false → y ≡ true
-was_true true y e h = sym e
-was_true false y e h = clash (sym h)
-
--- what was read
-pub read_link_lem : (n w u : ℕ) (x : Bool) → x ≡ is_inside n (link_of w) → w ≡ u → x ≡ is_inside n (link_of u)
-read_link_lem n w u x a e = rw e at a
-
-pub read_box : (b d : Aabb) (x : Bool) → x ≡ accepted_box b → b ≡ d → x ≡ accepted_box d
-read_box b d x a e = rw e at a

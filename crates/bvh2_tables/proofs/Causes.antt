@@ -108,12 +108,6 @@ pub both_kept : (limit : ℕ) (ws : List ℕ) (n k : ℕ) (ds : List ℕ) (cs : 
     → (ds ≡ work_after 0 (word_of limit) ws n k ds) × (cs ≡ work_after plus_zero (cost_of limit) ws n k cs)
 both_kept limit ws n k ds cs p q = (work_kept 0 (word_of limit) ws n k ds p q, work_kept plus_zero (cost_of limit) ws n k cs p q)
 
--- no leaf, no cause of structure
-pub nothing : (ws : List ℕ) (n : ℕ) → n ≡ 0 → 0 ≡ structure_cause ws n
-unfolding structure_conditions first_cause
-nothing ws zero e = refl
-nothing ws (suc n) e = absurd (omega arith)
-
 -- the same by the number that was returned
 pub tabled_at : {A : Type 0} (g : Tree ℕ → ℕ → A) (z : A) (ws : List ℕ) (n r : ℕ) (s u : List A) → 0 < n → r ≡ structure_cause ws n
     → u ≡ tabled g ws (structure_cause ws n) (cleared z (table_size n) s) → u ≡ work_after z g ws n r s

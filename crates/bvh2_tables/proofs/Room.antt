@@ -1,47 +1,25 @@
 -- The lengths that conversion needs, by the tests that the code makes.
 use mathlib.Core.Path.{◌≡◌, refl, sym, subst, ◌∙◌}
-use mathlib.Core.Bool.{true, false, ◌&&◌}
-use Prim.Native.Nat.{ℕ, zero, suc, ◌-◌, ◌*◌, ◌≤◌, ◌<◌}
+use mathlib.Core.Bool.{Bool, true, false, ◌&&◌}
+use mathlib.Core.Logic.{◌⊎◌, inl, inr}
+use Prim.Native.Nat.{ℕ, zero, suc, ◌-◌, ◌*◌, ◌≤◌, ◌<◌, max}
 use native.Mathlib.Omega.{arith}
 use lib.Dec.{T, leb, leb→le}
 use lib.Ieee.Fits.{and_l, and_r}
-use borrow.Author.Tests.{le-leb, lt-leb}
+use borrow.Author.Tests.{le-leb}
 use Rattle.bvh2_tables.specs.Call.{Lengths}
 use Rattle.bvh2_tables.specs.Tables.{table_size, record_size, slices_fit}
-
-pub room_none : (n : ℕ) (l : Lengths) → n ≡ 0 → true ≡ slices_fit n l
-unfolding slices_fit record_size
-room_none zero l e =
-    rw (le-leb 0 l.decisions (omega arith), le-leb 0 l.costs (omega arith), le-leb 0 l.bytes (omega arith), le-leb 0 l.list (omega arith))
-room_none (suc n) l e = absurd (omega arith)
 
 pub size_none : record_size 0 ≡ 0
 unfolding record_size
 size_none = refl
 
-pub size_one : record_size 1 ≡ 80
+pub size_some : (n : ℕ) → 0 < n → record_size n ≡ 80 * max 1 (n - 1)
 unfolding record_size
-size_one = refl
-
-pub size_more : (n : ℕ) → 1 < n → record_size n ≡ 80 * (n - 1)
-unfolding record_size
-size_more zero h = absurd (omega arith)
-size_more (suc k) h = omega arith
+size_some zero h = absurd (omega arith)
+size_some (suc k) h = omega arith
 
 module _ (n : ℕ) (l : Lengths) where
-  pub room_short_words : l.decisions < table_size n → false ≡ slices_fit n l
-  unfolding slices_fit
-  room_short_words h = rw (lt-leb (table_size n) l.decisions h)
-
-  pub room_short_costs : table_size n ≤ l.decisions → l.costs < table_size n → false ≡ slices_fit n l
-  unfolding slices_fit
-  room_short_costs g h = rw (le-leb (table_size n) l.decisions g, lt-leb (table_size n) l.costs h)
-
-  pub room_short_bytes : table_size n ≤ l.decisions → table_size n ≤ l.costs → l.bytes < record_size n → false ≡ slices_fit n l
-  unfolding slices_fit
-  room_short_bytes g h k =
-      rw (le-leb (table_size n) l.decisions g, le-leb (table_size n) l.costs h, lt-leb (record_size n) l.bytes k)
-
   pub room_list : table_size n ≤ l.decisions → table_size n ≤ l.costs → record_size n ≤ l.bytes → leb n l.list ≡ slices_fit n l
   unfolding slices_fit
   room_list g h k = rw (le-leb (table_size n) l.decisions g, le-leb (table_size n) l.costs h, le-leb (record_size n) l.bytes k)
@@ -66,3 +44,18 @@ module _ (n : ℕ) (l : Lengths) where
         leb→le (record_size n) l.bytes (and_r (x && y) z xyz),
         leb→le n l.list (and_r (x && y && z) w t),
       )
+
+  -- some slice is too short
+  pub room_short : {t r : ℕ} → t ≡ table_size n → r ≡ record_size n
+      → (l.decisions < t) ⊎ (((t ≤ l.decisions) × (l.costs < t)) ⊎ ((t ≤ l.decisions) × (t ≤ l.costs) × (l.bytes < r))) → false ≡ slices_fit n l
+  room_short {t} {r} e f h = go (slices_fit n l) refl
+    where
+      enough : (table_size n ≤ l.decisions) × (table_size n ≤ l.costs) × (record_size n ≤ l.bytes) × (n ≤ l.list)
+          → (l.decisions < t) ⊎ (((t ≤ l.decisions) × (l.costs < t)) ⊎ ((t ≤ l.decisions) × (t ≤ l.costs) × (l.bytes < r))) → ⊥
+      enough p (inl a) = omega arith
+      enough p (inr (inl a)) = omega arith
+      enough p (inr (inr a)) = omega arith
+
+      go : (b : Bool) → slices_fit n l ≡ b → false ≡ b
+      go false s = refl
+      go true s = absurd (enough (room_parts s) h)

@@ -3,21 +3,20 @@
 
 ghost use Rattle.std.specs.Prelude.{◌≡◌, ◌≤◌, ◌<◌, length};
 ghost use Rattle.float.specs.Compare.{plus_zero};
+ghost use Rattle.causes.specs.Refusal.{cause_in};
 ghost use Rattle.bvh2.specs.Causes.{TreeSized};
 ghost use Rattle.bvh2.specs.FirstCause.{structure_cause};
 ghost use Rattle.cost.specs.Table.{word_of, cost_of};
 ghost use Rattle.bvh2_tables.specs.Tables.{table_size, record_size, slices_fit, prepare_cause, cleared, tabled, work_after};
 
-// Zeroes the first k costs.
-pub fn clear_costs(s: &mut [f32], k: usize)
-    requires { k ≤ length s.old }
-    ensures { s.new ≡ cleared plus_zero k s.old }
+use causes::Refusal;
+
+// How many decision words, and how many costs, n leaves need.
+fn table_size(n: usize) -> usize
+    requires { n ≤ 65536 }
+    ensures { result ≡ table_size n }
 {
-    let mut i = 0usize;
-    while i < k {
-        s[i] = 0.0;
-        i += 1;
-    }
+    (2 * n).saturating_sub(1) * 7
 }
 
 // How many record bytes n leaves need.
@@ -26,12 +25,10 @@ fn record_size(n: usize) -> usize
     ensures { result ≡ record_size n }
 {
     if n == 0 {
-        return 0;
+        0
+    } else {
+        node::BYTES * (n - 1).max(1)
     }
-    if n == 1 {
-        return node::BYTES;
-    }
-    node::BYTES * (n - 1)
 }
 
 // Whether decisions, costs, record bytes and output indices are long enough for n leaves.
@@ -39,44 +36,47 @@ fn has_room(n: usize, decisions: usize, costs: usize, bytes: usize, list: usize)
     requires { n ≤ 65536 }
     ensures { result ≡ slices_fit n (record { decisions = decisions; costs = costs; bytes = bytes; list = list }) }
 {
-    if n == 0 {
-        return true;
-    }
-    let table = (2 * n - 1) * 7;
+    let table = table_size(n);
     let needed = record_size(n);
-    if decisions < table {
-        return false;
-    }
-    if costs < table {
-        return false;
-    }
-    if bytes < needed {
+    if decisions < table || costs < table || bytes < needed {
         return false;
     }
     n <= list
 }
 
+// Zeroes the decision words and the costs that n leaves need.
+pub fn clear_tables(n: usize, decisions: &mut [u32], costs: &mut [f32])
+    requires { (n ≤ 65536) × (table_size n ≤ length decisions.old) × (table_size n ≤ length costs.old) }
+    ensures decisions_after { decisions.new ≡ cleared 0 (table_size n) decisions.old }
+    ensures costs_after { costs.new ≡ cleared plus_zero (table_size n) costs.old }
+{
+    let size = table_size(n);
+    decisions[..size].fill(0);
+    costs[..size].fill(0.0);
+}
+
 // Causes 5 to 7 with the working slices cleared, and if there is none, the tables of every node.
-fn fill_tables(words: &[u32], n: usize, limit: u32, decisions: &mut [u32], costs: &mut [f32]) -> u32
+fn fill_tables(
+    words: &[u32],
+    n: usize,
+    limit: u32,
+    decisions: &mut [u32],
+    costs: &mut [f32],
+) -> Result<(), Refusal>
     requires { TreeSized words.now n × (0 < n) × (table_size n ≤ length decisions.old) × (table_size n ≤ length costs.old) }
-    ensures value { result ≡ structure_cause words.now n }
+    ensures value { cause_in result ≡ structure_cause words.now n }
     ensures decisions_after { decisions.new ≡ tabled (word_of limit) words.now (structure_cause words.now n)
         (cleared 0 (table_size n) decisions.old) }
     ensures costs_after { costs.new ≡ tabled (cost_of limit) words.now (structure_cause words.now n)
         (cleared plus_zero (table_size n) costs.old) }
 {
-    let k = (2 * n - 1) * 7;
-    words::clear(&mut decisions[..k]);
-    clear_costs(costs, k);
-    let cause = bvh2_check::structure(words, n, decisions);
-    if cause != 0 {
-        return cause;
-    }
+    clear_tables(n, decisions, costs);
+    bvh2_check::structure(words, n, decisions)?;
     cost::calculate_cost(words, 0, 127, limit, decisions, costs);
-    0
+    Ok(())
 }
 
-// The first of the causes 1 to 7, 0 for none, for n index words, a leaf limit and the lengths of the outputs; the tables where there is none.
+// The first of the causes 1 to 7 for n index words, a leaf limit and the lengths of the outputs; the tables where there is none.
 pub fn prepare(
     words: &[u32],
     n: usize,
@@ -85,26 +85,22 @@ pub fn prepare(
     list: usize,
     decisions: &mut [u32],
     costs: &mut [f32],
-) -> u32
-    ensures value { result ≡ prepare_cause words.now n limit
+) -> Result<(), Refusal>
+    ensures value { cause_in result ≡ prepare_cause words.now n limit
         (record { decisions = length decisions.entry.now; costs = length costs.old; bytes = bytes; list = list }) }
-    ensures decisions_after { decisions.new ≡ work_after 0 (word_of limit) words.now n result decisions.old }
-    ensures costs_after { costs.new ≡ work_after plus_zero (cost_of limit) words.now n result costs.old }
+    ensures decisions_after { decisions.new ≡ work_after 0 (word_of limit) words.now n (cause_in result) decisions.old }
+    ensures costs_after { costs.new ≡ work_after plus_zero (cost_of limit) words.now n (cause_in result) costs.old }
 {
-    let size = bvh2_check::sizes(words, n);
-    if size != 0 {
-        return size;
-    }
+    bvh2_check::sizes(words, n)?;
     let over = 3 < limit;
     if over {
-        return 3;
+        return Err(Refusal::LimitOver);
     }
-    let room = has_room(n, decisions.len(), costs.len(), bytes, list);
-    if !room {
-        return 4;
+    if !has_room(n, decisions.len(), costs.len(), bytes, list) {
+        return Err(Refusal::SliceShort);
     }
     if n == 0 {
-        return 0;
+        return Ok(());
     }
     fill_tables(words, n, limit, decisions, costs)
 }

@@ -1,5 +1,5 @@
 -- Conversion's answers, both ways: converted exactly if none of causes 1 to 7 holds and no level is over 31, refused 8 exactly if only a level is.
-use mathlib.Core.Path.{◌≡◌, refl, sym, ap}
+use mathlib.Core.Path.{◌≡◌, refl, ap}
 use mathlib.Core.Logic.{◌↔◌}
 use Prim.Native.Nat.{ℕ, zero, suc, ◌≤◌, ◌<◌}
 use native.Mathlib.Decide.{dec_lt}
@@ -12,21 +12,8 @@ use Rattle.bvh2_tables.specs.Call.{Call, leaf_count, lengths_of}
 use Rattle.bvh2_tables.specs.Tables.{work_after}
 use Rattle.bvh2_tables.proofs.Prepared.{prepared, prepared_none}
 use Rattle.bvh2_to_cwbvh.specs.Conversion.{defined_record, defined_nodes, deepest_level, defined_list, Convertible, conversion_cause}
-use Rattle.bvh2_to_cwbvh.specs.Conversion.{ConversionAnswer, converted, refused, answer_for, output_after, Outcome, outcome_for, conversion_of}
+use Rattle.bvh2_to_cwbvh.specs.Conversion.{converted, refused, answer_for, output_after, Outcome, outcome_for, conversion_of}
 use Rattle.bvh2_to_cwbvh.proofs.Endings.{early, cause_none, cause_eight, cause_early}
-
--- ---- one answer is not the other
-nodes_in : ConversionAnswer → ℕ
-nodes_in (converted m d) = m
-nodes_in (refused k) = 0
-
-level_in : ConversionAnswer → ℕ
-level_in (converted m d) = d
-level_in (refused k) = 0
-
-number_in : ConversionAnswer → ℕ
-number_in (converted m d) = 0
-number_in (refused k) = k
 
 module _ (c : Call) where
   -- the outcome where there is no cause
@@ -42,21 +29,14 @@ module _ (c : Call) where
 
   -- ---- the cause that an answer tells
   zero_cause : (k m d : ℕ) → answer_for c k ≡ converted m d → (k ≡ 0) × (m ≡ defined_nodes c) × (d ≡ deepest_level c)
-  unfolding answer_for nodes_in level_in number_in
-  zero_cause zero m d e = (refl, sym (ap nodes_in e), sym (ap level_in e))
-  zero_cause (suc k) m d e = absurd (omega (arith, ap number_in e))
+  unfolding answer_for
+  zero_cause zero m d e = (refl, (cc), (cc))
+  zero_cause (suc k) m d e = let z : ◌≡◌ {A = ℕ} 0 1 = cc in absurd (omega arith)
 
   some_cause : (k r : ℕ) → answer_for c k ≡ refused r → (k ≡ r) × (0 < r)
-  unfolding answer_for number_in nodes_in
-  some_cause zero r e = absurd (never (defined_nodes c) (deepest_level c) r e)
-    where
-      is : ConversionAnswer → ℕ
-      is (converted m d) = 1
-      is (refused k) = 0
-
-      never : (m d r : ℕ) → converted m d ≡ refused r → ⊥
-      never m d r e = omega (arith, ap is e)
-  some_cause (suc k) r e = let f = ap number_in e in (f, omega (arith, f))
+  unfolding answer_for
+  some_cause zero r e = let z : ◌≡◌ {A = ℕ} 0 1 = cc in absurd (omega arith)
+  some_cause (suc k) r e = let f : suc k ≡ r = cc in (f, omega arith)
 
   -- ---- which causes lie behind it
   early_none : conversion_cause c ≡ 0 → first_cause (early c) ≡ 0

@@ -105,92 +105,87 @@ pub record Prepares (c : Call) (k : ℕ) (ds₁ : List ℕ) (cs₁ : List Float)
   pub decisions : ds₁ ≡ work_after 0 (word_of c.limit) c.words (leaf_count c) k c.decisions
   pub costs : cs₁ ≡ work_after plus_zero (cost_of c.limit) c.words (leaf_count c) k c.costs
 
-module _ {c : Call} {k : ℕ} {ds₁ : List ℕ} {cs₁ : List Float} (p : Prepares c k ds₁ cs₁) where
-  -- causes 1 to 7
-  pub early_ends : (k ≡ 0 → ⊥) → ended (refused k) ds₁ cs₁ c.bytes c.list ≡ conversion_of c
-  early_ends h = refused_ends c k ds₁ cs₁ (cause_early c k p.cause h) h p.decisions p.costs
+-- causes 1 to 7
+pub early_ends : {c : Call} {k : ℕ} {ds₁ : List ℕ} {cs₁ : List Float} → Prepares c k ds₁ cs₁ → (k ≡ 0 → ⊥)
+    → ended (refused k) ds₁ cs₁ c.bytes c.list ≡ conversion_of c
+early_ends {c} {k} {ds₁} {cs₁} p h = refused_ends c k ds₁ cs₁ (cause_early c k p.cause h) h p.decisions p.costs
 
-  module _ (z : k ≡ 0) where
-    none : first_cause (early c) ≡ 0
-    none = sym p.cause ∙ z
+-- none of them
+module _ {c : Call} {ds₁ : List ℕ} {cs₁ : List Float} (p : Prepares c 0 ds₁ cs₁) where
+  none : first_cause (early c) ≡ 0
+  none = sym p.cause
 
-    parts : Convertible c
-    parts = prepared c.words (leaf_count c) c.limit (lengths_of c) none
+  parts : Convertible c
+  parts = prepared c.words (leaf_count c) c.limit (lengths_of c) none
 
-    words : ds₁ ≡ work_after 0 (word_of c.limit) c.words (leaf_count c) 0 c.decisions
-    words = p.decisions ∙ ap (λ (x : ℕ). work_after 0 (word_of c.limit) c.words (leaf_count c) x c.decisions) z
+  -- no leaf
+  pub empty_ends : leaf_count c ≡ 0 → ended (converted 0 0) ds₁ cs₁ c.bytes c.list ≡ conversion_of c
+  unfolding outcome_for answer_for output_after index_list_of
+  empty_ends n =
+      let e = nothing c.words (leaf_count c) c.limit c.ordered n in
+      let a : converted 0 0 ≡ answer_for c 0 = sym (ap₂ converted e.nodes e.level) in
+      let b = sym (splice_none c.bytes 0) ∙ ap (splice c.bytes 0) (sym e.bytes) in
+      let l = sym (splice_none c.list 0) ∙ ap (λ (ps : List ℕ). splice c.list 0 (words_at c.indices ps)) (sym e.list) in
+      ends c 0 (ended (converted 0 0) ds₁ cs₁ c.bytes c.list) (cause_none c none (omega (arith, e.level)))
+      (λ i. ended (a i) (p.decisions i) (p.costs i) (b i) (l i))
 
-    costs : cs₁ ≡ work_after plus_zero (cost_of c.limit) c.words (leaf_count c) 0 c.costs
-    costs = p.costs ∙ ap (λ (x : ℕ). work_after plus_zero (cost_of c.limit) c.words (leaf_count c) x c.costs) z
+  module _ (some : 0 < leaf_count c) where
+    tree : Decoded c.words (leaf_count c)
+    tree = (accepted_decoded c.words (leaf_count c) some).0 parts.accepted
 
-    -- no leaf
-    pub empty_ends : leaf_count c ≡ 0 → ended (converted 0 0) ds₁ cs₁ c.bytes c.list ≡ conversion_of c
-    unfolding outcome_for answer_for output_after index_list_of
-    empty_ends n =
-        let e = nothing c.words (leaf_count c) c.limit c.ordered n in
-        let a : converted 0 0 ≡ answer_for c 0 = sym (ap₂ converted e.nodes e.level) in
-        let b = sym (splice_none c.bytes 0) ∙ ap (splice c.bytes 0) (sym e.bytes) in
-        let l = sym (splice_none c.list 0) ∙ ap (λ (ps : List ℕ). splice c.list 0 (words_at c.indices ps)) (sym e.list) in
-        ends c 0 (ended (converted 0 0) ds₁ cs₁ c.bytes c.list) (cause_none c none (omega (arith, e.level)))
-        (λ i. ended (a i) (words i) (costs i) (b i) (l i))
+    pub few_leaves : leaf_count c ≤ 65536
+    few_leaves = tree.few
 
-    module _ (some : 0 < leaf_count c) where
-      tree : Decoded c.words (leaf_count c)
-      tree = (accepted_decoded c.words (leaf_count c) some).0 parts.accepted
+    -- the level pass and the emission have what they ask
+    pub level_ready : Tabled c.words ds₁ 127 0
+    level_ready = tabled c ds₁ some parts p.decisions
 
-      pub few_leaves : leaf_count c ≤ 65536
-      few_leaves = tree.few
+    pub emit_ready : EmitTree c.words ds₁ (leaf_count c) c.ordered (length c.bytes) (length c.list)
+    emit_ready = whole c ds₁ some parts p.decisions
 
-      -- the level pass and the emission have what they ask
-      pub level_ready : Tabled c.words ds₁ 127 0
-      level_ready = tabled c ds₁ some parts words
+    -- the tables have room to be cleared again
+    pub words_room : table_size (leaf_count c) ≤ length ds₁
+    words_room = room c ds₁ some parts p.decisions
 
-      pub emit_ready : EmitTree c.words ds₁ (leaf_count c) c.ordered (length c.bytes) (length c.list)
-      emit_ready = whole c ds₁ some parts words
+    pub costs_room : table_size (leaf_count c) ≤ length cs₁
+    costs_room =
+        let r = parts.costs in
+        omega (arith, work_length plus_zero (cost_of c.limit) c.words (leaf_count c) c.costs cs₁ some tree p.costs r, r)
 
-      -- the tables have room to be cleared again
-      pub words_room : table_size (leaf_count c) ≤ length ds₁
-      words_room = room c ds₁ some parts words
+    module _ (deepest : ℕ) (finds : (limit : ℕ) (ordered : Bool) → RowsHold (word_of limit) 0 ds₁ (tree_of c.words)
+        → deepest ≡ W.level (wide_tree_of c.words ordered limit)) where
+      found : deepest ≡ deepest_level c
+      found =
+          finds c.limit c.ordered (holds c ds₁ some parts p.decisions)
+          ∙ sym (there c.words (leaf_count c) c.limit c.ordered some).level
 
-      pub costs_room : table_size (leaf_count c) ≤ length cs₁
-      costs_room =
-          let r = parts.costs in
-          omega (arith, work_length plus_zero (cost_of c.limit) c.words (leaf_count c) c.costs cs₁ some tree costs r, r)
+      -- a level over 31: the tables are cleared again
+      pub deep_ends : (ds₂ : List ℕ) (cs₂ : List Float) → 31 < deepest → ds₂ ≡ cleared 0 (table_size (leaf_count c)) ds₁
+          → cs₂ ≡ cleared plus_zero (table_size (leaf_count c)) cs₁ → ended (refused 8) ds₂ cs₂ c.bytes c.list ≡ conversion_of c
+      deep_ends ds₂ cs₂ h f g =
+          refused_ends c 8 ds₂ cs₂ (cause_eight c none (omega (arith, found, h))) (λ q. omega (arith, q))
+          (work_refilled 0 (word_of c.limit) c.words (leaf_count c) c.decisions ds₁ ds₂ some tree p.decisions f)
+          (work_refilled plus_zero (cost_of c.limit) c.words (leaf_count c) c.costs cs₁ cs₂ some tree p.costs g)
 
-      module _ (deepest : ℕ) (finds : (limit : ℕ) (ordered : Bool) → RowsHold (word_of limit) 0 ds₁ (tree_of c.words)
-          → deepest ≡ W.level (wide_tree_of c.words ordered limit)) where
-        found : deepest ≡ deepest_level c
-        found =
-            finds c.limit c.ordered (holds c ds₁ some parts words)
-            ∙ sym (there c.words (leaf_count c) c.limit c.ordered some).level
+      -- what the emission ends with
+      abbrev pub Emits : List ℕ → List ℕ → Next → Type 0
+      Emits bytes₁ list₁ x =
+          (h : EmitTree c.words ds₁ (leaf_count c) c.ordered (length c.bytes) (length c.list))
+          → Emitted c.indices (wide_tree_of c.words c.ordered h.at.limit) c.bytes c.list bytes₁ list₁ x
 
-        -- a level over 31: the tables are cleared again
-        pub deep_ends : (ds₂ : List ℕ) (cs₂ : List Float) → 31 < deepest → ds₂ ≡ cleared 0 (table_size (leaf_count c)) ds₁
-            → cs₂ ≡ cleared plus_zero (table_size (leaf_count c)) cs₁ → ended (refused 8) ds₂ cs₂ c.bytes c.list ≡ conversion_of c
-        deep_ends ds₂ cs₂ h f g =
-            refused_ends c 8 ds₂ cs₂ (cause_eight c none (omega (arith, found, h))) (λ q. omega (arith, q))
-            (work_refilled 0 (word_of c.limit) c.words (leaf_count c) c.decisions ds₁ ds₂ some tree words f)
-            (work_refilled plus_zero (cost_of c.limit) c.words (leaf_count c) c.costs cs₁ cs₂ some tree costs g)
+      -- converted
+      pub written_ends : deepest ≤ 31 → (bytes₁ list₁ : List ℕ) (x : Next) → Emits bytes₁ list₁ x
+          → ended (converted x.nodes deepest) ds₁ cs₁ bytes₁ list₁ ≡ conversion_of c
+      unfolding whole outcome_for answer_for output_after index_list_of
+      written_ends h bytes₁ list₁ x emitted =
+          let r = emitted (whole c ds₁ some parts p.decisions) in
+          let t = there c.words (leaf_count c) c.limit c.ordered some in
+          let a : converted x.nodes deepest ≡ answer_for c 0 = ap₂ converted (r.nodes_are ∙ sym t.nodes) found in
+          let b = r.bytes_are ∙ ap (splice c.bytes 0) (sym t.bytes) in
+          let l = r.list_is ∙ ap (λ (ps : List ℕ). splice c.list 0 (words_at c.indices ps)) (sym t.list) in
+          ends c 0 (ended (converted x.nodes deepest) ds₁ cs₁ bytes₁ list₁) (cause_none c none (omega (arith, found, h)))
+          (λ i. ended (a i) (p.decisions i) (p.costs i) (b i) (l i))
 
-        -- what the emission ends with
-        abbrev pub Emits : List ℕ → List ℕ → Next → Type 0
-        Emits bytes₁ list₁ x =
-            (h : EmitTree c.words ds₁ (leaf_count c) c.ordered (length c.bytes) (length c.list))
-            → Emitted c.indices (wide_tree_of c.words c.ordered h.at.limit) c.bytes c.list bytes₁ list₁ x
-
-        -- converted
-        pub written_ends : deepest ≤ 31 → (bytes₁ list₁ : List ℕ) (x : Next) → Emits bytes₁ list₁ x
-            → ended (converted x.nodes deepest) ds₁ cs₁ bytes₁ list₁ ≡ conversion_of c
-        unfolding whole outcome_for answer_for output_after index_list_of
-        written_ends h bytes₁ list₁ x emitted =
-            let r = emitted (whole c ds₁ some parts words) in
-            let t = there c.words (leaf_count c) c.limit c.ordered some in
-            let a : converted x.nodes deepest ≡ answer_for c 0 = ap₂ converted (r.nodes_are ∙ sym t.nodes) found in
-            let b = r.bytes_are ∙ ap (splice c.bytes 0) (sym t.bytes) in
-            let l = r.list_is ∙ ap (λ (ps : List ℕ). splice c.list 0 (words_at c.indices ps)) (sym t.list) in
-            ends c 0 (ended (converted x.nodes deepest) ds₁ cs₁ bytes₁ list₁) (cause_none c none (omega (arith, found, h)))
-            (λ i. ended (a i) (words i) (costs i) (b i) (l i))
-
-        -- the node count fits a word
-        pub nodes_fit : (bytes₁ list₁ : List ℕ) (x : Next) → Emits bytes₁ list₁ x → x.nodes < 2 ^ 32
-        nodes_fit bytes₁ list₁ x emitted = omega (arith, (emitted emit_ready).nodes_are, emit_ready.few)
+      -- the node count fits a word
+      pub nodes_fit : (bytes₁ list₁ : List ℕ) (x : Next) → Emits bytes₁ list₁ x → x.nodes < 2 ^ 32
+      nodes_fit bytes₁ list₁ x emitted = omega (arith, (emitted emit_ready).nodes_are, emit_ready.few)

@@ -1,7 +1,7 @@
 -- What the level pass and the emission ask holds where none of causes 1 to 7 does.
 use mathlib.Core.Path.{◌≡◌}
 use mathlib.Core.List.{List}
-use Prim.Native.Nat.{ℕ, zero, suc, ◌-◌, ◌*◌, ◌≤◌, ◌<◌, max}
+use Prim.Native.Nat.{ℕ, ◌*◌, ◌≤◌, ◌<◌}
 use native.Mathlib.Omega.{arith}
 use lib.ListN.{length}
 use Rattle.bvh2.specs.Words.{tree_nodes, tree_of}
@@ -14,14 +14,10 @@ use Rattle.children.specs.Tabled.{Tabled}
 use Rattle.wide_tree.proofs.Ordered.{index_count_lem, node-count}
 use Rattle.emit_tree.specs.Emission.{EmitTree}
 use Rattle.bvh2_tables.specs.Call.{Call, leaf_count}
-use Rattle.bvh2_tables.specs.Tables.{record_size, work_after}
+use Rattle.bvh2_tables.specs.Tables.{work_after}
+use Rattle.bvh2_tables.proofs.Room.{size_some}
 use Rattle.bvh2_tables.proofs.Prepared.{work_length, work_holds}
 use Rattle.bvh2_to_cwbvh.specs.Conversion.{Convertible}
-
-pub record_size_lem : (n : ℕ) → 0 < n → record_size n ≡ 80 * max 1 (n - 1)
-unfolding record_size
-record_size_lem zero h = absurd (omega arith)
-record_size_lem (suc k) h = omega arith
 
 module _ (c : Call) (ds₁ : List ℕ) (some : 0 < leaf_count c) (parts : Convertible c)
     (filled : ds₁ ≡ work_after 0 (word_of c.limit) c.words (leaf_count c) 0 c.decisions) where
@@ -46,7 +42,7 @@ module _ (c : Call) (ds₁ : List ℕ) (some : 0 < leaf_count c) (parts : Conver
       let m = node-count c.ordered c.limit c.words (leaf_count c) tree parts.small in
       let f = tree.few in
       let b = parts.bytes in
-      let s = record_size_lem (leaf_count c) some in
+      let s = size_some (leaf_count c) some in
       record {
         at = record { tree = root c.words (leaf_count c) tree; room = room; limit = c.limit; small = parts.small; holds = holds };
         record_room = omega arith;

@@ -5,17 +5,18 @@ ghost use Rattle.std.specs.Prelude.{◌≡◌};
 ghost use Rattle.bvh2_to_cwbvh.specs.Conversion.{conversion_of};
 ghost use Rattle.bvh2_to_cwbvh.specs.Answer.{outcome_of};
 
-// How a conversion ends: with a record of so many nodes and its deepest level, or refused for the cause of this number.
-#[derive(Clone, Copy)]
-pub enum Conversion {
-    Converted(u32, u32),
-    Refused(u32),
+use causes::Refusal;
+
+// A record that was written: how many nodes it has, and its deepest level.
+#[derive(Clone, Copy, Debug, PartialEq, Eq)]
+pub struct Converted {
+    pub nodes: u32,
+    pub level: u32,
 }
 
 // Converts the tree of `words`, whose leaves hold positions of `indices`, to a record and an index list. `limit` is the most leaves of a leaf child,
-// up to 3;
-// `ordered` says whether children take the slots that suit the directions of rays. The tables of the tree's decisions and costs are left in the
-// working slices.
+// up to 3; `ordered` says whether children take the slots that suit the directions of rays. The tables of the tree's decisions and costs are left in
+// the working slices.
 pub fn bvh2_to_cwbvh(
     words: &[u32],
     indices: &[u32],
@@ -25,7 +26,7 @@ pub fn bvh2_to_cwbvh(
     costs: &mut [f32],
     record: &mut [u8],
     list: &mut [u32],
-) -> Conversion
+) -> Result<Converted, Refusal>
     ensures { outcome_of result decisions.new costs.new «record».new list.new ≡ conversion_of (record {
       words = words.entry.now;
       indices = indices.now;
@@ -38,23 +39,20 @@ pub fn bvh2_to_cwbvh(
     }) }
 {
     let n = indices.len();
-    let cause = bvh2_tables::prepare(words, n, limit, record.len(), list.len(), decisions, costs);
-    if cause != 0 {
-        return Conversion::Refused(cause);
-    }
+    bvh2_tables::prepare(words, n, limit, record.len(), list.len(), decisions, costs)?;
     let empty = n == 0;
     if empty {
-        return Conversion::Converted(0, 0);
+        return Ok(Converted { nodes: 0, level: 0 });
     }
     let deepest = wide_level::deepest_level(words, decisions);
     let deep = deepest > 31;
     if deep {
-        let k = (2 * n - 1) * 7;
-        words::clear(&mut decisions[..k]);
-        bvh2_tables::clear_costs(costs, k);
-        return Conversion::Refused(8);
+        bvh2_tables::clear_tables(n, decisions, costs);
+        return Err(Refusal::TooDeep);
     }
     let written = emit_tree::emit(words, indices, decisions, record, list, ordered);
-    let m = written.nodes as u32;
-    Conversion::Converted(m, deepest)
+    Ok(Converted {
+        nodes: written.nodes as u32,
+        level: deepest,
+    })
 }

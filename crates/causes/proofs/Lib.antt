@@ -1,3 +1,4 @@
 pub mod Causes
 pub mod First
+pub mod Refusals
 pub mod Sizes

@@ -1,2 +1,3 @@
 pub mod Causes
+pub mod Refusal
 pub mod Sizes

@@ -12,29 +12,17 @@ use Rattle.lists.proofs.Tells.{Tells, passes, fails, ltb_tells}
 use Rattle.causes.specs.Sizes.{record_cause}
 use Rattle.causes.proofs.Sizes.{none_record}
 use Rattle.words.specs.Le.{le_at}
-use Rattle.show.specs.Show.{sound_text, unsound_text, refusal_text}
+use Rattle.show.specs.Show.{refusal_text}
 use Rattle.record_shape.specs.Check.{refused, cause_of, soundness_of, check_of}
 use Rattle.record_shape.proofs.Check.{cause_sizes, cause_none}
-use Rattle.validate.specs.declared.Validity.{Validity}
-use Rattle.validate.specs.declared.Validity.TheVariants.{Sound, Unsound, Refused}
+use Rattle.std.specs.Prelude.{Result, Option}
+use Rattle.causes.specs.declared.Refusal.{Refusal}
 use Rattle.validate.specs.Validity.{verdict_of}
 use Rattle.check_text.specs.CheckText.{all_words, answer_text, answer_at, check_text}
 
 -- what was written is the text, and r is its length
 abbrev pub Wrote : List ℕ → List ℕ → ℕ → List ℕ → Type 0
 Wrote s text r t = (r ≡ length text) × (t ≡ splice s 0 text)
-
-pub wrote_sound : (v : Validity) (l r : ℕ) (s t : List ℕ) → v ≡ Sound l → Wrote s (sound_text l) r t → Wrote s (answer_text (verdict_of v)) r t
-unfolding answer_text verdict_of
-wrote_sound v l r s t e h = rw e h
-
-pub wrote_unsound : (v : Validity) (r : ℕ) (s t : List ℕ) → v ≡ Unsound → Wrote s unsound_text r t → Wrote s (answer_text (verdict_of v)) r t
-unfolding answer_text verdict_of
-wrote_unsound v r s t e h = rw e h
-
-pub wrote_refused : (v : Validity) (c r : ℕ) (s t : List ℕ) → v ≡ Refused c → Wrote s (refusal_text c) r t → Wrote s (answer_text (verdict_of v)) r t
-unfolding answer_text verdict_of
-wrote_refused v c r s t e h = rw e h
 
 -- input that ends within the word
 pub wrote_short : (input : List ℕ) (r : ℕ) (s t : List ℕ) → length input < 4 → Wrote s (refusal_text 1) r t → Wrote s (check_text input) r t
@@ -60,7 +48,8 @@ enough long n words h = go (record_cause long n) refl
 behind : (input : List ℕ) → take (length input - 4) (drop 4 input) ≡ drop 4 input
 behind input = rw (← length-drop 4 input) (take-length (drop 4 input))
 
-pub wrote_checked : (input : List ℕ) (n words r : ℕ) (s t : List ℕ) (v : Validity) → 4 ≤ length input → n ≡ le_at 4 input 0 → all_words ≤ words
+pub wrote_checked : (input : List ℕ) (n words r : ℕ) (s t : List ℕ) (v : Result (Option ℕ) Refusal)
+    → 4 ≤ length input → n ≡ le_at 4 input 0 → all_words ≤ words
     → verdict_of v ≡ check_of (take (length input - 4) (drop 4 input)) n words → Wrote s (answer_text (verdict_of v)) r t
     → Wrote s (check_text input) r t
 unfolding check_text answer_at check_of

@@ -40,6 +40,7 @@ pub fn read_full<R: Read>(input: &mut R, bytes: &mut [u8]) -> io::Result<usize>
     ensures end { IfOk result (λ n. n < length bytes.new → IsAtEnd (R.remaining input.new)) }
 {
     let mut held = 0;
+    // not a `for`: how far it goes on is what a read says
     while held < bytes.len() {
         let more = input.read(&mut bytes[held..])?;
         if more == 0 {
@@ -62,15 +63,12 @@ fn read_input<R: Read>(input: &mut R, bytes: &mut [u8]) -> io::Result<usize>
         return Ok(held);
     }
     let mut space = [0u8; 65536];
-    let rest: &mut [u8] = &mut space;
-    let mut reads: u64 = 0;
-    while reads < MOST_READS {
-        let more = read_full(input, rest)?;
+    for _ in 0..MOST_READS {
+        let more = read_full(input, &mut space)?;
         if more == 0 {
             return Ok(held);
         }
         held = held_length(held, more);
-        reads += 1;
     }
     Err(Error::from(ErrorKind::FileTooLarge))
 }

@@ -8,25 +8,20 @@ ghost use Rattle.lists.specs.Splice.{splice};
 ghost use Rattle.validate.specs.Validity.{verdict_of};
 ghost use Rattle.check_text.specs.CheckText.{all_words, answer_text, check_text};
 
+use causes::Refusal;
 pub use input::{answer, read_full};
-use validate::Validity;
 
 // Writes an answer.
-fn put_answer(v: Validity, out: &mut [u8]) -> usize
+#[tactic(auto, unfolding(crate::specs::CheckText::answer_text, validate::specs::Validity::verdict_of))]
+fn put_answer(verdict: Result<Option<u32>, Refusal>, out: &mut [u8]) -> usize
     requires { 19 ≤ length out.old }
-    ensures value { result ≡ length (answer_text (verdict_of v)) }
-    ensures out_after { out.new ≡ splice out.old 0 (answer_text (verdict_of v)) }
+    ensures value { result ≡ length (answer_text (verdict_of verdict)) }
+    ensures out_after { out.new ≡ splice out.old 0 (answer_text (verdict_of verdict)) }
 {
-    match v {
-        Validity::Sound(level) => {
-            return show::print_sound(level, out);
-        }
-        Validity::Unsound => {
-            return show::print_unsound(out);
-        }
-        Validity::Refused(number) => {
-            return show::print_refusal(number, out);
-        }
+    match verdict {
+        Ok(Some(level)) => show::print_sound(level, out),
+        Ok(None) => show::print_unsound(out),
+        Err(refusal) => show::print_refusal(refusal, out),
     }
 }
 
@@ -37,9 +32,9 @@ fn check_text(input: &[u8], work: &mut [u32], out: &mut [u8]) -> usize
     ensures out_after { out.new ≡ splice out.old 0 (check_text input.now) }
 {
     if input.len() < 4 {
-        return show::print_refusal(1, out);
+        return show::print_refusal(Refusal::LengthUnfit, out);
     }
     let n = words::load_u32(input, 0);
-    let v = validate::validate(&input[4..], n as usize, work);
-    put_answer(v, out)
+    let verdict = validate::validate(&input[4..], n as usize, work);
+    put_answer(verdict, out)
 }

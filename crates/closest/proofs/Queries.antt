@@ -9,6 +9,9 @@ use native.Mathlib.Decide.{dec_lt}
 use native.Mathlib.Omega.{arith}
 use lib.Ieee.{Float}
 use lib.ListN.{length, get_or}
+use Rattle.std.specs.Prelude as P
+use Rattle.causes.specs.declared.Refusal.{Refusal as Cause}
+use Rattle.causes.specs.Refusal.{cause_number}
 use Rattle.ray.specs.declared.Ray.{Ray}
 use Rattle.ray.specs.Ray.{reaching, counts}
 use Rattle.walk.specs.Step as Step
@@ -34,8 +37,6 @@ use Rattle.query.proofs.Leads.{Leads, Goes, Sought, leads_past, leads_stops, lea
 use Rattle.query.proofs.Begins.{steady}
 use Rattle.closest.specs.declared.ClosestHit.{ClosestHit}
 use Rattle.closest.specs.declared.ClosestHit.TheVariants.{Hit, NoHit, Refused}
-use Rattle.closest.specs.declared.Met.{Met}
-use Rattle.closest.specs.declared.Met.TheVariants.{At, Faulty}
 use Rattle.closest.proofs.Panes.{position_there, position_past}
 use Rattle.closest.specs.Panes.{pane_met, position_met, pane_of, nearer, pane_of_met}
 use Rattle.closest.specs.Panes.{ClosestAnswer, blocked, refused_closest, refused_miss, closest_found, miss_found, closest_answer}
@@ -62,19 +63,19 @@ module _ {A : Type 0} (refuse : ℕ → A) (found : Found Float → ℕ → Resu
 abbrev pub found_by : ClosestHit → Found Float
 found_by (Hit p t) = hit p t
 found_by NoHit = none
-found_by (Refused k) = fault k
+found_by (Refused f) = fault (cause_number f)
 
 abbrev pub Held : ClosestHit → Type 0
 Held (Hit p t) = Unit {0}
 Held NoHit = Unit {0}
-Held (Refused k) = ⊥
+Held (Refused f) = ⊥
 
 pub closest_held : (answer : ClosestHit) (tests : ℕ) → Held answer
     → ◌≡◌ {A = Result ClosestAnswer} (record { answer = closest_answer answer; tests = tests }) (closest_found (found_by answer) tests)
 unfolding closest_answer closest_found
 closest_held (Hit p t) tests h = refl
 closest_held NoHit tests h = refl
-closest_held (Refused k) tests h = absurd h
+closest_held (Refused f) tests h = absurd h
 
 -- ---- how they react to a position, by its pane
 
@@ -125,6 +126,10 @@ pub record Setting : Type 0 where
   pub sized : RecordSized bytes (length indices)
   pub fit : FieldsFit bytes
 
+abbrev pub setting_of : (bytes indices : List ℕ) (panes : List Float) (octant : ℕ) → RecordSized bytes (length indices) → FieldsFit bytes → Setting
+setting_of bytes indices panes octant sized fit =
+    record { bytes = bytes; indices = indices; panes = panes; octant = octant; sized = sized; fit = fit }
+
 module _ (S : Setting) where
   -- closest and miss at a position of it
   abbrev pub closest_in : Reacts
@@ -145,17 +150,20 @@ module _ (S : Setting) where
 
 -- ---- at a position in hand
 
--- position p is the first in hand, it is met so, and `left` are the others
+-- a pane as it was met, or why it is refused
+abbrev pub Met : Type 0
+Met = P.Result Float Cause
+
+-- position p is the first in hand, and it is met so
 pub record AtPosition (S : Setting) (react : Reacts) (goal : Ends) (ray : Ray) (v : Walk) (stack : List ℕ) (x : Found Float)
-    (p : ℕ) (met : Met) (left : Group) : Type 0 where
+    (p : ℕ) (met : Met) : Type 0 where
   pub leads : LeadsIn S react goal ray v stack x
   pub held : 0 < v.positions.bits
   pub named : p ≡ first_position (group_of v.positions)
   pub pane : pane_of_met met ≡ position_met S.indices S.panes p ray
-  pub rest : group_of left ≡ rest_of (group_of v.positions)
 
-module _ {S : Setting} {react : Reacts} {goal : Ends} {ray : Ray} {v : Walk} {stack : List ℕ} {x : Found Float} {p : ℕ} {met : Met} {left : Group}
-    (P : AtPosition S react goal ray v stack x p met left) where
+module _ {S : Setting} {react : Reacts} {goal : Ends} {ray : Ray} {v : Walk} {stack : List ℕ} {x : Found Float} {p : ℕ} {met : Met}
+    (A : AtPosition S react goal ray v stack x p met) where
   abbrev bytes : List ℕ
   bytes = S.bytes
 
@@ -177,97 +185,102 @@ module _ {S : Setting} {react : Reacts} {goal : Ends} {ray : Ray} {v : Walk} {st
   abbrev beam : WalkRay
   beam = record { ray = ray; octant = S.octant }
 
-  -- the walk after its report
-  abbrev pub reported : Walk
-  reported = record { tests = v.tests; positions = left; current = v.current; depth = v.depth }
+  -- the walk after its report, where `left` are the others
+  abbrev pub reported : Group → Walk
+  reported left = record { tests = v.tests; positions = left; current = v.current; depth = v.depth }
 
   -- a position met at a distance is there
-  pub at_there : (t : Float) → met ≡ At t → (p < n) × (pane_of indices panes p beam ≡ distance t)
+  pub at_there : (t : Float) → met ≡ P.Ok t → (p < n) × (pane_of indices panes p beam ≡ distance t)
   unfolding pane_of pane_of_met
   at_there t q = go (dec_lt p n)
     where
       go : Dec (p < n) → (p < n) × (pane_met panes (get_or indices p 0) ray ≡ distance t)
-      go (yes h) = (h, sym (position_there indices panes p ray h) ∙ sym P.pane ∙ ap pane_of_met q)
+      go (yes h) = (h, sym (position_there indices panes p ray h) ∙ sym A.pane ∙ ap pane_of_met q)
       go (no h) =
-          let e : distance t ≡ faulty 10 = sym (ap pane_of_met q) ∙ P.pane ∙ position_past indices panes p ray (omega arith) in
+          let e : distance t ≡ faulty 10 = sym (ap pane_of_met q) ∙ A.pane ∙ position_past indices panes p ray (omega arith) in
           let z : ◌≡◌ {A = ℕ} 0 1 = cc in absurd (omega arith)
 
   -- one that is refused has a pane at fault, or is not there
-  refused_where : (k : ℕ) → met ≡ Faulty k → ((p < n) × (pane_of indices panes p beam ≡ faulty k)) ⊎ ((n ≤ p) × (k ≡ 10))
+  refused_where : (f : Cause) → met ≡ P.Err f
+      → ((p < n) × (pane_of indices panes p beam ≡ faulty (cause_number f))) ⊎ ((n ≤ p) × (cause_number f ≡ 10))
   unfolding pane_of pane_of_met
-  refused_where k q = go (dec_lt p n)
+  refused_where f q = go (dec_lt p n)
     where
-      go : Dec (p < n) → ((p < n) × (pane_met panes (get_or indices p 0) ray ≡ faulty k)) ⊎ ((n ≤ p) × (k ≡ 10))
-      go (yes h) = inl (h, sym (position_there indices panes p ray h) ∙ sym P.pane ∙ ap pane_of_met q)
+      go : Dec (p < n) → ((p < n) × (pane_met panes (get_or indices p 0) ray ≡ faulty (cause_number f))) ⊎ ((n ≤ p) × (cause_number f ≡ 10))
+      go (yes h) = inl (h, sym (position_there indices panes p ray h) ∙ sym A.pane ∙ ap pane_of_met q)
       go (no h) =
           let past : n ≤ p = omega arith in
-          let e : faulty k ≡ faulty 10 = sym (ap pane_of_met q) ∙ P.pane ∙ position_past indices panes p ray past in
+          let e : faulty (cause_number f) ≡ faulty 10 = sym (ap pane_of_met q) ∙ A.pane ∙ position_past indices panes p ray past in
           inr (past, cc)
 
   stops : {y : Found Float} {ds : List Float} → p < n → react p beam x ≡ record { accumulator = y; tells = ds; stop = true }
       → record { walker = told_all_words N ds (after_report_words w).walker; accumulator = y; ended = Step.position p } ≡ goal
-  stops there q = leads_stops (steady bytes n S.sized S.fit) P.leads refl refl P.held p P.named there q
+  stops there q = leads_stops (steady bytes n S.sized S.fit) A.leads refl refl A.held p A.named there q
 
-  goes : {y : Found Float} {ds : List Float} → p < n → react p beam x ≡ record { accumulator = y; tells = ds; stop = false }
-      → Goes (node_count bytes) N n react goal w (told_all_words N ds (walker_of ray S.octant reported stack)) y
-  goes {y = y} {ds = ds} there q =
+  goes : {y : Found Float} {ds : List Float} (left : Group) → group_of left ≡ rest_of (group_of v.positions) → p < n
+      → react p beam x ≡ record { accumulator = y; tells = ds; stop = false }
+      → Goes (node_count bytes) N n react goal w (told_all_words N ds (walker_of ray S.octant (reported left) stack)) y
+  goes {y = y} {ds = ds} left rest there q =
       subst
       (λ (g : W.Group). Goes (node_count bytes) N n react goal w
       (told_all_words N ds
       (record { ray = beam; tests = v.tests; positions = g; current = group_of v.current; depth = v.depth; stack = stack })) y)
-      (sym P.rest) (leads_on (steady bytes n S.sized S.fit) P.leads refl refl P.held p P.named there q)
+      (sym rest) (leads_on (steady bytes n S.sized S.fit) A.leads refl refl A.held p A.named there q)
 
   -- what refuses a position refuses the query
   fails : {A : Type 0} (refuse : ℕ → A) (found : Found Float → ℕ → Result A)
       → ((k tests : ℕ) → record { answer = refuse k; tests = 0 } ≡ found (fault k) tests)
       → ((k : ℕ) → pane_of indices panes p beam ≡ faulty k → react p beam x ≡ record { accumulator = fault k; tells = []; stop = true })
-      → (k : ℕ) → met ≡ Faulty k → record { answer = refuse k; tests = 0 } ≡ walked refuse found goal goal.ended
-  fails refuse found refuses reacts k q = go (refused_where k q)
+      → (f : Cause) → met ≡ P.Err f → record { answer = refuse (cause_number f); tests = 0 } ≡ walked refuse found goal goal.ended
+  fails refuse found refuses reacts f q = go (refused_where f q)
     where
-      go : ((p < n) × (pane_of indices panes p beam ≡ faulty k)) ⊎ ((n ≤ p) × (k ≡ 10))
-          → record { answer = refuse k; tests = 0 } ≡ walked refuse found goal goal.ended
-      go (inl h) = refuses k _ ∙ ends_stopped refuse found (stops h.0 (reacts k h.1))
+      go : ((p < n) × (pane_of indices panes p beam ≡ faulty (cause_number f))) ⊎ ((n ≤ p) × (cause_number f ≡ 10))
+          → record { answer = refuse (cause_number f); tests = 0 } ≡ walked refuse found goal goal.ended
+      go (inl h) = refuses (cause_number f) _ ∙ ends_stopped refuse found (stops h.0 (reacts (cause_number f) h.1))
       go (inr h) =
           ap (λ (j : ℕ). record { answer = refuse j; tests = 0 }) h.1
-          ∙ ends_refused refuse found (leads_past (steady bytes n S.sized S.fit) P.leads refl refl P.held p P.named h.0)
+          ∙ ends_refused refuse found (leads_past (steady bytes n S.sized S.fit) A.leads refl refl A.held p A.named h.0)
 
-module _ {S : Setting} {goal : Ends} {ray : Ray} {v : Walk} {stack : List ℕ} {x : Found Float} {p : ℕ} {met : Met} {left : Group} where
-  module _ (P : AtPosition S (closest_in S) goal ray v stack x p met left) where
+module _ {S : Setting} {goal : Ends} {ray : Ray} {v : Walk} {stack : List ℕ} {x : Found Float} {p : ℕ} {met : Met} where
+  module _ (A : AtPosition S (closest_in S) goal ray v stack x p met) where
     -- what refuses a position refuses closest
-    pub closest_fails : (k : ℕ) → met ≡ Faulty k → record { answer = refused_closest k; tests = 0 }
+    pub closest_fails : (f : Cause) → met ≡ P.Err f → record { answer = refused_closest (cause_number f); tests = 0 }
         ≡ walked refused_closest closest_found goal goal.ended
     unfolding closest_found
-    closest_fails = fails P refused_closest closest_found (λ k t. refl) (closest_faulty S.indices S.panes p (beam P) x)
+    closest_fails = fails A refused_closest closest_found (λ k t. refl) (closest_faulty S.indices S.panes p (beam A) x)
 
-    -- a distance that counts is noted and becomes the reach
-    pub closest_lowers : (d : Float) → met ≡ At d → counts ray d ≡ true
-        → GoesIn S (closest_in S) goal ray v stack (reaching d ray) (reported P) stack (hit p d)
-    closest_lowers d f h =
-        let t = at_there P d f in
-        subst (λ (c : Bool). GoesIn S (closest_in S) goal ray v stack (cond c (reaching d ray) ray) (reported P) stack (hit p d)) h
-        (goes P t.0 (closest_at S.indices S.panes p (beam P) x d t.1 true h))
+    module _ (left : Group) (rest : group_of left ≡ rest_of (group_of v.positions)) (d : Float) (f : met ≡ P.Ok d) where
+      -- a distance that counts is noted and becomes the reach
+      pub closest_lowers : counts ray d ≡ true → GoesIn S (closest_in S) goal ray v stack (reaching d ray) (reported A left) stack (hit p d)
+      closest_lowers h =
+          let t = at_there A d f in
+          subst (λ (c : Bool). GoesIn S (closest_in S) goal ray v stack (cond c (reaching d ray) ray) (reported A left) stack (hit p d)) h
+          (goes A left rest t.0 (closest_at S.indices S.panes p (beam A) x d t.1 true h))
 
-    -- any other changes nothing
-    pub closest_passes : (d : Float) → met ≡ At d → counts ray d ≡ false → GoesIn S (closest_in S) goal ray v stack ray (reported P) stack x
-    closest_passes d f h = let t = at_there P d f in goes P t.0 (closest_at S.indices S.panes p (beam P) x d t.1 false h)
+      -- any other changes nothing
+      pub closest_passes : counts ray d ≡ false → GoesIn S (closest_in S) goal ray v stack ray (reported A left) stack x
+      closest_passes h = let t = at_there A d f in goes A left rest t.0 (closest_at S.indices S.panes p (beam A) x d t.1 false h)
 
-  module _ (P : AtPosition S (miss_in S) goal ray v stack x p met left) where
+  module _ (A : AtPosition S (miss_in S) goal ray v stack x p met) where
     -- what refuses a position refuses miss
-    pub miss_fails : (k : ℕ) → met ≡ Faulty k → record { answer = refused_miss k; tests = 0 } ≡ walked refused_miss miss_found goal goal.ended
+    pub miss_fails : (f : Cause) → met ≡ P.Err f → record { answer = refused_miss (cause_number f); tests = 0 }
+        ≡ walked refused_miss miss_found goal goal.ended
     unfolding miss_found
-    miss_fails = fails P refused_miss miss_found (λ k t. refl) (miss_faulty S.indices S.panes p (beam P) x)
+    miss_fails = fails A refused_miss miss_found (λ k t. refl) (miss_faulty S.indices S.panes p (beam A) x)
 
     -- a distance that counts ends it
-    pub miss_blocks : (d : Float) → met ≡ At d → counts ray d ≡ true
+    pub miss_blocks : (d : Float) → met ≡ P.Ok d → counts ray d ≡ true
         → record { answer = blocked; tests = v.tests } ≡ walked refused_miss miss_found goal goal.ended
     unfolding miss_found
     miss_blocks d f h =
-        let t = at_there P d f in
-        ends_stopped refused_miss miss_found (stops P t.0 (miss_at S.indices S.panes p (beam P) x d t.1 true h))
+        let t = at_there A d f in
+        ends_stopped refused_miss miss_found (stops A t.0 (miss_at S.indices S.panes p (beam A) x d t.1 true h))
 
     -- any other changes nothing
-    pub miss_passes : (d : Float) → met ≡ At d → counts ray d ≡ false → GoesIn S (miss_in S) goal ray v stack ray (reported P) stack x
-    miss_passes d f h = let t = at_there P d f in goes P t.0 (miss_at S.indices S.panes p (beam P) x d t.1 false h)
+    pub miss_passes : (left : Group) → group_of left ≡ rest_of (group_of v.positions) → (d : Float) → met ≡ P.Ok d → counts ray d ≡ false
+        → GoesIn S (miss_in S) goal ray v stack ray (reported A left) stack x
+    miss_passes left rest d f h =
+        let t = at_there A d f in goes A left rest t.0 (miss_at S.indices S.panes p (beam A) x d t.1 false h)
 
 -- ---- after a search
 
@@ -318,10 +331,10 @@ module _ {S : Setting} {react : Reacts} {goal : Ends} {ray : Ray} {v : Walk} {st
   unfolding step_answer
   search_done e = sought Done e
 
-  pub search_refused : (k : ℕ) → t.answer ≡ AnswerRefused k
-      → record { walker = walker_of ray S.octant t.walk stack₁; accumulator = x; ended = Step.refused k } ≡ goal
+  pub search_refused : (f : Cause) → t.answer ≡ AnswerRefused f
+      → record { walker = walker_of ray S.octant t.walk stack₁; accumulator = x; ended = Step.refused (cause_number f) } ≡ goal
   unfolding step_answer
-  search_refused k e = sought (AnswerRefused k) e
+  search_refused f e = sought (AnswerRefused f) e
 
   pub search_no_position : (q : ℕ) → t.answer ≡ Position q → ⊥
   unfolding step_answer

@@ -2,14 +2,17 @@
 use mathlib.Core.Bool.{false, true}
 use mathlib.Core.List.{List}
 use mathlib.Core.Path.{◌≡◌, sym, ap, ◌∙◌, subst}
-use Prim.Native.Nat.{ℕ, ◌≤◌, ◌<◌, ◌%◌}
+use Prim.Native.Nat.{ℕ, ◌%◌}
 use native.Mathlib.Omega.{arith}
 use lib.Dec.{eqb}
 use lib.Ieee.{Float}
 use lib.ListN.{length}
-use Rattle.ray.specs.declared.Vec3.{Vec3}
+use Rattle.causes.specs.declared.Refusal.{Refusal}
+use Rattle.causes.specs.Refusal.{cause_number}
+use Rattle.causes.proofs.Refusals.{some_number}
+use Rattle.ray.specs.declared.Beam.{Beam}
 use Rattle.ray.specs.declared.Ray.{Ray}
-use Rattle.ray.specs.Ray.{ray_of, accepted_ray}
+use Rattle.ray.specs.Ray.{ray_from, accepted_ray}
 use Rattle.walk.specs.Queries.{Found, none}
 use Rattle.walk_record.specs.WalkRay.{walk_ray, forged_ray, by_boxes}
 use Rattle.walk_record.specs.Record.{FieldsFit}
@@ -23,21 +26,20 @@ use Rattle.query.specs.Result.{Result, walked, entered}
 use Rattle.closest.specs.Panes.{pane_cause}
 use Rattle.closest.proofs.Queries.{Reacts}
 
--- the ray that the code makes of its arguments, and the cause that it finds
-pub record Starting (bytes indices : List ℕ) (panes : List Float) (o d : Vec3) (near far : Float) (ray : Ray) (cause : ℕ) : Type 0 where
-  pub ray_is : ray ≡ ray_of o d near far
+-- the ray that the code makes of what is asked, and the number of the cause that it finds, 0 for none
+pub record Starting (bytes indices : List ℕ) (panes : List Float) (b : Beam) (ray : Ray) (cause : ℕ) : Type 0 where
+  pub ray_is : ray ≡ ray_from b
   pub cause_is : cause ≡ pane_cause bytes indices panes ray
 
-module _ {bytes indices : List ℕ} {panes : List Float} {o d : Vec3} {near far : Float} {ray : Ray} {cause : ℕ}
-    (s : Starting bytes indices panes o d near far ray cause) where
-  module _ (h : cause ≤ 0) where
+module _ {bytes indices : List ℕ} {panes : List Float} {b : Beam} {ray : Ray} {cause : ℕ} (s : Starting bytes indices panes b ray cause) where
+  module _ (none : cause ≡ 0) where
     holds : Entry.Entered (eqb (length panes % 6) 0) (length bytes) (length indices) 0 ray
-    holds = Entry.entered _ _ _ _ _ (sym s.cause_is ∙ omega arith)
+    holds = Entry.entered _ _ _ _ _ (sym s.cause_is ∙ none)
 
     accepted : forged_ray (walk_ray ray) ≡ false
     accepted =
         subst (λ (r : Ray). forged_ray (walk_ray r) ≡ false) (sym s.ray_is)
-        (begun_accepted o d near far (subst (λ (r : Ray). accepted_ray r ≡ true) s.ray_is holds.accepted))
+        (begun_accepted b.origin b.direction b.tmin b.tmax (subst (λ (r : Ray). accepted_ray r ≡ true) s.ray_is holds.accepted))
 
     -- without a cause the walk may begin where there are nodes
     pub start_ready : (length bytes ≡ 0 → ⊥) → RecordSized bytes (length indices) × (forged_ray (walk_ray ray) ≡ false)
@@ -56,15 +58,17 @@ module _ {bytes indices : List ℕ} {panes : List Float} {o d : Vec3} {near far 
     asked r = entered refuse (pane_cause bytes indices panes r) (walk_by r)
 
     -- a cause found on entry is the answer,
-    pub start_refused : 0 < cause → record { answer = refuse cause; tests = 0 } ≡ asked (ray_of o d near far)
-    start_refused h = by_cause refuse cause (pane_cause bytes indices panes ray) (walk_by ray) s.cause_is h ∙ ap asked s.ray_is
+    pub start_refused : (f : Refusal) → cause ≡ cause_number f → record { answer = refuse (cause_number f); tests = 0 } ≡ asked (ray_from b)
+    start_refused f e =
+        by_cause refuse (cause_number f) (pane_cause bytes indices panes ray) (walk_by ray) (sym e ∙ s.cause_is) (omega (arith, some_number f))
+        ∙ ap asked s.ray_is
 
     -- without one the walk's is,
-    pub start_walked : cause ≤ 0 → walk_by ray ≡ asked (ray_of o d near far)
-    start_walked h = without_cause refuse cause (pane_cause bytes indices panes ray) (walk_by ray) s.cause_is h ∙ ap asked s.ray_is
+    pub start_walked : cause ≡ 0 → walk_by ray ≡ asked (ray_from b)
+    start_walked z = without_cause refuse cause (pane_cause bytes indices panes ray) (walk_by ray) s.cause_is (omega (arith, z)) ∙ ap asked s.ray_is
 
     -- and where there are no nodes it is done
-    pub start_empty : cause ≤ 0 → length bytes ≡ 0 → FieldsFit bytes → found none 0 ≡ asked (ray_of o d near far)
+    pub start_empty : cause ≡ 0 → length bytes ≡ 0 → FieldsFit bytes → found none 0 ≡ asked (ray_from b)
     unfolding walked
     start_empty h z fit =
         let q = query_empty bytes (length indices) fit react none ray (accepted h) (omega arith) (holds h).sizes.few in

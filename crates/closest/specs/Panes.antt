@@ -1,6 +1,9 @@
 -- Closest and miss (01, "Walking"; "Causes of refusal", 6 and 10; 02, [1]): a walk over panes that are boxes of six floats, a position's pane being
 -- the one that its index word names.
 use Rattle.std.specs.Prelude.{Bool, cond, List, ℕ, ◌/◌, ◌%◌, eqb, ltb, length, get_or, Float}
+use Rattle.std.specs.Prelude as P
+use Rattle.causes.specs.declared.Refusal.{Refusal}
+use Rattle.causes.specs.Refusal.{cause_number}
 use Rattle.ray.specs.declared.Ray.{Ray}
 use Rattle.ray.specs.Ray.{counts}
 use Rattle.aabb.specs.Aabb.{accepted_box, entry_distance}
@@ -18,8 +21,6 @@ use Rattle.closest.specs.declared.Occlusion.{Occlusion}
 use Rattle.closest.specs.declared.Occlusion.TheVariants as M
 use Rattle.closest.specs.declared.ClosestFound.{ClosestFound}
 use Rattle.closest.specs.declared.MissFound.{MissFound}
-use Rattle.closest.specs.declared.Met.{Met}
-use Rattle.closest.specs.declared.Met.TheVariants as P
 
 -- ---- panes
 
@@ -104,21 +105,28 @@ module _ (bytes indices : List ℕ) (panes : List Float) (r : Ray) where
 unfoldable pub closest_answer : ClosestHit → ClosestAnswer
 closest_answer (C.Hit p t) = hit_at p t
 closest_answer C.NoHit = no_hit
-closest_answer (C.Refused k) = refused_closest k
+closest_answer (C.Refused refusal) = refused_closest (cause_number refusal)
 
 unfoldable pub miss_answer : Occlusion → MissAnswer
 miss_answer M.Missed = missed
 miss_answer M.Blocked = blocked
-miss_answer (M.Refused k) = refused_miss k
 
 -- the results with their tests
 abbrev pub closest_result : ClosestFound → Result ClosestAnswer
 closest_result r = record { answer = closest_answer r.answer; tests = r.tests }
 
-abbrev pub miss_result : MissFound → Result MissAnswer
-miss_result r = record { answer = miss_answer r.answer; tests = r.tests }
+-- Internal: closest's answer, or why it is refused.
+unfoldable pub closest_given : P.Result ClosestFound Refusal → Result ClosestAnswer
+unfolding closest_answer
+closest_given (P.Ok found) = closest_result found
+closest_given (P.Err refusal) = unanswered (refused_closest (cause_number refusal))
+
+unfoldable pub miss_result : P.Result MissFound Refusal → Result MissAnswer
+unfolding miss_answer
+miss_result (P.Ok found) = record { answer = miss_answer found.answer; tests = found.tests }
+miss_result (P.Err refusal) = unanswered (refused_miss (cause_number refusal))
 
 -- a pane as it was met
-unfoldable pub pane_of_met : Met → Pane Float
-pane_of_met (P.At t) = distance t
-pane_of_met (P.Faulty k) = faulty k
+unfoldable pub pane_of_met : P.Result Float Refusal → Pane Float
+pane_of_met (P.Ok t) = distance t
+pane_of_met (P.Err refusal) = faulty (cause_number refusal)

@@ -2,32 +2,32 @@
 #![tactic(auto)]
 
 ghost use Rattle.std.specs.Prelude.{◌≡◌, false, length};
-ghost use Rattle.ray.specs.Ray.{ray_of};
+ghost use Rattle.ray.specs.Ray.{ray_from};
 ghost use Rattle.walk_record.specs.WalkRay.{walk_ray, forged_ray};
 ghost use Rattle.query.specs.Walk.{RecordSized};
 ghost use Rattle.closest.specs.Panes.{pane_met, position_met, pane_of_met, closest_walked, miss_walked};
-ghost use Rattle.closest.specs.Panes.{closest_of, miss_of, closest_result, miss_result};
+ghost use Rattle.closest.specs.Panes.{closest_of, miss_of, closest_given, closest_result, miss_result};
 
 use advance::{Answer, Walk};
-use ray::{Ray, Vec3};
+use causes::Refusal;
+use ray::{Beam, Ray};
 
 // More tests than any walk makes.
 const MOST: u32 = 0xffff_ffff;
 
-// How closest ends: the position that is hit and how far off, nothing hit, or refused for the cause of this number.
+// How closest ends: the position that is hit and how far off, nothing hit, or refused; the requirements name these cases.
 #[derive(Clone, Copy)]
 pub enum ClosestHit {
     Hit(u32, f32),
     NoHit,
-    Refused(u32),
+    Refused(Refusal),
 }
 
-// How miss ends: no pane's distance counts, or one does, or refused for the cause of this number.
-#[derive(Clone, Copy)]
+// How miss ends: no pane's distance counts, or one does.
+#[derive(Clone, Copy, Debug, PartialEq, Eq)]
 pub enum Occlusion {
     Missed,
     Blocked,
-    Refused(u32),
 }
 
 // Closest's answer with its node tests, 0 beside a refusal.
@@ -37,56 +37,47 @@ pub struct ClosestFound {
     pub tests: u32,
 }
 
-// Miss's answer with its node tests, 0 beside a refusal.
-#[derive(Clone, Copy)]
+// Miss's answer with its node tests.
+#[derive(Clone, Copy, Debug, PartialEq, Eq)]
 pub struct MissFound {
     pub answer: Occlusion,
     pub tests: u32,
 }
 
-// A pane as a ray meets it: at a distance, or refused for the cause of this number.
-#[derive(Clone, Copy)]
-enum Met {
-    At(f32),
-    Faulty(u32),
-}
-
 // Pane k as a ray meets it: whether it is there comes before whether its box is accepted.
-fn pane_met(panes: &[f32], k: usize, ray: Ray) -> Met
+fn pane_met(panes: &[f32], k: usize, ray: Ray) -> Result<f32, Refusal>
     ensures { pane_of_met result ≡ pane_met panes.now k ray }
 {
     if k >= panes.len() / packed::BOX {
-        return Met::Faulty(10);
+        return Err(Refusal::Fault);
     }
     let bounds = packed::box_at(panes, k);
     if !bounds.accepted() {
-        return Met::Faulty(6);
+        return Err(Refusal::BoxRefused);
     }
-    Met::At(bounds.intersect_ray(ray))
+    Ok(bounds.intersect_ray(ray))
 }
 
 // Position p as a ray meets it: whether it is there comes before its pane.
-fn position_met(indices: &[u32], panes: &[f32], p: usize, ray: Ray) -> Met
+fn position_met(indices: &[u32], panes: &[f32], p: usize, ray: Ray) -> Result<f32, Refusal>
     ensures { pane_of_met result ≡ position_met indices.now panes.now p ray }
 {
     if p < indices.len() {
-        let k = indices[p];
-        return pane_met(panes, k as usize, ray);
+        pane_met(panes, indices[p] as usize, ray)
+    } else {
+        Err(Refusal::Fault)
     }
-    Met::Faulty(10)
-}
-
-fn refused_closest(cause: u32) -> ClosestFound
-    ensures { result ≡ record { answer = ClosestHit.Refused cause; tests = 0 } }
-{
-    let answer = ClosestHit::Refused(cause);
-    ClosestFound { answer, tests: 0 }
 }
 
 // Closest's walk over a record with nodes, where nothing refuses it on entry.
-fn walk_closest(bytes: &[u8], indices: &[u32], panes: &[f32], start: Ray) -> ClosestFound
+fn walk_closest(
+    bytes: &[u8],
+    indices: &[u32],
+    panes: &[f32],
+    start: Ray,
+) -> Result<ClosestFound, Refusal>
     requires { RecordSized bytes.now (length indices.now) × (forged_ray (walk_ray start) ≡ false) }
-    ensures { closest_result result ≡ closest_walked bytes.now indices.now panes.now start }
+    ensures { closest_given result ≡ closest_walked bytes.now indices.now panes.now start }
 {
     let n = indices.len();
     let octant = ray::octant(start.direction);
@@ -99,17 +90,12 @@ fn walk_closest(bytes: &[u8], indices: &[u32], panes: &[f32], start: Ray) -> Clo
         while walk.positions.bits > 0 {
             let held = walk.positions;
             let p = advance::first_position(held);
-            let met = position_met(indices, panes, p, ray);
+            let t = position_met(indices, panes, p, ray)?;
             let positions = advance::rest_of(held);
             walk = Walk { positions, ..walk };
-            match met {
-                Met::At(t) => {
-                    if ray.counts(t) {
-                        answer = ClosestHit::Hit(p as u32, t);
-                        ray = Ray { tmax: t, ..ray };
-                    }
-                }
-                Met::Faulty(cause) => return refused_closest(cause),
+            if ray.counts(t) {
+                answer = ClosestHit::Hit(p as u32, t);
+                ray = Ray { tmax: t, ..ray };
             }
         }
         let tests = walk.tests;
@@ -136,49 +122,49 @@ fn walk_closest(bytes: &[u8], indices: &[u32], panes: &[f32], start: Ray) -> Clo
             Answer::Tested(_) => walk = next,
             Answer::Done => {
                 let tests = next.tests;
-                return ClosestFound { answer, tests };
+                return Ok(ClosestFound { answer, tests });
             }
-            Answer::Refused(cause) => return refused_closest(cause),
-            Answer::Position(_) => return refused_closest(10),
+            Answer::Refused(refusal) => return Err(refusal),
+            Answer::Position(_) => return Err(Refusal::Fault),
         }
     }
 }
 
-// The first of the panes along a ray: of those that the walk reports, the nearest whose distance counts, the first met of equal ones.
-pub fn closest(
+// Closest's answer where it is not refused.
+fn nearest(
     record: &[u8],
     indices: &[u32],
     panes: &[f32],
-    origin: Vec3,
-    direction: Vec3,
-    tmin: f32,
-    tmax: f32,
-) -> ClosestFound
-    ensures { closest_result result ≡ closest_of «record».now indices.now panes.now
-        (ray_of origin direction tmin tmax) }
+    beam: Beam,
+) -> Result<ClosestFound, Refusal>
+    ensures { closest_given result ≡ closest_of «record».now indices.now panes.now (ray_from beam) }
 {
-    let ray = Ray::new(origin, direction, tmin, tmax);
+    let ray = Ray::new(beam);
     let fits = panes.len() % packed::BOX == 0;
-    let cause = query::entry_cause(fits, record.len(), indices.len(), 0, ray);
-    if cause > 0 {
-        return refused_closest(cause);
-    }
+    query::check_entry(fits, record.len(), indices.len(), Ok(()), ray)?;
     if record.len() == 0 {
         let answer = ClosestHit::NoHit;
-        return ClosestFound { answer, tests: 0 };
+        return Ok(ClosestFound { answer, tests: 0 });
     }
     walk_closest(record, indices, panes, ray)
 }
 
-fn refused_miss(cause: u32) -> MissFound
-    ensures { result ≡ record { answer = Occlusion.Refused cause; tests = 0 } }
+// The first of the panes along a ray: of those that the walk reports, the nearest whose distance counts, the first met of equal ones.
+pub fn closest(record: &[u8], indices: &[u32], panes: &[f32], beam: Beam) -> ClosestFound
+    ensures { closest_result result ≡ closest_of «record».now indices.now panes.now (ray_from beam) }
 {
-    let answer = Occlusion::Refused(cause);
-    MissFound { answer, tests: 0 }
+    match nearest(record, indices, panes, beam) {
+        Ok(found) => found,
+        Err(refusal) => ClosestFound {
+            answer: ClosestHit::Refused(refusal),
+            tests: 0,
+        },
+    }
 }
 
-// Miss's walk over a record with nodes, where nothing refuses it on entry: the first pane whose distance counts leaves both loops.
-fn walk_miss(bytes: &[u8], indices: &[u32], panes: &[f32], ray: Ray) -> MissFound
+// Miss's walk over a record with nodes, where nothing refuses it on entry: the first pane whose distance counts leaves both loops by one
+// labelled break, as the requirements ask.
+fn walk_miss(bytes: &[u8], indices: &[u32], panes: &[f32], ray: Ray) -> Result<MissFound, Refusal>
     requires { RecordSized bytes.now (length indices.now) × (forged_ray (walk_ray ray) ≡ false) }
     ensures { miss_result result ≡ miss_walked bytes.now indices.now panes.now ray }
 {
@@ -192,17 +178,12 @@ fn walk_miss(bytes: &[u8], indices: &[u32], panes: &[f32], ray: Ray) -> MissFoun
         while walk.positions.bits > 0 {
             let held = walk.positions;
             let p = advance::first_position(held);
-            let met = position_met(indices, panes, p, ray);
+            let distance = position_met(indices, panes, p, ray)?;
             let positions = advance::rest_of(held);
             walk = Walk { positions, ..walk };
-            match met {
-                Met::At(distance) => {
-                    if ray.counts(distance) {
-                        answer = Occlusion::Blocked;
-                        break 'walk;
-                    }
-                }
-                Met::Faulty(cause) => return refused_miss(cause),
+            if ray.counts(distance) {
+                answer = Occlusion::Blocked;
+                break 'walk;
             }
         }
         let tests = walk.tests;
@@ -231,35 +212,24 @@ fn walk_miss(bytes: &[u8], indices: &[u32], panes: &[f32], ray: Ray) -> MissFoun
                 walk = next;
                 break 'walk;
             }
-            Answer::Refused(cause) => return refused_miss(cause),
-            Answer::Position(_) => return refused_miss(10),
+            Answer::Refused(refusal) => return Err(refusal),
+            Answer::Position(_) => return Err(Refusal::Fault),
         }
     }
     let tests = walk.tests;
-    MissFound { answer, tests }
+    Ok(MissFound { answer, tests })
 }
 
 // Whether a ray meets no pane at a distance that counts: the walk ends at the first that is.
-pub fn miss(
-    record: &[u8],
-    indices: &[u32],
-    panes: &[f32],
-    origin: Vec3,
-    direction: Vec3,
-    tmin: f32,
-    tmax: f32,
-) -> MissFound
-    ensures { miss_result result ≡ miss_of «record».now indices.now panes.now (ray_of origin direction tmin tmax) }
+pub fn miss(record: &[u8], indices: &[u32], panes: &[f32], beam: Beam) -> Result<MissFound, Refusal>
+    ensures { miss_result result ≡ miss_of «record».now indices.now panes.now (ray_from beam) }
 {
-    let ray = Ray::new(origin, direction, tmin, tmax);
+    let ray = Ray::new(beam);
     let fits = panes.len() % packed::BOX == 0;
-    let cause = query::entry_cause(fits, record.len(), indices.len(), 0, ray);
-    if cause > 0 {
-        return refused_miss(cause);
-    }
+    query::check_entry(fits, record.len(), indices.len(), Ok(()), ray)?;
     if record.len() == 0 {
         let answer = Occlusion::Missed;
-        return MissFound { answer, tests: 0 };
+        return Ok(MissFound { answer, tests: 0 });
     }
     walk_miss(record, indices, panes, ray)
 }

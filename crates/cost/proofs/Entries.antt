@@ -4,7 +4,6 @@ use mathlib.Core.Bool.{Bool, true, false, cond}
 use mathlib.Core.List.{List}
 use mathlib.Core.Logic.{inl, inr}
 use Prim.Native.Nat.{ℕ, zero, suc, ◌+◌, ◌-◌, ◌*◌, ◌≤◌, ◌<◌}
-use native.Mathlib.Nat.{zero-add}
 use native.Mathlib.Omega.{arith}
 use native.Mathlib.Numerals.{add-one}
 use lib.Dec.{eqb}
@@ -53,10 +52,6 @@ small_split l r n start h e = rw e (best_small l r n start (suc n) h (omega arit
 module _ (area : Float) (count limit : ℕ) (s : Split) where
   abbrev wide : Entry
   wide = record { cost = internal_cost area s; word = 0x4000_0000 + (s.left * 256 + s.right) }
-
-  pub leaf_cheaper : count ≤ limit → lt (leaf_cost area count) (internal_cost area s) ≡ true
-      → ◌≡◌ {A = Entry} (record { cost = leaf_cost area count; word = s.left * 256 + s.right }) (stored (first_decision area count limit s))
-  leaf_cheaper h e = rw (le-leb count limit h, e, zero-add (s.left * 256 + s.right))
 
   pub leaf_dearer : count ≤ limit → lt (leaf_cost area count) (internal_cost area s) ≡ false → wide ≡ stored (first_decision area count limit s)
   leaf_dearer h e = rw (le-leb count limit h, e)
@@ -124,7 +119,6 @@ child_stays {v = v} {first = first} h f n s e u x lo hi j w =
 
 -- ---- the loop over an inner node's entries: after i turns entries 0 to i − 1 are written, and e is entry i
 pub record Turn (f : ℕ → Decision) (base i : ℕ) (ds₀ : List ℕ) (cs₀ : List Float) (ds : List ℕ) (cs : List Float) (e : Entry) : Type 0 where
-  pub few : i ≤ 6
   pub entry : e ≡ stored (f i)
   pub filled : Filled f base i ds₀ cs₀ ds cs
 
@@ -133,6 +127,6 @@ pub turn_writes : {f : ℕ → Decision} {base i : ℕ} {ds₀ ds : List ℕ} {c
 turn_writes {f} {base} {i} h = filled_step f base i h.filled h.entry
 
 -- the seventh is the last
-pub last_writes : {f : ℕ → Decision} {base i : ℕ} {ds₀ ds : List ℕ} {cs₀ cs : List Float} {e : Entry} → 6 ≤ i → Turn f base i ds₀ cs₀ ds cs e
+pub last_writes : {f : ℕ → Decision} {base i : ℕ} {ds₀ ds : List ℕ} {cs₀ cs : List Float} {e : Entry} → i ≡ 6 → Turn f base i ds₀ cs₀ ds cs e
     → Filled f base 7 ds₀ cs₀ (set ds (base + 6) e.word) (set cs (base + 6) e.cost)
-last_writes {f} {base} {i} u h = let q : i ≡ 6 = omega arith in rw q at (turn_writes h)
+last_writes q h = rw q at (turn_writes h)

@@ -1,12 +1,17 @@
 -- Values written in a row.
-use mathlib.Core.Path.{◌≡◌, refl, ◌∙◌}
+use mathlib.Core.Path.{◌≡◌, refl, sym, ◌∙◌}
 use mathlib.Core.List.{List}
-use Prim.Native.Nat.{ℕ, zero, suc, ◌+◌, ◌≤◌, ◌<◌}
+use Prim.Native.Nat.{ℕ, zero, suc, ◌+◌, ◌-◌, ◌≤◌, ◌<◌}
 use mathlib.Core.Logic.{inl, inr}
 use native.Mathlib.Nat.{eq-or-lt_of_le}
 use native.Mathlib.Omega.{arith}
 use native.Mathlib.Numerals.{add-one}
-use lib.ListN.{length, get_or, set, length-set}
+use borrow.Rule.Slice.PartMut.{put_mid, same_len_mid}
+use lib.Seq.{length-take-le}
+use Rattle.lists.proofs.Counts.{Some, none, some, some?}
+use lib.ListN.{length, get_or, set, take, drop, replicate, length-set, length-replicate, length-drop}
+use Rattle.std.proofs.Common.{rules}
+use Rattle.std.proofs.lemmas.List.{same_lists, places}
 use lib.Seq.{get_or-set_same, get_or-set_other}
 use Rattle.cost.specs.Rows.{row}
 
@@ -55,3 +60,36 @@ module _ {A : Type 0} where
   unfolding row
   row_cong f g b zero s h = refl
   row_cong f g b (suc n) s h = rw (row_cong f g b n s (λ k u. h k (omega arith)), h n (omega arith))
+
+  -- one value written over all of a row, place by place
+  mid_long : (x : A) (b n : ℕ) (s : List A) → b + n ≤ length s → length (put_mid b n s (replicate n x)) ≡ length s
+  mid_long x b n s h =
+      same_len_mid b n s (replicate n x)
+      (length-replicate n x ∙ sym (length-take-le n (drop b s) (omega (arith, length-drop b s))))
+
+  mid_before : (x : A) (b n : ℕ) (s : List A) → b + n ≤ length s → (k : ℕ) (d : A) → k < b
+      → get_or (put_mid b n s (replicate n x)) k d ≡ get_or s k d
+  mid_before x b n s h k d l = search (rules, places)
+
+  mid_within : (x : A) (b n : ℕ) (s : List A) → b + n ≤ length s → (k : ℕ) (d : A) → k < n
+      → get_or (put_mid b n s (replicate n x)) (b + k) d ≡ x
+  mid_within x b n s h k d l = search (rules, places)
+
+  mid_after : (x : A) (b n : ℕ) (s : List A) → b + n ≤ length s → (k : ℕ) (d : A) → b + n ≤ k
+      → get_or (put_mid b n s (replicate n x)) k d ≡ get_or s k d
+  mid_after x b n s h k d l = search (rules, places)
+
+  mid_row : (x : A) (b n : ℕ) (s : List A) → b + n ≤ length s → put_mid b n s (replicate n x) ≡ row (λ k. x) b n s
+  mid_row x b n s h = same_lists _ _ (mid_long x b n s h ∙ sym (length-row (λ k. x) b n s)) (λ k d l. each k d (some? (b - k)) (some? (b + n - k)))
+    where
+      each : (k : ℕ) (d : A) → Some (b - k) → Some (b + n - k) → get_or (put_mid b n s (replicate n x)) k d ≡ get_or (row (λ k. x) b n s) k d
+      each k d (some i) g = mid_before x b n s h k d (omega arith) ∙ sym (row_before (λ k. x) b n s k d (omega arith))
+      each k d (none i) (some j) =
+          let e : b + (k - b) ≡ k = omega arith in
+          rw (← e) (mid_within x b n s h (k - b) d (omega arith) ∙ sym (row_at (λ k. x) b n s (k - b) d (omega arith) h))
+      each k d (none i) (none j) = mid_after x b n s h k d (omega arith) ∙ sym (row_after (λ k. x) b n s k d (omega arith))
+
+  -- as `fill` writes it
+  pub row_filled : (x : A) (b n m : ℕ) (s ys : List A) → b + n ≤ length s → m ≡ n → ys ≡ replicate (length (take m (drop b s))) x
+      → put_mid b m s ys ≡ row (λ k. x) b n s
+  row_filled x b n m s ys h q e = rw (e, q, length-take-le n (drop b s) (omega (arith, length-drop b s))) (mid_row x b n s h)

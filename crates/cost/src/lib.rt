@@ -27,7 +27,7 @@ pub fn right_split(word: u32) -> usize
     (word % 256) as usize
 }
 
-// The cheapest split found so far. `left` is 255 while there is none.
+// The cheapest split found so far. Where there is none both are 255: no Option, since a decision word stores these numbers in either case.
 #[derive(Clone, Copy)]
 pub struct Split {
     pub cost: f32,
@@ -47,13 +47,14 @@ fn better(s: Split, c: f32, k: u32, m: u32) -> Split
     ensures { result ≡ better s c k m }
 {
     if c < s.cost {
-        return Split {
+        Split {
             cost: c,
             left: k,
             right: m,
-        };
+        }
+    } else {
+        s
     }
-    s
 }
 
 // The cheapest split of n between the nodes `first` and `first + 1`, if one costs less than `start`.
@@ -68,11 +69,9 @@ fn best_split(costs: &[f32], first: usize, n: usize, start: f32) -> Split
         left: 255,
         right: 255,
     };
-    let mut k = 0usize;
-    while k <= n {
+    for k in 0..n + 1 {
         let c = costs[l + k] + costs[r + (n - k)];
         best = better(best, c, k as u32, (n - k) as u32);
-        k += 1;
     }
     best
 }
@@ -84,19 +83,17 @@ fn first_entry(area: f32, count: u32, limit: u32, s: Split) -> Entry
 {
     let internal = s.cost + area;
     let splits = s.left * 256 + s.right;
-    let wide = INTERNAL + splits;
-    if count <= limit {
-        let leaf = (count as f32) * area * 0.3;
-        if leaf < internal {
-            return Entry {
-                cost: leaf,
-                word: splits,
-            };
+    let leaf = (count as f32) * area * 0.3;
+    if count <= limit && leaf < internal {
+        Entry {
+            cost: leaf,
+            word: splits,
         }
-    }
-    Entry {
-        cost: internal,
-        word: wide,
+    } else {
+        Entry {
+            cost: internal,
+            word: INTERNAL + splits,
+        }
     }
 }
 
@@ -106,12 +103,12 @@ fn next_entry(before: Entry, s: Split) -> Entry
     ensures { result ≡ next_entry before s }
 {
     if s.left == 255 {
-        return before;
-    }
-    let splits = s.left * 256 + s.right;
-    Entry {
-        cost: s.cost,
-        word: DISTRIBUTE + splits,
+        before
+    } else {
+        Entry {
+            cost: s.cost,
+            word: DISTRIBUTE + (s.left * 256 + s.right),
+        }
     }
 }
 
@@ -134,13 +131,11 @@ fn inner_entries(
     let base = v * 7;
     let s = best_split(costs, first, 6, f32::from_bits(0x7f80_0000));
     let mut e = first_entry(area, count, limit, s);
-    let mut i = 0usize;
-    while i < 6 {
+    for i in 0..6 {
         decisions[base + i] = e.word;
         costs[base + i] = e.cost;
         let s = best_split(costs, first, i, e.cost);
         e = next_entry(e, s);
-        i += 1;
     }
     decisions[base + 6] = e.word;
     costs[base + 6] = e.cost;
@@ -154,12 +149,8 @@ fn leaf_entries(decisions: &mut [u32], costs: &mut [f32], v: usize, area: f32)
 {
     let base = v * 7;
     let cost = area * 1.0 * 0.3;
-    let mut i = 0usize;
-    while i < 7 {
-        decisions[base + i] = 0;
-        costs[base + i] = cost;
-        i += 1;
-    }
+    decisions[base..base + 7].fill(0);
+    costs[base..base + 7].fill(cost);
 }
 
 // Half the surface of node v's box.
@@ -167,8 +158,7 @@ fn node_area(words: &[u32], v: usize) -> f32
     requires { v * 7 + 6 < length words.now }
     ensures { result ≡ half_area (box_at words.now v) }
 {
-    let node = bvh2::node_box(words, v);
-    node.half_area()
+    bvh2::node_box(words, v).half_area()
 }
 
 // Writes the seven decision words and costs of node v and of every node below it; `depth` is how many edges lie below v at most.

@@ -1,5 +1,5 @@
 -- A ray's start (02, [1]), of the public calls, over any bytes: what a hit is, a told distance below the start, and a start that is a NaN.
-use mathlib.Core.Bool.{true, not}
+use mathlib.Core.Bool.{true}
 use mathlib.Core.List.{List}
 use mathlib.Core.Path.{◌≡◌, refl, sym, ap, subst, ◌∙◌}
 use Prim.Native.Nat.{ℕ, zero, suc, ◌%◌, ◌<◌}

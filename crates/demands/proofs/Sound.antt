@@ -9,7 +9,7 @@ use Rattle.soundness.specs.Sound.{OneLevel}
 use Rattle.soundness.proofs.Once.{empty_sound}
 use Rattle.wide_layout.specs.Wide.{Wide}
 use Rattle.wide_layout.specs.Sizes.{slots_positions}
-use Rattle.wide_layout.specs.Layout.{nodes, index_count, level}
+use Rattle.wide_layout.specs.Layout.{index_count, level}
 use Rattle.wide_layout.proofs.Sizes.{positions-length}
 use Rattle.wide_layout.proofs.Shape.{reads_sound, reads_one_level, reads_deepest}
 use Rattle.record.specs.Record.{record_bytes}

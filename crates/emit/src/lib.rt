@@ -60,21 +60,17 @@ pub struct Grid {
 fn grid_of(b: Aabb) -> Grid
     ensures { result ≡ grid_of b }
 {
-    let min = b.min;
     let ex = quantization::exponent_byte(b.min.x, b.max.x);
     let ey = quantization::exponent_byte(b.min.y, b.max.y);
     let ez = quantization::exponent_byte(b.min.z, b.max.z);
-    let rx = quantization::reciprocal(ex);
-    let ry = quantization::reciprocal(ey);
-    let rz = quantization::reciprocal(ez);
     Grid {
-        min,
+        min: b.min,
         ex,
         ey,
         ez,
-        rx,
-        ry,
-        rz,
+        rx: quantization::reciprocal(ex),
+        ry: quantization::reciprocal(ey),
+        rz: quantization::reciprocal(ez),
     }
 }
 
@@ -97,13 +93,11 @@ fn leaf_meta(count: usize, before: usize) -> u8
     requires { (1 ≤ count) × (count ≤ 3) × (before ≤ 21) }
     ensures { result ≡ leaf_meta count before }
 {
-    if count == 1 {
-        return 32 + before as u8;
+    match count {
+        1 => 32 + before as u8,
+        2 => 96 + before as u8,
+        _ => 224 + before as u8,
     }
-    if count == 2 {
-        return 96 + before as u8;
-    }
-    224 + before as u8
 }
 
 // What a slot of a node holds: its meta byte and its box on the grid, its bit in the mask of inner children, 1 if its child is one, and the next free
@@ -200,18 +194,15 @@ pub fn build_node(
     let mut imask = 0u32;
     let mut inner = 0usize;
     let mut at = start;
-    let mut i = 0usize;
-    while i < 8 {
+    for i in 0..8 {
         let held = own_slot(
             words, indices, decisions, out, slots[i], i, start, grid, depth, at,
         );
         metas[i] = held.meta;
-        let corners = held.corners;
-        boxes[i] = corners;
+        boxes[i] = held.corners;
         imask += held.bit;
         inner += held.inner;
         at = held.at;
-        i += 1;
     }
     let node = Node {
         px: f32::to_bits(b.min.x),

@@ -86,9 +86,6 @@ module _ (ws ds indices bytes out xs : List ℕ) (d v i : ℕ) (ordered : Bool) 
     pub build_asks : (v * 7 + 6 < length ws) × (accepted_box (box_at ws v) ≡ true) × (x.nodes < 2 ^ 32) × (x.positions < 2 ^ 32)
     build_asks = let n = node h.at.tree in (omega (arith, n.room), n.box, omega (arith, h.room.few), omega (arith, h.room.short))
 
-    pub node_room : 80 * i + 80 ≤ length bytes
-    node_room = omega (arith, h.room.mine, h.room.nodes)
-
     module _ (r : Built) (bytes₁ out₁ : List ℕ) (b : BuiltAs ws v x.nodes x.positions (all_slots ws ds indices xs v x.positions d out) r out₁)
         (w : bytes₁ ≡ splice bytes (80 * i) (node_bytes r.node))
       where

@@ -25,10 +25,7 @@ fn is_inner(decisions: &[u32], v: u32) -> bool
     requires { (v ≡ 0xffff_ffff → ⊥) → v * 7 < length decisions.now }
     ensures { result ≡ is_inner decisions.now v }
 {
-    if v == 0xffff_ffff {
-        return false;
-    }
-    words::kind(decisions[v as usize * 7]) != 0
+    v != 0xffff_ffff && words::kind(decisions[v as usize * 7]) != 0
 }
 
 // The boxes of the first `count` of the nodes found, and behind them the box of their parent.
@@ -37,12 +34,8 @@ fn child_boxes(words: &[u32], parent: Aabb, found: [u32; 8], count: usize) -> [A
     ensures { result ≡ padded parent (map (box_at words.now) (take count found)) }
 {
     let mut boxes = [parent; 8];
-    let mut i = 0usize;
-    while i < count {
-        let child = found[i] as usize;
-        let b = bvh2::node_box(words, child);
-        boxes[i] = b;
-        i += 1;
+    for i in 0..count {
+        boxes[i] = bvh2::node_box(words, found[i] as usize);
     }
     boxes
 }
@@ -95,24 +88,21 @@ fn emit_node(
         next.positions,
         depth,
     );
-    let node = built.node;
-    node::write_node(bytes, number, node);
+    node::write_node(bytes, number, built.node);
     let mut free = Next {
         nodes: next.nodes + built.inner,
         positions: built.at,
     };
     let mut child = next.nodes;
-    let mut i = 0usize;
-    while i < 8 {
-        let w = slots[i];
-        if is_inner(decisions, w) {
+    for w in &slots {
+        if is_inner(decisions, *w) {
             free = emit_node(
                 words,
                 indices,
                 decisions,
                 bytes,
                 out,
-                w as usize,
+                *w as usize,
                 child,
                 free,
                 depth - 1,
@@ -120,7 +110,6 @@ fn emit_node(
             );
             child += 1;
         }
-        i += 1;
     }
     free
 }

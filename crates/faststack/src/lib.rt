@@ -4,28 +4,28 @@
 ghost use Rattle.std.specs.Prelude.{◌≡◌, ◌≤◌, length};
 ghost use Rattle.faststack.specs.Stack.{capacity, has_room, pushed, top_of};
 
-// Stores a group on a stack of the given depth, and says whether it had room: a 33rd group is not stored.
+// The most groups of a stack.
+const CAPACITY: usize = 32;
+
+// Stores a group on a stack of the given depth, and says whether it had room: a 33rd group is not stored. The C interface lends the array.
+#[tactic(auto, unfolding(crate::specs::Stack::pushed))]
 pub fn push(stack: &mut [u64], depth: usize, group: u64) -> bool
     requires { capacity ≤ length stack.old }
     ensures { (result ≡ has_room depth) × (stack.new ≡ pushed stack.old depth group) }
 {
-    if depth < 32 {
+    let room = depth < CAPACITY;
+    if room {
         stack[depth] = group;
-        return true;
     }
-    false
+    room
 }
 
-// The group last pushed on a stack of the given depth; 0, a group that holds nothing, where it is empty.
+// The group last pushed on a stack of the given depth; 0, a group that holds nothing, where it is empty, so that a walk makes no case of it.
+#[tactic(auto, unfolding(crate::specs::Stack::top_of))]
 pub fn top(stack: &[u64], depth: usize) -> u64
     requires { capacity ≤ length stack.now }
     ensures { result ≡ top_of stack.now depth }
 {
-    if 0 < depth {
-        let held = depth <= 32;
-        if held {
-            return stack[depth - 1];
-        }
-    }
-    0
+    let held = 0 < depth && depth <= CAPACITY;
+    if held { stack[depth - 1] } else { 0 }
 }

@@ -3,7 +3,7 @@ use mathlib.Core.Path.{◌≡◌, refl, sym, ◌∙◌}
 use mathlib.Core.Bool.{true, not, true≢false}
 use Prim.Native.Nat.{ℕ, ◌%◌, ◌≤◌, ◌<◌}
 use lib.Dec.{T}
-use lib.Ieee.{Float, nan, inf, fin, binary32, div, of_bits, is_nan, nan_bits}
+use lib.Ieee.{Float, nan, inf, fin, binary32, of_bits, is_nan, nan_bits}
 use lib.Ieee.Bits.{nan_bits_is, nan_bits_above}
 use borrow.Author.Tests.{lt-ltb, le-ltb}
 
@@ -13,8 +13,7 @@ the_nan nan h = refl
 the_nan (inf s) h = absurd (true≢false (sym h))
 the_nan (fin s m e) h = absurd (true≢false (sym h))
 
-pub nan_pattern : (b : ℕ) → 2139095040 < b % 2147483648 → div binary32 (of_bits binary32 0) (of_bits binary32 0) ≡ of_bits binary32 b
-unfolding div of_bits
+pub nan_pattern : (b : ℕ) → 2139095040 < b % 2147483648 → nan ≡ of_bits binary32 b
 nan_pattern b h = the_nan (of_bits binary32 b) (sym (nan_bits_is binary32 b) ∙ nan_bits_above binary32 b ∙ lt-ltb 2139095040 (b % 2147483648) h)
 
 pub no_nan_pattern : (b : ℕ) → b % 2147483648 ≤ 2139095040 → T (not (nan_bits binary32 b))

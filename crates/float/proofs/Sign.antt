@@ -9,6 +9,7 @@ use lib.Ieee.{Float, nan, inf, fin, Format, prec, low, ones, hid, top, odd, unit
 use lib.Ieee.{emax, level, unlike, up, down, mul}
 use borrow.Author.Tests.{eq-eqb, ne_eqb}
 use lib.Ieee.Bits.{of_bits-to_bits}
+use Rattle.std.specs.Float.{is_sign_negative}
 use Rattle.float.specs.Sign.{sign_bit}
 
 odd_sign_bit : (d : ℕ) (s : Bool) (q k l : ℕ) → sign_bit (odd d s q k l) ≡ s
@@ -37,6 +38,13 @@ bits_sign f b h = fields_sign f (leb (top f) b) (b % top f / hid f) (b % hid f) 
 pub sign_of_bits : (f : Format) (v : Float) → T (fits f v) → T (not (is_nan v)) → sign_bit v ≡ leb (top f) (to_bits f v)
 sign_of_bits f v h k =
     ap sign_bit (sym (of_bits-to_bits f v h)) ∙ bits_sign f (to_bits f v) (subst (λ (z : Float). T (not (is_nan z))) (sym (of_bits-to_bits f v h)) k)
+
+-- what `is_sign_negative` gives
+pub negative_is : (v : Float) → is_sign_negative v ≡ sign_bit v
+unfolding is_sign_negative
+negative_is nan = refl
+negative_is (inf s) = refl
+negative_is (fin s m e) = refl
 
 -- ---- what is rounded keeps its sign; a product with a positive number has the other factor's, and a quotient of one the divisor's
 units_sign : (f : Format) (s : Bool) (q k : ℕ) → sign_bit (units f s q k) ≡ s

@@ -1,8 +1,8 @@
 -- Conversion by a word of order: what it ends with for 0 or 1, and for any other.
-use mathlib.Core.Path.{◌≡◌, refl, sym, ap, ◌∙◌}
+use mathlib.Core.Path.{◌≡◌, refl, ap, ◌∙◌}
 use mathlib.Core.Bool.{Bool, false}
 use mathlib.Core.List.{List}
-use Prim.Native.Nat.{ℕ, zero, suc, ◌≤◌, ◌<◌}
+use Prim.Native.Nat.{ℕ, zero, suc, ◌+◌, ◌≤◌, ◌<◌}
 use native.Mathlib.Omega.{arith}
 use lib.Dec.{eqb}
 use lib.ListN.{length}
@@ -10,8 +10,9 @@ use lib.Ieee.{Float}
 use Rattle.bvh2.specs.FirstCause.{sizes_cause}
 use Rattle.bvh2_tables.specs.Call.{Call, leaf_count}
 use Rattle.bvh2_to_cwbvh.specs.Conversion.{refused, Outcome, conversion_of}
-use Rattle.bvh2_to_cwbvh.specs.declared.Conversion.{Conversion}
-use Rattle.bvh2_to_cwbvh.specs.declared.Conversion.TheVariants.{Refused}
+use Rattle.std.specs.Prelude.{Result}
+use Rattle.causes.specs.declared.Refusal.{Refusal}
+use Rattle.bvh2_to_cwbvh.specs.declared.Converted.{Converted}
 use Rattle.bvh2_to_cwbvh.specs.Answer.{conversion_answer, outcome_of}
 use Rattle.funnelcress.specs.Converted.{order_cause, conversion_by, conversion_number, handed}
 
@@ -27,9 +28,9 @@ sizes_first words n k e h = pick k h ∙ ap or_three e
     pick zero h = absurd (h refl)
     pick (suc k) h = refl
 
-pub then_three : (words n k : ℕ) → k ≡ sizes_cause words n → k ≡ 0 → 3 ≡ order_cause words n
+pub then_three : (words n : ℕ) → 0 ≡ sizes_cause words n → 3 ≡ order_cause words n
 unfolding order_cause
-then_three words n k e z = ap or_three (sym z ∙ e)
+then_three words n e = ap or_three e
 
 module _ (order : ℕ) (call : Bool → Call) where
   -- order 0 or 1
@@ -42,7 +43,7 @@ module _ (order : ℕ) (call : Bool → Call) where
       go (suc zero) h = refl
       go (suc (suc k)) h = absurd (omega arith)
 
-  pub by_either : order ≤ 1 → (number : ℕ) (v : Conversion) (ds₁ : List ℕ) (cs₁ : List Float) (bytes₁ list₁ : List ℕ)
+  pub by_either : order ≤ 1 → (number : ℕ) (v : Result Converted Refusal) (ds₁ : List ℕ) (cs₁ : List Float) (bytes₁ list₁ : List ℕ)
       → number ≡ conversion_number (conversion_answer v) → outcome_of v ds₁ cs₁ bytes₁ list₁ ≡ conversion_of (call (eqb order 1))
       → record { number = number; decisions = ds₁; costs = cs₁; bytes = bytes₁; list = list₁ } ≡ handed (conversion_by order call)
   by_either h number v ds₁ cs₁ bytes₁ list₁ e o =
@@ -63,11 +64,11 @@ module _ (order : ℕ) (call : Bool → Call) where
       go (suc zero) h = absurd (omega arith)
       go (suc (suc k)) h = refl
 
-  pub by_other : 1 < order → (number cause : ℕ) → number ≡ conversion_number (conversion_answer (Refused cause))
+  pub by_other : 1 < order → (number cause : ℕ) → number ≡ 0x2_0000_0000 + cause
       → cause ≡ order_cause (length (call false).words) (leaf_count (call false))
       → let c = call false in
       record { number = number; decisions = c.decisions; costs = c.costs; bytes = c.bytes; list = c.list } ≡ handed (conversion_by order call)
-  unfolding conversion_answer left
+  unfolding conversion_number left
   by_other h number cause e k =
       let c = call false in
       (λ i. record { number = e i; decisions = c.decisions; costs = c.costs; bytes = c.bytes; list = c.list })

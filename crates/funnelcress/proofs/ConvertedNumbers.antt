@@ -1,28 +1,16 @@
--- The numbers of conversion's answers, case by case, and that no two answers share one.
+-- Every answer of conversion fits its number, and no two share one.
 use mathlib.Core.Path.{◌≡◌, refl, ap, ap₂}
 use mathlib.Core.Bool.{Bool, true, false}
 use mathlib.Core.List.{List}
-use Prim.Native.Nat.{ℕ, zero, suc, ◌+◌, ◌*◌, ◌≤◌}
+use Prim.Native.Nat.{ℕ, zero, suc, ◌≤◌}
 use native.Mathlib.Omega.{arith}
 use Rattle.bvh2.proofs.Decoded.{accepted_decoded}
 use Rattle.bvh2_tables.specs.Call.{Call, leaf_count, Lengths, lengths_of}
 use Rattle.bvh2_tables.specs.Tables.{Prepared}
 use Rattle.wide_tree.proofs.Ordered.{node-count}
 use Rattle.bvh2_to_cwbvh.specs.Conversion.{nodes_of, ConversionAnswer, converted, refused, conversion_of}
-use Rattle.bvh2_to_cwbvh.specs.declared.Conversion.{Conversion}
-use Rattle.bvh2_to_cwbvh.specs.declared.Conversion.TheVariants.{Converted, Refused}
-use Rattle.bvh2_to_cwbvh.specs.Answer.{conversion_answer}
 use Rattle.bvh2_to_cwbvh.proofs.Answers.{answered}
 use Rattle.funnelcress.specs.Converted.{conversion_by, conversion_number}
-
-pub number_converted : (c : Conversion) (nodes level : ℕ) → c ≡ Converted nodes level → level * 65536 + nodes
-    ≡ conversion_number (conversion_answer c)
-unfolding conversion_number conversion_answer
-number_converted c nodes level e = rw e
-
-pub number_refused : (c : Conversion) (number : ℕ) → c ≡ Refused number → 0x2_0000_0000 + number ≡ conversion_number (conversion_answer c)
-unfolding conversion_number conversion_answer
-number_refused c number e = rw e
 
 -- a node count fits sixteen bits, and a level goes to 31
 unfoldable pub Fits : ConversionAnswer → Type 0

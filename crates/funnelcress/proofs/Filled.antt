@@ -1,5 +1,5 @@
 -- Lists filled from the front, one place at a time.
-use Prim.Native.Nat.{ℕ, zero, suc, ◌+◌, ◌≤◌, ◌<◌}
+use Prim.Native.Nat.{ℕ, zero, suc, ◌+◌, ◌<◌}
 use mathlib.Core.Path.{◌≡◌, refl, sym, ◌∙◌}
 use mathlib.Core.List.{List}
 use native.Mathlib.Numerals.{add-one}
@@ -33,6 +33,3 @@ filling_none f s = record { as_long = refl; front = refl }
 pub filling_turn :
     {f : ℕ → Float} {k : ℕ} {s out : List Float} → Filling f k s out → (x : Float) → k < length s → x ≡ f k → Filling f (k + 1) s (set out k x)
 filling_turn {f} {k} {s} r x h e = record { as_long = simp length-set r.as_long; front = rw (e, r.front) (filled_next f k s h) }
-
-pub filling_all : {f : ℕ → Float} {k : ℕ} {s out : List Float} → Filling f k s out → (n : ℕ) → k ≤ n → n ≤ k → out ≡ filled f n s
-filling_all {f} {k} r n h l = let e : k ≡ n = omega arith in rw (← e) r.front

@@ -1,35 +1,14 @@
--- The numbers of a join's answers, case by case; that every answer fits its number, on any words; and that no two answers share one.
-use mathlib.Core.List.{List}
+-- Every answer of a join fits its number, on any words, and no two share one.
 use mathlib.Core.Logic.{◌⊎◌, inl, inr}
-use mathlib.Core.Path.{◌≡◌, refl, ap, ◌∙◌}
-use Prim.Native.Nat.{ℕ, zero, suc, ◌+◌, ◌≤◌}
+use mathlib.Core.Path.{◌≡◌, refl, ap}
+use Prim.Native.Nat.{ℕ, zero, suc, ◌≤◌}
 use native.Mathlib.Omega.{arith}
 use lib.Dec.{T, leb, leb→le}
 use borrow.Author.Tests.{leb-true}
 use Rattle.causes.proofs.Causes.{Passed, sorted, none_passed, all_numbers, first_among}
-use Rattle.join.specs.declared.Joining.{Joining}
-use Rattle.join.specs.declared.Joining.TheVariants.{Joined, Refused}
 use Rattle.join.specs.Join.{JoinCall, both_leaves, size_tests, tree_tests, join_tests, join_cause, JoinAnswer, joined, refused_join}
-use Rattle.join.specs.Join.{JoinEnd, join_by, join_of, joining_answer}
-use Rattle.funnelcress.specs.Joins.{join_number, HandedJoin, handed_join}
-
--- ---- case by case
-
-module _ (a : Joining) where
-  pub number_joined : (leaves : ℕ) → a ≡ Joined leaves → leaves ≡ join_number (joining_answer a)
-  unfolding join_number joining_answer
-  number_joined leaves e = rw e
-
-  pub number_refused_join : (number : ℕ) → a ≡ Refused number → 0x2_0000_0000 + number ≡ join_number (joining_answer a)
-  unfolding join_number joining_answer
-  number_refused_join number e = rw e
-
--- a call's number with the slices that it leaves
-pub number_handed_join : (number : ℕ) (a : Joining) (marks words indices : List ℕ) (e : JoinEnd) → number ≡ join_number (joining_answer a)
-    → ◌≡◌ {A = JoinEnd} (record { answer = joining_answer a; marks = marks; words = words; indices = indices }) e
-    → ◌≡◌ {A = HandedJoin} (record { number = number; marks = marks; words = words; indices = indices }) (handed_join e)
-number_handed_join number a marks words indices e p o =
-    (λ i. record { number = p i; marks = marks; words = words; indices = indices }) ∙ ap handed_join o
+use Rattle.join.specs.Join.{join_by, join_of}
+use Rattle.funnelcress.specs.Joins.{join_number}
 
 -- ---- no two answers share a number
 

@@ -8,24 +8,21 @@ use lib.Ieee.{Float}
 use lib.ListN.{length}
 use borrow.Author.Tests.{eq-eqb, ne_eqb}
 use Rattle.ray.specs.declared.Ray.{Ray}
-use Rattle.ray.specs.Ray.{ray_of}
-use Rattle.ray.proofs.Entered.{entered_again}
+use Rattle.ray.specs.declared.Beam.{Beam}
+use Rattle.ray.specs.Ray.{ray_from}
 use Rattle.query.specs.Entry.{entry_cause}
 use Rattle.query.specs.Result.{Result, unanswered}
 use Rattle.any_hit.specs.AnyHit.{AnyHitAnswer, refused, any_hit_of, list_after}
 use Rattle.closest.specs.Panes.{ClosestAnswer, refused_closest, MissAnswer, refused_miss, pane_cause, closest_of, miss_of}
-use Rattle.packed.specs.Packed.{ray_in}
+use Rattle.packed.specs.Packed.{beam_in, ray_in}
 use Rattle.funnelcress.specs.Queries.{of_eight, any_hit_by, list_by, short_cause, closest_in, closest_by, distance_in, miss_by}
 use Rattle.funnelcress.specs.Queries.{any_hit_number, closest_number, miss_number}
 
 module _ (ray : List Float) where
-  -- a ray made again of what the calls are given
-  abbrev pub again : Ray → Ray
-  again r = ray_of r.origin r.direction r.tmin r.tmax
-
-  pub same_ray : (r : Ray) → r ≡ ray_in ray 0 → again r ≡ ray_in ray 0
+  -- the ray of the eight floats
+  pub same_ray : (b : Beam) → b ≡ beam_in ray 0 → ray_from b ≡ ray_in ray 0
   unfolding ray_in
-  same_ray r e = entered_again _ _ _ _ r e
+  same_ray b e = ap ray_from e
 
   pub fit : {A : Type 0} (x y : A) → length ray ≡ 8 → y ≡ of_eight ray x y
   fit x y e = ap (λ (b : Bool). cond b y x) (sym (eq-eqb _ _ e))
@@ -42,18 +39,18 @@ module _ (ray : List Float) where
     unfolding list_by
     list_unfit list h = unfit list (list_after bytes n (ray_in ray 0) list) h
 
-    pub any_hit_fit : (r : Ray) → length ray ≡ 8 → r ≡ ray_in ray 0
-        → (number : ℕ) (a : Result AnyHitAnswer) (room : ℕ) → number ≡ any_hit_number a → a ≡ any_hit_of bytes n (again r) room
+    pub any_hit_fit : (b : Beam) → length ray ≡ 8 → b ≡ beam_in ray 0
+        → (number : ℕ) (a : Result AnyHitAnswer) (room : ℕ) → number ≡ any_hit_number a → a ≡ any_hit_of bytes n (ray_from b) room
         → number ≡ any_hit_number (any_hit_by bytes n ray room)
     unfolding any_hit_by
-    any_hit_fit r g e number a room i j =
-        i ∙ ap any_hit_number (j ∙ ap (λ (x : Ray). any_hit_of bytes n x room) (same_ray r e) ∙ fit (unanswered (refused 1))
+    any_hit_fit b g e number a room i j =
+        i ∙ ap any_hit_number (j ∙ ap (λ (x : Ray). any_hit_of bytes n x room) (same_ray b e) ∙ fit (unanswered (refused 1))
         (any_hit_of bytes n (ray_in ray 0) room) g)
 
-    pub list_fit : (r : Ray) → length ray ≡ 8 → r ≡ ray_in ray 0 → (after list : List ℕ) → after ≡ list_after bytes n (again r) list
+    pub list_fit : (b : Beam) → length ray ≡ 8 → b ≡ beam_in ray 0 → (after list : List ℕ) → after ≡ list_after bytes n (ray_from b) list
         → after ≡ list_by bytes n ray list
     unfolding list_by
-    list_fit r g e after list j = j ∙ ap (λ (x : Ray). list_after bytes n x list) (same_ray r e) ∙ fit list (list_after bytes n (ray_in ray 0) list) g
+    list_fit b g e after list j = j ∙ ap (λ (x : Ray). list_after bytes n x list) (same_ray b e) ∙ fit list (list_after bytes n (ray_in ray 0) list) g
 
   module _ (bytes indices : List ℕ) (panes : List Float) where
     -- ---- closest
@@ -88,13 +85,13 @@ module _ (ray : List Float) where
     some zero h = absurd (h refl)
     some (suc room) h = refl
 
-    pub closest_fit : (r : Ray) → length ray ≡ 8 → r ≡ ray_in ray 0
-        → (number : ℕ) (after out : List Float) (a : Result ClosestAnswer) → (length out ≡ 0 → ⊥) → a ≡ closest_of bytes indices panes (again r)
+    pub closest_fit : (b : Beam) → length ray ≡ 8 → b ≡ beam_in ray 0
+        → (number : ℕ) (after out : List Float) (a : Result ClosestAnswer) → (length out ≡ 0 → ⊥) → a ≡ closest_of bytes indices panes (ray_from b)
         → number ≡ closest_number a → after ≡ distance_in a.answer out → Closes number after out
     unfolding closest_by
-    closest_fit r g e number after out a z c i j =
+    closest_fit b g e number after out a z c i j =
         closes number after out a i j
-        (c ∙ ap (closest_of bytes indices panes) (same_ray r e) ∙ some (length out) z ∙ fit _ (closest_in (length out) bytes indices panes ray) g)
+        (c ∙ ap (closest_of bytes indices panes) (same_ray b e) ∙ some (length out) z ∙ fit _ (closest_in (length out) bytes indices panes ray) g)
 
     -- ---- miss
 
@@ -102,12 +99,12 @@ module _ (ray : List Float) where
     unfolding miss_by miss_number
     miss_unfit number e h = e ∙ ap miss_number (unfit (record { answer = refused_miss 1; tests = 0 }) (miss_of bytes indices panes (ray_in ray 0)) h)
 
-    pub miss_fit : (r : Ray) → length ray ≡ 8 → r ≡ ray_in ray 0
-        → (number : ℕ) (a : Result MissAnswer) → number ≡ miss_number a → a ≡ miss_of bytes indices panes (again r)
+    pub miss_fit : (b : Beam) → length ray ≡ 8 → b ≡ beam_in ray 0
+        → (number : ℕ) (a : Result MissAnswer) → number ≡ miss_number a → a ≡ miss_of bytes indices panes (ray_from b)
         → number ≡ miss_number (miss_by bytes indices panes ray)
     unfolding miss_by
-    miss_fit r g e number a i j =
+    miss_fit b g e number a i j =
         i
         ∙ ap miss_number
-        (j ∙ ap (miss_of bytes indices panes) (same_ray r e)
+        (j ∙ ap (miss_of bytes indices panes) (same_ray b e)
         ∙ fit (record { answer = refused_miss 1; tests = 0 }) (miss_of bytes indices panes (ray_in ray 0)) g)

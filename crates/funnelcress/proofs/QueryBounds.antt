@@ -44,7 +44,7 @@ entry_most fits bytes n r = go (first_among (λ k. leb k 11) (entry_conditions f
 -- ---- any-hit
 
 fitted-fits : (count tests room : ℕ) → tests ≤ 65535 → count < 0x1_0000_0000 → AnyHitFits (H.fitted count tests room)
-unfolding H.fitted AnyHitFits
+unfolding H.fitted
 fitted-fits count tests room t c = go (leb count room)
   where
     go : (b : Bool) → AnyHitFits (elim b [ true ↦ record { answer = H.listed count; tests = tests } | false ↦ R.unanswered (H.lacking 11 count) ])
@@ -53,7 +53,7 @@ fitted-fits count tests room t c = go (leb count room)
 
 walked-fits : (n : ℕ) (o : OutcomeWords WalkRay (List ℕ)) (e : S.Answer) (room : ℕ) → o.walker.tests ≤ 65535
     → length o.accumulator < 0x1_0000_0000 → Below n e → AnyHitFits (R.walked H.refused (λ noted tests. H.fitted (length noted) tests room) o e)
-unfolding R.walked AnyHitFits
+unfolding R.walked
 walked-fits n o (S.tested v) room t c l = (refl, omega arith)
 walked-fits n o (S.position p) room t c l = fitted-fits (length o.accumulator) o.walker.tests room t c
 walked-fits n o S.done room t c l = fitted-fits (length o.accumulator) o.walker.tests room t c
@@ -72,7 +72,7 @@ walk-fits bytes n b m room =
     walked-fits n o o.ended room (omega (arith, q.0)) (omega (arith, q.2)) q.1
 
 pub any_hit_fits : (bytes : List ℕ) (n : ℕ) (r : Ray) (room : ℕ) → AnyHitFits (H.any_hit_of bytes n r room)
-unfolding H.any_hit_of R.entered AnyHitFits
+unfolding H.any_hit_of R.entered
 any_hit_fits bytes n r room = go (entry_cause true (length bytes) n 0 r) refl (entry_most true (length bytes) n r)
   where
     go : (c : ℕ) → entry_cause true (length bytes) n 0 r ≡ c → c ≤ 11
@@ -153,7 +153,7 @@ module _ (indices : List ℕ) (panes : List Float) where
 
 module _ (bytes indices : List ℕ) (panes : List Float) (r : Ray) where
   pub closest_fits : ClosestFits (P.closest_of bytes indices panes r)
-  unfolding ClosestFits P.closest_of P.closest_walk P.closest_found
+  unfolding P.closest_of P.closest_walk P.closest_found
   closest_fits =
       query_fits ClosestFits P.refused_closest P.closest_found (λ k l. (refl, l)) finds
       bytes indices panes r (closest (P.pane_of indices panes) P.nearer) (closest_small indices panes)
@@ -164,7 +164,7 @@ module _ (bytes indices : List ℕ) (panes : List Float) (r : Ray) where
       finds (fault k) tests h t = (refl, h)
 
   pub miss_fits : MissFits (P.miss_of bytes indices panes r)
-  unfolding MissFits P.miss_of P.miss_walk P.miss_found
+  unfolding P.miss_of P.miss_walk P.miss_found
   miss_fits =
       query_fits MissFits P.refused_miss P.miss_found (λ k l. (refl, l)) finds
       bytes indices panes r (miss (P.pane_of indices panes) P.nearer) (miss_small indices panes)
@@ -177,7 +177,7 @@ module _ (bytes indices : List ℕ) (panes : List Float) (r : Ray) where
 -- ---- for a ray of eight floats, or another
 
 pub any_hit_number_fits : (bytes : List ℕ) (n : ℕ) (ray : List Float) (room : ℕ) → AnyHitFits (any_hit_by bytes n ray room)
-unfolding AnyHitFits any_hit_by
+unfolding any_hit_by
 any_hit_number_fits bytes n ray room =
     cond_elim AnyHitFits (eqb (length ray) 8) (H.any_hit_of bytes n (ray_in ray 0) room) (R.unanswered (H.refused 1))
     (λ _. any_hit_fits bytes n (ray_in ray 0) room) (λ _. (refl, omega arith))
@@ -189,18 +189,18 @@ short_most (suc k) = cond_elim (λ (j : ℕ). j ≤ 11) (ltb (suc k) 4) (suc k) 
 
 module _ (bytes indices : List ℕ) (panes ray : List Float) where
   closest_in_fits : (room : ℕ) → ClosestFits (closest_in room bytes indices panes ray)
-  unfolding ClosestFits closest_in
+  unfolding closest_in
   closest_in_fits zero = (refl, short_most (P.pane_cause bytes indices panes (ray_in ray 0)))
   closest_in_fits (suc room) = closest_fits bytes indices panes (ray_in ray 0)
 
   pub closest_number_fits : (room : ℕ) → ClosestFits (closest_by room bytes indices panes ray)
-  unfolding ClosestFits closest_by
+  unfolding closest_by
   closest_number_fits room =
       cond_elim ClosestFits (eqb (length ray) 8) (closest_in room bytes indices panes ray) (record { answer = P.refused_closest 1; tests = 0 })
       (λ _. closest_in_fits room) (λ _. (refl, omega arith))
 
   pub miss_number_fits : MissFits (miss_by bytes indices panes ray)
-  unfolding MissFits miss_by
+  unfolding miss_by
   miss_number_fits =
       cond_elim MissFits (eqb (length ray) 8) (P.miss_of bytes indices panes (ray_in ray 0)) (record { answer = P.refused_miss 1; tests = 0 })
       (λ _. miss_fits bytes indices panes (ray_in ray 0)) (λ _. (refl, omega arith))

@@ -1,8 +1,8 @@
--- The numbers of a report's answers, case by case; that every answer fits its number, on any bytes; and that no two answers share one.
+-- Every answer of a report fits its number, on any bytes, and no two share one.
 use mathlib.Core.List.{List, [], ◌++◌}
 use mathlib.Core.Logic.{◌⊎◌, inl, inr}
-use mathlib.Core.Path.{◌≡◌, refl, ap, ◌∙◌}
-use Prim.Native.Nat.{ℕ, zero, suc, ◌+◌, ◌≤◌, ◌<◌}
+use mathlib.Core.Path.{◌≡◌, refl, ap}
+use Prim.Native.Nat.{ℕ, zero, suc, ◌≤◌, ◌<◌}
 use native.Mathlib.Omega.{arith}
 use lib.Dec.{T, leb, leb→le}
 use lib.Ieee.{Float}
@@ -22,30 +22,10 @@ use Rattle.walk_record.specs.WalkRay.{walk_ray, by_boxes}
 use Rattle.walk_record.specs.Record.{node_words_at}
 use Rattle.walk_record.specs.Walk.{query_at, any_hit_at}
 use Rattle.query.specs.Met.{tests_made}
-use Rattle.loss.specs.declared.Totals.{Totals}
-use Rattle.loss.specs.declared.Totals.TheVariants.{Totalled, Refused}
-use Rattle.loss.specs.Loss.{ReportAnswer, totalled, refused_report, Report, totals_answer}
+use Rattle.loss.specs.Loss.{ReportAnswer, totalled, refused_report}
 use Rattle.loss.specs.Loss.{report_conditions, walk_conditions, tests_by, totals_in, report_by, report_of}
-use Rattle.funnelcress.specs.Reports.{report_number, HandedReport, handed_report}
+use Rattle.funnelcress.specs.Reports.{report_number}
 use Rattle.funnelcress.proofs.Bounds.{query_few}
-
--- ---- case by case
-
-module _ (a : Totals) where
-  pub number_totalled : (tests : ℕ) → a ≡ Totalled tests → tests ≡ report_number (totals_answer a)
-  unfolding report_number totals_answer
-  number_totalled tests e = rw e
-
-  pub number_refused_report : (number : ℕ) → a ≡ Refused number → 0x2_0000_0000 + number ≡ report_number (totals_answer a)
-  unfolding report_number totals_answer
-  number_refused_report number e = rw e
-
--- a call's number with the slices that it leaves
-pub number_handed_report : (number : ℕ) (a : Totals) (ray_totals pane_totals : List ℕ) (r : Report) → number ≡ report_number (totals_answer a)
-    → ◌≡◌ {A = Report} (record { answer = totals_answer a; ray_totals = ray_totals; pane_totals = pane_totals }) r
-    → ◌≡◌ {A = HandedReport} (record { number = number; ray_totals = ray_totals; pane_totals = pane_totals }) (handed_report r)
-number_handed_report number a ray_totals pane_totals r e o =
-    (λ i. record { number = e i; ray_totals = ray_totals; pane_totals = pane_totals }) ∙ ap handed_report o
 
 -- ---- no two answers share a number
 

@@ -1,5 +1,5 @@
 -- Lists of boxes and of answers, as they are lent from C or Rust. A box is six floats, a ray eight: origin, direction, tmin, tmax.
-use Rattle.std.specs.Prelude.{ℕ, zero, suc, ◌/◌, ◌%◌, cond, List, [], ◌∷◌, ◌++◌, eqb, leb, length, drop, Float}
+use Rattle.std.specs.Prelude.{◌≡◌, ℕ, zero, suc, ◌/◌, ◌%◌, cond, List, [], ◌∷◌, ◌++◌, eqb, leb, length, drop, Float}
 use Rattle.aabb.specs.Aabb.{half_area, entry_distance}
 use Rattle.packed.specs.Packed.{box_in, ray_in}
 
@@ -11,6 +11,10 @@ firsts f (suc k) = firsts f k ++ (f k ∷ [])
 -- the list with f of its number in each of its first k places
 unfoldable pub filled : (ℕ → Float) → ℕ → List Float → List Float
 filled f k s = firsts f k ++ drop k s
+
+-- the list with the answer of its number in each of its first k places, where P says for each number what the answer is
+abbrev pub FilledBy : (ℕ → Float → Type 0) → ℕ → List Float → List Float → Type 0
+FilledBy P k s t = (f : ℕ → Float) → ((i : ℕ) (x : Float) → P i x → x ≡ f i) → t ≡ filled f k s
 
 -- 1 where a length is no whole number of boxes, else 4 where there is no room for an answer to each, else 0
 -- (01, "Causes of refusal", 1 and 4)

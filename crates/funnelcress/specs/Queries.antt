@@ -68,7 +68,7 @@ miss_number r = elim r.answer [ missed ↦ number_of r.tests 0 0 | blocked ↦ n
 
 -- ---- what every answer meets: tests of sixteen bits, words, and a cause's number
 
-unfoldable pub AnyHitFits : Result AnyHitAnswer → Type 0
+abbrev pub AnyHitFits : Result AnyHitAnswer → Type 0
 AnyHitFits r =
     elim r.answer [
       | listed count ↦ (r.tests ≤ 65535) × (count < 0x1_0000_0000)
@@ -76,7 +76,7 @@ AnyHitFits r =
       | refused number ↦ (r.tests ≡ 0) × (number ≤ 11)
     ]
 
-unfoldable pub ClosestFits : Result ClosestAnswer → Type 0
+abbrev pub ClosestFits : Result ClosestAnswer → Type 0
 ClosestFits r =
     elim r.answer [
       | hit_at p t ↦ (r.tests ≤ 65535) × (p < 65536)
@@ -84,5 +84,5 @@ ClosestFits r =
       | refused_closest number ↦ (r.tests ≡ 0) × (number ≤ 11)
     ]
 
-unfoldable pub MissFits : Result MissAnswer → Type 0
+abbrev pub MissFits : Result MissAnswer → Type 0
 MissFits r = elim r.answer [ missed ↦ r.tests ≤ 65535 | blocked ↦ r.tests ≤ 65535 | refused_miss number ↦ (r.tests ≡ 0) × (number ≤ 11) ]

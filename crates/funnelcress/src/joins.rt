@@ -3,15 +3,16 @@ ghost use Rattle.std.specs.Prelude.{◌≡◌};
 ghost use Rattle.join.specs.Join.{join_of, joining_answer};
 ghost use Rattle.funnelcress.specs.Joins.{join_number, handed_join};
 
-use join::Joining;
+use causes::Refusal;
 
 // A joined tree's answer as a number.
-fn join_number(answer: Joining) -> u64
-    ensures { result ≡ join_number (joining_answer answer) }
+#[tactic(auto, unfolding(crate::specs::Joins::join_number, join::specs::Join::joining_answer))]
+fn join_number(joined: Result<u32, Refusal>) -> u64
+    ensures { result ≡ join_number (joining_answer joined) }
 {
-    match answer {
-        Joining::Joined(leaves) => return leaves as u64,
-        Joining::Refused(number) => return super::refusal_number(number),
+    match joined {
+        Ok(leaves) => u64::from(leaves),
+        Err(refusal) => super::refusal_number(refusal),
     }
 }
 

@@ -8,24 +8,24 @@ mod reports;
 mod walkers;
 
 ghost use Rattle.std.specs.Prelude.{◌≡◌, ◌+◌, ◌*◌, ◌/◌, ◌≤◌, ◌<◌, length};
-ghost use Rattle.aabb.specs.Aabb.{entry_distance};
+ghost use Rattle.causes.specs.Refusal.{cause_in, cause_number};
 ghost use Rattle.packed.specs.Packed.{box_in};
 ghost use Rattle.record_shape.specs.Check.{check_of, words_after};
 ghost use Rattle.validate.specs.Validity.{verdict_of};
 ghost use Rattle.bvh2_to_cwbvh.specs.Answer.{conversion_answer};
 ghost use Rattle.funnelcress.specs.Answers.{answer_number};
-ghost use Rattle.funnelcress.specs.Converted.{conversion_by, conversion_number, handed};
-ghost use Rattle.any_hit.specs.AnyHit.{result_of as anyHitResult};
+ghost use Rattle.funnelcress.specs.Converted.{order_cause, conversion_by, conversion_number, handed};
+ghost use Rattle.any_hit.specs.AnyHit.{result_of};
 ghost use Rattle.closest.specs.Panes.{closest_answer, closest_result, miss_result};
 ghost use Rattle.funnelcress.specs.Queries.{any_hit_by, list_by, closest_by, distance_in, miss_by, short_cause};
 ghost use Rattle.funnelcress.specs.Queries.{number_of, any_hit_number, closest_number, miss_number, AnyHitFits, ClosestFits, MissFits};
-ghost use Rattle.funnelcress.specs.Lists.{filled, area_at, entry_at, refusal, ray_refusal, answered};
+ghost use Rattle.funnelcress.specs.Lists.{FilledBy, area_at, entry_at, refusal, ray_refusal, answered};
 
-use any_hit::{AnyHit, AnyHitFound};
-use bvh2_to_cwbvh::Conversion;
+use aabb::Aabb;
+use any_hit::{AnyHit, AnyHitError};
+use bvh2_to_cwbvh::Converted;
+use causes::Refusal;
 use closest::{ClosestFound, ClosestHit, MissFound, Occlusion};
-use ray::Ray;
-use validate::Validity;
 
 // An answer's number: a query's node tests count TESTS each, the kind of answer KIND, and what it holds is added.
 const TESTS: u64 = 0x1_0000_0000_0000;
@@ -38,41 +38,27 @@ const REFUSED: u64 = 2 * KIND;
 // A level of a converted tree counts so much: the nodes stand below it.
 const LEVEL: u64 = 65536;
 
-// What refuses a list of boxes with room for an answer to each.
-fn list_refusal(boxes: &[f32], out: &[f32]) -> u32
-    ensures { result ≡ refusal boxes.now out.now }
+// Whether a list has whole boxes, and room for an answer to each.
+fn check_list(boxes: &[f32], out: &[f32]) -> Result<(), Refusal>
+    ensures { cause_in result ≡ refusal boxes.now out.now }
 {
     if boxes.len() % packed::BOX != 0 {
-        return 1;
+        return Err(Refusal::LengthUnfit);
     }
     if boxes.len() / packed::BOX > out.len() {
-        return 4;
+        return Err(Refusal::SliceShort);
     }
-    0
+    Ok(())
 }
 
-fn fill_areas(boxes: &[f32], out: &mut [f32])
-    requires { length boxes.now / 6 ≤ length out.old }
-    ensures { out.new ≡ filled (area_at boxes.now) (length boxes.now / 6) out.old }
+// Writes the answer to each box, at the front of the answers.
+fn fill<F: Fn(Aabb) -> f32>(boxes: &[f32], out: &mut [f32], answer: F)
+    requires room { length boxes.now / 6 ≤ length out.old }
+    requires callable { F.IsAlwaysCallable answer }
+    ensures { FilledBy (λ k. F.post answer (box_in boxes.now k)) (length boxes.now / 6) out.old out.new }
 {
-    let count = boxes.len() / packed::BOX;
-    let mut i: usize = 0;
-    while i < count {
-        out[i] = packed::box_at(boxes, i).half_area();
-        i += 1;
-    }
-}
-
-fn fill_entries(boxes: &[f32], r: Ray, out: &mut [f32])
-    requires { length boxes.now / 6 ≤ length out.old }
-    ensures { out.new ≡ filled (λ k. entry_distance (box_in boxes.now k) r) (length boxes.now / 6)
-        out.old }
-{
-    let count = boxes.len() / packed::BOX;
-    let mut i: usize = 0;
-    while i < count {
-        out[i] = packed::box_at(boxes, i).intersect_ray(r);
-        i += 1;
+    for i in 0..boxes.len() / packed::BOX {
+        out[i] = answer(packed::box_at(boxes, i));
     }
 }
 
@@ -82,11 +68,13 @@ pub extern "C" fn funnelcress_half_areas(boxes: &[f32], out: &mut [f32]) -> u32
     ensures value { result ≡ refusal boxes.now out.old }
     ensures out_after { out.new ≡ answered result (area_at boxes.now) boxes.now out.old }
 {
-    let number = list_refusal(boxes, out);
-    if number == 0 {
-        fill_areas(boxes, out);
+    match check_list(boxes, out) {
+        Ok(()) => {
+            fill(boxes, out, |b| b.half_area());
+            0
+        }
+        Err(refusal) => u32::from(refusal),
     }
-    number
 }
 
 // The distance at which the ray enters each box, +infinity where it misses, at the front of the answers.
@@ -96,36 +84,34 @@ pub extern "C" fn funnelcress_entry_distances(boxes: &[f32], ray: &[f32], out: &
     ensures out_after { out.new ≡ answered result (entry_at boxes.now ray.now) boxes.now out.old }
 {
     if ray.len() != packed::RAY {
-        return 1;
+        return u32::from(Refusal::LengthUnfit);
     }
-    let number = list_refusal(boxes, out);
-    if number == 0 {
-        fill_entries(boxes, packed::ray_at(ray, 0), out);
+    match check_list(boxes, out) {
+        Ok(()) => {
+            let r = packed::ray_at(ray, 0);
+            fill(boxes, out, |b| b.intersect_ray(r));
+            0
+        }
+        Err(refusal) => u32::from(refusal),
     }
-    number
 }
 
-// The number of an answer that is the refusal of this number.
-fn refusal_number(number: u32) -> u64
-    ensures { result ≡ 0x2_0000_0000 + number }
+// The number of an answer that is a refusal. This part all calls share; what else an answer holds differs, so that each has a function of its own.
+fn refusal_number(refusal: Refusal) -> u64
+    ensures { result ≡ 0x2_0000_0000 + cause_number refusal }
 {
-    REFUSED + number as u64
+    REFUSED + u64::from(u32::from(refusal))
 }
 
 // The record check's answer as a number.
-fn answer_number(v: Validity) -> u64
-    ensures { result ≡ answer_number (verdict_of v) }
+#[tactic(auto, unfolding(crate::specs::Answers::answer_number, validate::specs::Validity::verdict_of, validate::specs::Validity::soundness))]
+fn answer_number(verdict: Result<Option<u32>, Refusal>) -> u64
+    ensures { result ≡ answer_number (verdict_of verdict) }
 {
-    match v {
-        Validity::Sound(level) => {
-            return level as u64;
-        }
-        Validity::Unsound => {
-            return KIND;
-        }
-        Validity::Refused(number) => {
-            return refusal_number(number);
-        }
+    match verdict {
+        Ok(Some(level)) => u64::from(level),
+        Ok(None) => KIND,
+        Err(refusal) => refusal_number(refusal),
     }
 }
 
@@ -139,22 +125,28 @@ pub extern "C" fn funnelcress_validate(record: &[u8], n: usize, work: &mut [u32]
 }
 
 // Conversion's answer as a number.
-fn conversion_number(c: Conversion) -> u64
-    ensures { result ≡ conversion_number (conversion_answer c) }
+#[tactic(auto, unfolding(crate::specs::Converted::conversion_number, bvh2_to_cwbvh::specs::Answer::conversion_answer))]
+fn conversion_number(conversion: Result<Converted, Refusal>) -> u64
+    ensures { result ≡ conversion_number (conversion_answer conversion) }
 {
-    match c {
-        Conversion::Converted(nodes, level) => {
-            return level as u64 * LEVEL + nodes as u64;
-        }
-        Conversion::Refused(number) => {
-            return refusal_number(number);
-        }
+    match conversion {
+        Ok(converted) => u64::from(converted.level) * LEVEL + u64::from(converted.nodes),
+        Err(refusal) => refusal_number(refusal),
+    }
+}
+
+// What refuses an order that is neither 0 nor 1: its own cause comes behind those of the sizes.
+fn order_refusal(words: &[u32], n: usize) -> Refusal
+    ensures { cause_number result ≡ order_cause (length words.now) n }
+{
+    match bvh2_check::sizes(words, n) {
+        Ok(()) => Refusal::LimitOver,
+        Err(refusal) => refusal,
     }
 }
 
 // Conversion with ordering off for order 0 and on for 1, any other order being refused: its answer, and below 2^32 the deepest level and the sixteen
-// bits of
-// the node count, or the number of a refusal. The tables of the tree's decisions and costs are left in the working slices.
+// bits of the node count, or the number of a refusal. The tables of the tree's decisions and costs are left in the working slices.
 #[unsafe(no_mangle)]
 pub extern "C" fn funnelcress_bvh2_to_cwbvh(
     words: &[u32],
@@ -184,11 +176,7 @@ pub extern "C" fn funnelcress_bvh2_to_cwbvh(
     })) }
 {
     if order > 1 {
-        let cause = bvh2_check::sizes(words, indices.len());
-        if cause != 0 {
-            return conversion_number(Conversion::Refused(cause));
-        }
-        return conversion_number(Conversion::Refused(3));
+        return refusal_number(order_refusal(words, indices.len()));
     }
     let ordered = order == 1;
     conversion_number(bvh2_to_cwbvh::bvh2_to_cwbvh(
@@ -201,19 +189,19 @@ fn query_number(tests: u32, kind: u64, held: u32) -> u64
     requires { (tests ≤ 65535) × (kind ≤ 1) }
     ensures { result ≡ number_of tests kind held }
 {
-    tests as u64 * TESTS + kind * KIND + held as u64
+    u64::from(tests) * TESTS + kind * KIND + u64::from(held)
 }
 
 // Any-hit's answer as a number.
-fn any_hit_number(found: AnyHitFound) -> u64
-    requires { AnyHitFits (anyHitResult found) }
-    ensures { result ≡ any_hit_number (anyHitResult found) }
+#[tactic(auto, unfolding(crate::specs::Queries::any_hit_number, any_hit::specs::AnyHit::result_of, any_hit::specs::AnyHit::any_hit_answer))]
+fn any_hit_number(found: Result<AnyHit, AnyHitError>) -> u64
+    requires { AnyHitFits (result_of found) }
+    ensures { result ≡ any_hit_number (result_of found) }
 {
-    let answer = found.answer;
-    match answer {
-        AnyHit::Listed(count) => return query_number(found.tests, 0, count),
-        AnyHit::Short(needed) => return query_number(found.tests, 1, needed),
-        AnyHit::Refused(number) => return refusal_number(number),
+    match found {
+        Ok(listed) => query_number(listed.tests, 0, listed.count),
+        Err(AnyHitError::Short(needed)) => query_number(0, 1, needed),
+        Err(AnyHitError::Refused(refusal)) => refusal_number(refusal),
     }
 }
 
@@ -225,41 +213,40 @@ pub extern "C" fn funnelcress_any_hit(record: &[u8], n: usize, ray: &[f32], list
     ensures list_after { list.new ≡ list_by «record».now n ray.now list.old }
 {
     if ray.len() != packed::RAY {
-        return refusal_number(1);
+        return refusal_number(Refusal::LengthUnfit);
     }
-    let r = packed::ray_at(ray, 0);
-    any_hit_number(any_hit::any_hit(record, n, r.origin, r.direction, r.tmin, r.tmax, list))
+    let beam = packed::beam_at(ray, 0);
+    any_hit_number(any_hit::any_hit(record, n, beam, list))
 }
 
 // Closest's answer as a number, and the distance of a hit as the first float lent.
+#[tactic(auto, unfolding(crate::specs::Queries::closest_number, crate::specs::Queries::distance_in, closest::specs::Panes::closest_answer))]
 fn closest_number(found: ClosestFound, out: &mut [f32]) -> u64
     requires { ClosestFits (closest_result found) × (0 < length out.old) }
     ensures value { result ≡ closest_number (closest_result found) }
     ensures out_after { out.new ≡ distance_in (closest_answer found.answer) out.old }
 {
-    let answer = found.answer;
-    match answer {
-        ClosestHit::Hit(p, t) => {
-            out[0] = t;
-            return query_number(found.tests, 0, p);
+    match found.answer {
+        ClosestHit::Hit(position, distance) => {
+            out[0] = distance;
+            query_number(found.tests, 0, position)
         }
-        ClosestHit::NoHit => return query_number(found.tests, 1, 0),
-        ClosestHit::Refused(number) => return refusal_number(number),
+        ClosestHit::NoHit => query_number(found.tests, 1, 0),
+        ClosestHit::Refused(refusal) => refusal_number(refusal),
     }
 }
 
-// What refuses closest where no float is lent, by the cause on entry.
-fn short_cause(cause: u32) -> u32
-    ensures { result ≡ short_cause cause }
+// What refuses closest where no float is lent, by what refuses it on entry.
+fn short_refusal(entry: Result<(), Refusal>) -> Refusal
+    ensures { cause_number result ≡ short_cause (cause_in entry) }
 {
-    if cause == 0 {
-        return 4;
+    match entry {
+        Ok(()) => Refusal::SliceShort,
+        Err(refusal) => {
+            let sooner = u32::from(refusal) < u32::from(Refusal::SliceShort);
+            if sooner { refusal } else { Refusal::SliceShort }
+        }
     }
-    let sooner = cause < 4;
-    if sooner {
-        return cause;
-    }
-    4
 }
 
 // Closest for a ray of eight floats: node tests, the kind of answer, and below 2^32 the position of a hit or the number of a
@@ -278,38 +265,30 @@ pub extern "C" fn funnelcress_closest(
         panes.now ray.now).answer out.old }
 {
     if ray.len() != packed::RAY {
-        return refusal_number(1);
+        return refusal_number(Refusal::LengthUnfit);
     }
-    let r = packed::ray_at(ray, 0);
     if out.len() == 0 {
         let fits = panes.len() % packed::BOX == 0;
-        let cause = query::entry_cause(fits, record.len(), indices.len(), 0, r);
-        return refusal_number(short_cause(cause));
+        let r = packed::ray_at(ray, 0);
+        let entry = query::check_entry(fits, record.len(), indices.len(), Ok(()), r);
+        return refusal_number(short_refusal(entry));
     }
-    closest_number(
-        closest::closest(
-            record,
-            indices,
-            panes,
-            r.origin,
-            r.direction,
-            r.tmin,
-            r.tmax,
-        ),
-        out,
-    )
+    let beam = packed::beam_at(ray, 0);
+    closest_number(closest::closest(record, indices, panes, beam), out)
 }
 
 // Miss's answer as a number.
-fn miss_number(found: MissFound) -> u64
+#[tactic(auto, unfolding(crate::specs::Queries::miss_number, closest::specs::Panes::miss_result, closest::specs::Panes::miss_answer))]
+fn miss_number(found: Result<MissFound, Refusal>) -> u64
     requires { MissFits (miss_result found) }
     ensures { result ≡ miss_number (miss_result found) }
 {
-    let answer = found.answer;
-    match answer {
-        Occlusion::Missed => return query_number(found.tests, 0, 0),
-        Occlusion::Blocked => return query_number(found.tests, 1, 0),
-        Occlusion::Refused(number) => return refusal_number(number),
+    match found {
+        Ok(found) => match found.answer {
+            Occlusion::Missed => query_number(found.tests, 0, 0),
+            Occlusion::Blocked => query_number(found.tests, 1, 0),
+        },
+        Err(refusal) => refusal_number(refusal),
     }
 }
 
@@ -324,16 +303,8 @@ pub extern "C" fn funnelcress_miss(
     ensures { result ≡ miss_number (miss_by «record».now indices.now panes.now ray.now) }
 {
     if ray.len() != packed::RAY {
-        return refusal_number(1);
+        return refusal_number(Refusal::LengthUnfit);
     }
-    let r = packed::ray_at(ray, 0);
-    miss_number(closest::miss(
-        record,
-        indices,
-        panes,
-        r.origin,
-        r.direction,
-        r.tmin,
-        r.tmax,
-    ))
+    let beam = packed::beam_at(ray, 0);
+    miss_number(closest::miss(record, indices, panes, beam))
 }

@@ -3,15 +3,16 @@ ghost use Rattle.std.specs.Prelude.{◌≡◌};
 ghost use Rattle.loss.specs.Loss.{report_of, totals_answer};
 ghost use Rattle.funnelcress.specs.Reports.{report_number, handed_report};
 
-use loss::Totals;
+use causes::Refusal;
 
 // A report's answer as a number.
-fn report_number(answer: Totals) -> u64
-    ensures { result ≡ report_number (totals_answer answer) }
+#[tactic(auto, unfolding(crate::specs::Reports::report_number, loss::specs::Loss::totals_answer))]
+fn report_number(report: Result<u64, Refusal>) -> u64
+    ensures { result ≡ report_number (totals_answer report) }
 {
-    match answer {
-        Totals::Totalled(tests) => return tests,
-        Totals::Refused(number) => return super::refusal_number(number),
+    match report {
+        Ok(tests) => tests,
+        Err(refusal) => super::refusal_number(refusal),
     }
 }
 

@@ -1,21 +1,24 @@
 // A walker for C and Rust, kept in words that the caller lends: 18, and the 32 of its stack.
 ghost use Rattle.std.specs.Prelude.{◌≡◌, not, eqb};
+ghost use Rattle.causes.specs.Refusal.{cause_in};
 ghost use Rattle.traverse.specs.Walker.{started, told_walker, step_bytes};
 ghost use Rattle.advance.specs.Turn.{step_answer};
 ghost use Rattle.walker_state.specs.State.{walker_in, held, is_refused, Leaves};
 ghost use Rattle.packed.specs.Packed.{ray_in};
 ghost use Rattle.funnelcress.specs.Walkers.{begin_cause, begun_number, step_number};
 
+use causes::Refusal;
 use traverse::Answer;
 
-// The number of a cause, 0 for none.
-fn begun_number(cause: u32) -> u64
-    ensures { result ≡ begun_number cause }
+// How beginning ends, as a number.
+#[tactic(auto, unfolding(crate::specs::Walkers::begun_number))]
+fn begun_number(begun: Result<(), Refusal>) -> u64
+    ensures { result ≡ begun_number (cause_in begun) }
 {
-    if cause == 0 {
-        return 0;
+    match begun {
+        Ok(()) => 0,
+        Err(refusal) => super::refusal_number(refusal),
     }
-    super::refusal_number(cause)
 }
 
 // Begins a walker for a ray of eight floats; refused, the words stay as they were.
@@ -27,21 +30,22 @@ pub extern "C" fn funnelcress_begin(ray: &[f32], head: &mut [u64; 18], stack: &m
 {
     let odd = ray.len() != 8;
     if odd {
-        return super::refusal_number(1);
+        return super::refusal_number(Refusal::LengthUnfit);
     }
-    let r = packed::ray_at(ray, 0);
-    begun_number(walker_state::begin(r.origin, r.direction, r.tmin, r.tmax, head, stack))
+    let beam = packed::beam_at(ray, 0);
+    begun_number(walker_state::begin(beam, head, stack))
 }
 
 // A step's answer as a number.
+#[tactic(auto, unfolding(crate::specs::Walkers::step_number, advance::specs::Turn::step_answer))]
 fn step_number(answer: Answer) -> u64
     ensures { result ≡ step_number (step_answer answer) }
 {
     match answer {
-        Answer::Tested(node) => return node as u64,
-        Answer::Position(position) => return 0x1_0000_0000 + position as u64,
-        Answer::Done => return 0x3_0000_0000,
-        Answer::Refused(number) => return super::refusal_number(number),
+        Answer::Tested(node) => u64::from(node),
+        Answer::Position(position) => 0x1_0000_0000 + u64::from(position),
+        Answer::Done => 0x3_0000_0000,
+        Answer::Refused(refusal) => super::refusal_number(refusal),
     }
 }
 

@@ -128,11 +128,11 @@ module _ (a n b m : ℕ) where
         go true i true j f = absurd (h f)
 
     -- and where none is, that of all leaves comes next, and then that of the room
-    module _ (k : ℕ) (e : k ≡ lesser_cause (sizes_cause a n) (sizes_cause b m)) (z : k ≡ 0) where
+    module _ (none : lesser_cause (sizes_cause a n) (sizes_cause b m) ≡ 0) where
       sizes_left : first_cause (size_tests a n b m marks words indices)
           ≡ first_cause (2 unless leb (n + m) 65536 ∷ 4 unless room_for n m marks words indices ∷ [])
       unfolding size_tests first_cause
-      sizes_left = go (eqb a (tree_nodes n * 7) && eqb b (tree_nodes m * 7)) (leb n 65536 && leb m 65536) (sym sizes_both ∙ sym e ∙ z)
+      sizes_left = go (eqb a (tree_nodes n * 7) && eqb b (tree_nodes m * 7)) (leb n 65536 && leb m 65536) (sym sizes_both ∙ none)
         where
           go : (p q : Bool) → first_cause (1 unless p ∷ 2 unless q ∷ []) ≡ 0
               → first_cause (1 unless p ∷ 2 unless leb (n + m) 65536 ∷ 4 unless room_for n m marks words indices ∷ [])
@@ -196,10 +196,10 @@ module _ (ws : List ℕ) (n : ℕ) (us : List ℕ) (m : ℕ) where
       go true true true w f = absurd (h f)
 
   -- and where none is, the edge to the new root comes next
-  module _ (k : ℕ) (e : k ≡ lesser_cause (structure_cause ws n) (structure_cause us m)) (none : k ≡ 0) where
+  module _ (none : lesser_cause (structure_cause ws n) (structure_cause us m) ≡ 0) where
     trees_left : first_cause (tree_tests ws n us m) ≡ first_cause (7 unless edge_to_spare ws n us m ∷ [])
     unfolding tree_tests first_cause
-    trees_left = go links boxes trees (sym structures_both ∙ sym e ∙ none)
+    trees_left = go links boxes trees (sym structures_both ∙ none)
       where
         go : (x y z : Bool) → first_cause (5 unless x ∷ 6 unless y ∷ 7 unless z ∷ []) ≡ 0
             → first_cause (5 unless x ∷ 6 unless y ∷ 7 unless (z && edge_to_spare ws n us m) ∷ [])
@@ -219,5 +219,5 @@ module _ (ws : List ℕ) (n : ℕ) (us : List ℕ) (m : ℕ) where
 
     -- both are then accepted
     pub trees_accepted : TreeSized ws n → TreeSized us m → Accepted ws n × Accepted us m
-    trees_accepted p q = let z = lesser_zero (structure_cause ws n) (structure_cause us m) (sym e ∙ none) in
+    trees_accepted p q = let z = lesser_zero (structure_cause ws n) (structure_cause us m) none in
         ((structure_none ws n p).0 z.0, (structure_none us m q).0 z.1)

@@ -1,7 +1,7 @@
 -- Whether the new root's edge makes no path too long, by the depths of both trees.
 use mathlib.Core.Bool.{Bool, true, false}
 use mathlib.Core.List.{List}
-use mathlib.Core.Logic.{◌↔◌}
+use mathlib.Core.Logic.{◌⊎◌, inl, inr, ◌↔◌}
 use mathlib.Core.Path.{◌≡◌, refl, sym, ◌∙◌}
 use Prim.Native.Nat.{ℕ, zero, suc, ◌<◌, ◌≤◌, max}
 use native.Mathlib.Decide.{dec_lt}
@@ -33,18 +33,17 @@ shallow ws n a p = go (is_whole ws (tree_at ws 126 0)) refl (depth_tells ws 127 
     go false e t = sym (tells_false (leb_tells (depth (tree_of ws)) 126) (λ l. denied (whole_tells ws (tree_at ws 126 0)) e (t.1 l)))
 
 module _ (ws : List ℕ) (n : ℕ) (us : List ℕ) (m : ℕ) where
-  pub spare_second : n ≡ 0 → true ≡ edge_to_spare ws n us m
+  -- one of the trees is empty,
+  pub spare_empty : (n ≡ 0) ⊎ ((n ≡ 0 → ⊥) × (m ≡ 0)) → true ≡ edge_to_spare ws n us m
   unfolding edge_to_spare
-  spare_second e = rw e refl
-
-  pub spare_first : (n ≡ 0 → ⊥) → m ≡ 0 → true ≡ edge_to_spare ws n us m
-  unfolding edge_to_spare
-  spare_first h e = go n h
+  spare_empty (inl e) = rw e refl
+  spare_empty (inr e) = go n e.0
     where
       go : (k : ℕ) → (k ≡ 0 → ⊥) → true ≡ edge_to_spare ws k us m
       go zero h = absurd (h refl)
-      go (suc k) h = rw e refl
+      go (suc k) h = rw e.1 refl
 
+  -- or neither is
   pub spare_both : (n ≡ 0 → ⊥) → (m ≡ 0 → ⊥) → edge_to_spare ws n us m ≡ leb (suc (max (depth (tree_of ws)) (depth (tree_of us)))) 127
   unfolding edge_to_spare
   spare_both h k = go n m h k

@@ -152,11 +152,11 @@ module _ (c : JoinCall) where
       let great = trees_great (λ z. h (e ∙ z)) in
       refused_as k marks h (by_trees none (λ z. h (e ∙ z)) ∙ sym e) (m ∙ rw (lt-leb k 4 (omega (arith, e, great))) refl)
 
-  module _ (none : first_cause sizes ≡ 0) (k : ℕ) (e : k ≡ first_cause trees) (z : k ≡ 0) (marks : List ℕ) (m : marks ≡ zeroed_marks c) where
+  module _ (none : first_cause sizes ≡ 0) (left : first_cause trees ≡ 0) (marks : List ℕ) (m : marks ≡ zeroed_marks c) where
     pub ends_sums : (r : Bool) → r ≡ sums_fit c.panes c.second_indices → r ≡ false
         → record { answer = refused_join 13; marks = marks; words = c.words; indices = c.indices } ≡ join_of c
     ends_sums r f g =
-        refused_as 13 marks (λ i. omega arith) (by_sums none (sym e ∙ z) ∙ first_here [] (sym f ∙ g)) m
+        refused_as 13 marks (λ i. omega arith) (by_sums none left ∙ first_here [] (sym f ∙ g)) m
 
     pub ends_joined : (r : Bool) → r ≡ sums_fit c.panes c.second_indices → r ≡ true → (words indices : List ℕ)
         → words ≡ splice c.words 0 (joined_words c.first (first_leaves c) c.second (second_leaves c))
@@ -164,5 +164,5 @@ module _ (c : JoinCall) where
         → record { answer = joined (both_leaves c); marks = marks; words = words; indices = indices } ≡ join_of c
     unfolding join_of join_by
     ends_joined r f g words indices w i =
-        let none_left : join_cause c ≡ 0 = by_sums none (sym e ∙ z) ∙ first_later 13 [] (sym f ∙ g) ∙ passed_none [] tt in
+        let none_left : join_cause c ≡ 0 = by_sums none left ∙ first_later 13 [] (sym f ∙ g) ∙ passed_none [] tt in
         rw (none_left, m, w, i) refl

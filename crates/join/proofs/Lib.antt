@@ -1,7 +1,9 @@
 pub mod Causes
 pub mod Depths
 pub mod Ends
+pub mod First
 pub mod Marks
 pub mod Moving
 pub mod Parts
 pub mod Room
+pub mod Sums

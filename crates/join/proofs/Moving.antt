@@ -1,11 +1,9 @@
 -- Words and nodes moved: what is written for each, and that it fits.
-use mathlib.Core.Bool.{Bool}
-use mathlib.Core.Logic.{inl, inr}
+use mathlib.Core.Bool.{Bool, true}
 use mathlib.Core.List.{List, [], ◌∷◌, ◌++◌, map}
 use mathlib.Core.Path.{◌≡◌, refl, sym, ap, ap₂, subst, ◌∙◌}
 use Prim.Native.Nat.{ℕ, suc, ◌+◌, ◌-◌, ◌*◌, ◌/◌, ◌%◌, ◌^◌, ◌<◌, ◌≤◌}
 use native.Mathlib.Decide.{ℕ_discrete}
-use native.Mathlib.Nat.{add-zero}
 use native.Mathlib.Omega.{arith}
 use lib.ListN.{length, get_or, length-append, length-map, get_or-map}
 use lib.Seq.{ext_get_or}
@@ -13,7 +11,6 @@ use lib.Dec.{leb}
 use borrow.Author.Tests.{leb-true}
 use Rattle.lists.specs.Splice.{splice}
 use Rattle.lists.specs.Values.{values}
-use Rattle.lists.proofs.Splice.{length-splice}
 use Rattle.lists.proofs.Values.{values_length, values_at}
 use Rattle.lists.proofs.Tells.{all_at}
 use Rattle.bvh2.specs.Words.{tree_nodes, Link, children, position, malformed, link_of, word_at, link_at}
@@ -21,9 +18,9 @@ use Rattle.bvh2.specs.Causes.{LinkInside, Accepted}
 use Rattle.bvh2.proofs.First.{accepted_facts}
 use Rattle.bvh2.proofs.Reading.{word-children, word_position, word_malformed}
 use Rattle.tree_words.specs.Nodes.{in_turn}
-use Rattle.tree_words.proofs.Nodes.{turn-length, turn_next}
-use Rattle.join.specs.Join.{moved_link, moved_node}
-use Rattle.join.specs.Steps.{LinksInside, StaysWords}
+use Rattle.tree_words.proofs.Nodes.{turn_next}
+use Rattle.join.specs.Join.{moved_link, moved_node, sums_fit}
+use Rattle.join.specs.Steps.{LinksInside}
 
 -- ---- a list's words, one by one
 pub map-values : (f : ℕ → ℕ) (l : List ℕ) → values (λ i. f (get_or l i 0)) (length l) ≡ map f l
@@ -39,15 +36,9 @@ pub all_moved : (l : List ℕ) (by : ℕ) (s : List ℕ) (at : ℕ) (t : List �
 all_moved l by s at t i e h =
     e ∙ ap (λ (k : ℕ). splice s at (values (λ j. get_or l j 0 + by) k)) h ∙ ap (splice s at) (map-values (λ k. k + by) l)
 
--- moved by nothing, a list is itself, and its words fit
-pub map_none : (l : List ℕ) → map (λ k. k + 0) l ≡ l
-map_none [] = refl
-map_none (x ∷ l) = rw (map_none l, add-zero x)
-
 -- a word moved so is a word
-pub stays_word : (by : ℕ) (l : List ℕ) (i : ℕ) → StaysWords by l → i < length l → get_or l i 0 < 2 ^ 32 → get_or l i 0 + by < 2 ^ 32
-stays_word by l i (inl e) h w = omega (arith, e)
-stays_word by l i (inr e) h w =
+pub stays_word : (by : ℕ) (l : List ℕ) (i : ℕ) → sums_fit by l ≡ true → i < length l → get_or l i 0 + by < 2 ^ 32
+stays_word by l i e h =
     let f : ℕ → Bool = λ k. leb (get_or l k 0 + by) 0xffff_ffff in
     omega (arith, leb-true (get_or l i 0 + by) 0xffff_ffff (all_at f (length l) e i h))
 
@@ -108,10 +99,6 @@ module _ (ws : List ℕ) (nodes positions : ℕ) where
   rest_seven v = moved_seven ws nodes positions (v + 1)
 
   module _ (s t : List ℕ) (v : ℕ) (h : 1 ≤ v) (e : t ≡ splice s ((1 + nodes) * 7) (in_turn rest_node (v - 1))) where
-    pub rest_kept : (v + nodes) * 7 ≤ length s → length t ≡ length s
-    rest_kept k = ap length e
-        ∙ length-splice s ((1 + nodes) * 7) (in_turn rest_node (v - 1)) (omega (arith, turn-length rest_node rest_seven (v - 1)))
-
     pub rest_next : (u : List ℕ) → (v + nodes) * 7 + 7 ≤ length s → u ≡ splice t ((v + nodes) * 7) (moved_node ws nodes positions v)
         → u ≡ splice s ((1 + nodes) * 7) (in_turn rest_node (v + 1 - 1))
     rest_next u k f =
@@ -121,7 +108,3 @@ module _ (ws : List ℕ) (nodes positions : ℕ) where
         subst (λ (j : ℕ). u ≡ splice s ((1 + nodes) * 7) (in_turn rest_node j)) next
         (turn_next rest_node rest_seven s ((1 + nodes) * 7) (v - 1) t u (omega arith) e
         (f ∙ ap₂ (λ (i j : ℕ). splice t i (moved_node ws nodes positions j)) place own))
-
-    -- up to the last
-    pub rest_all : (n : ℕ) → v ≡ tree_nodes n → t ≡ splice s ((1 + nodes) * 7) (in_turn rest_node (tree_nodes n - 1))
-    rest_all n i = subst (λ (k : ℕ). t ≡ splice s ((1 + nodes) * 7) (in_turn rest_node (k - 1))) i e

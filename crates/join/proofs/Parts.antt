@@ -5,7 +5,7 @@ use mathlib.Core.Path.{◌≡◌, refl, sym, ap, ◌∙◌}
 use Prim.Native.Nat.{ℕ, zero, suc, ◌+◌, ◌-◌, ◌*◌, ◌<◌, ◌≤◌}
 use native.Mathlib.Nat.{zero-add}
 use native.Mathlib.Omega.{arith}
-use lib.ListN.{length, length-append, length-map}
+use lib.ListN.{length, drop, length-append, length-map}
 use Rattle.lists.specs.Splice.{splice}
 use Rattle.lists.proofs.Splice.{written_next}
 use Rattle.aabb.specs.declared.Aabb.{Aabb}
@@ -18,7 +18,7 @@ use Rattle.bvh2.proofs.First.{accepted_facts}
 use Rattle.tree_words.specs.Nodes.{in_turn}
 use Rattle.tree_words.proofs.Nodes.{turn-length}
 use Rattle.join.specs.Join.{first_node, second_node, under_root, joined_words, joined_indices}
-use Rattle.join.proofs.Moving.{map_none, moved_seven}
+use Rattle.join.proofs.Moving.{moved_seven}
 
 -- the box of an accepted tree's root, and of two
 root_box : (ws : List ℕ) (n : ℕ) → Accepted ws n → 0 < n → accepted_box (box_at ws 0) ≡ true
@@ -31,6 +31,11 @@ roots_box ws us n m a b p q = union_accepted (box_at ws 0) (box_at us 0) (root_b
 -- an accepted tree with leaves has its root in words
 pub root_room : (ws : List ℕ) (n : ℕ) → Accepted ws n → 0 < n → 6 < length ws
 root_room ws n a p = let e = (accepted_facts ws n a p).sized.fit in omega arith
+
+-- a list copied to the front
+pub front_written : (s l t : List ℕ) → t ≡ l → t ++ drop (length l) s ≡ splice s 0 l
+unfolding splice
+front_written s l t e = rw (e, zero-add (length l)) refl
 
 module _ (ws : List ℕ) (n : ℕ) (us : List ℕ) (m : ℕ) where
   abbrev new_root : List ℕ
@@ -73,11 +78,11 @@ module _ (ws : List ℕ) (n : ℕ) (us : List ℕ) (m : ℕ) where
       (g ∙ ap (λ (k : ℕ). splice u k b) (sym (zero-add ((1 + 2 * n) * 7))))
 
   -- with an empty partner
-  pub second_alone : n ≡ 0 → (s t : List ℕ) → t ≡ splice s 0 (map (λ k. k + 0) us) → t ≡ splice s 0 (joined_words ws n us m)
-  second_alone e s t f = f ∙ ap (splice s 0) (map_none us) ∙ rw e refl
+  pub second_alone : n ≡ 0 → (s t : List ℕ) → t ≡ splice s 0 us → t ≡ splice s 0 (joined_words ws n us m)
+  second_alone e s t f = f ∙ rw e refl
 
-  pub first_alone : (n ≡ 0 → ⊥) → m ≡ 0 → (s t : List ℕ) → t ≡ splice s 0 (map (λ k. k + 0) ws) → t ≡ splice s 0 (joined_words ws n us m)
-  first_alone h e s t f = f ∙ ap (splice s 0) (map_none ws ∙ go n m h e)
+  pub first_alone : (n ≡ 0 → ⊥) → m ≡ 0 → (s t : List ℕ) → t ≡ splice s 0 ws → t ≡ splice s 0 (joined_words ws n us m)
+  first_alone h e s t f = f ∙ ap (splice s 0) (go n m h e)
     where
       go : (i j : ℕ) → (i ≡ 0 → ⊥) → j ≡ 0 → ws ≡ joined_words ws i us j
       go zero j h e = absurd (h refl)
@@ -93,8 +98,9 @@ module _ (ws : List ℕ) (n : ℕ) (us : List ℕ) (m : ℕ) where
       go (suc i) (suc j) h k = refl
 
 -- index words of both
-pub both_moved : (l : List ℕ) (panes : ℕ) (k s t u : List ℕ) → length l + length k ≤ length s → t ≡ splice s 0 (map (λ i. i + 0) l)
+pub both_moved : (l : List ℕ) (panes : ℕ) (k s t u : List ℕ) → length l + length k ≤ length s → t ≡ splice s 0 l
     → u ≡ splice t (length l) (map (λ i. i + panes) k) → u ≡ splice s 0 (joined_indices l panes k)
 both_moved l panes k s t u h e f =
-    written_next s 0 (length l) (length k) l (map (λ i. i + panes) k) t u refl (length-map k (λ i. i + panes)) (omega arith)
-    (e ∙ ap (splice s 0) (map_none l)) (f ∙ ap (λ (a : ℕ). splice t a (map (λ i. i + panes) k)) (sym (zero-add (length l))))
+    let moved = map (λ i. i + panes) k in
+    written_next s 0 (length l) (length k) l moved t u refl (length-map k (λ i. i + panes)) (omega arith) e
+    (f ∙ ap (λ (a : ℕ). splice t a moved) (sym (zero-add (length l))))

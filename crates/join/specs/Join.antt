@@ -11,8 +11,9 @@ use Rattle.bvh2.specs.Words.{tree_nodes, children, position, malformed, link_of,
 use Rattle.bvh2.specs.FirstCause.{links_inside, boxes_accepted, is_tree}
 use Rattle.bvh2.specs.Words.{boxed_words}
 use Rattle.tree_words.specs.Nodes.{in_turn}
-use Rattle.join.specs.declared.Joining.{Joining}
-use Rattle.join.specs.declared.Joining.TheVariants as J
+use Rattle.std.specs.Prelude.{Result, Ok, Err}
+use Rattle.causes.specs.declared.Refusal.{Refusal}
+use Rattle.causes.specs.Refusal.{cause_number}
 
 -- what the call is given: two trees' words and index words, how many panes the first's indices name, and the three lent slices
 pub record JoinCall : Type 0 where
@@ -165,6 +166,6 @@ unfolding join_tests first_cause join_by
 join_of c = join_by (join_cause c) c
 
 -- the cases of the result in the requirements' terms
-unfoldable pub joining_answer : Joining → JoinAnswer
-joining_answer (J.Joined leaves) = joined leaves
-joining_answer (J.Refused number) = refused_join number
+unfoldable pub joining_answer : Result ℕ Refusal → JoinAnswer
+joining_answer (Ok leaves) = joined leaves
+joining_answer (Err refusal) = refused_join (cause_number refusal)

@@ -4,23 +4,18 @@
 ghost use Rattle.std.specs.Prelude.{◌≡◌, true, ◌++◌, map, ◌+◌, ◌*◌, ◌-◌, ◌≤◌, ◌<◌, length, replicate};
 ghost use Rattle.lists.specs.Splice.{splice};
 ghost use Rattle.causes.specs.Causes.{first_cause};
+ghost use Rattle.causes.specs.Refusal.{cause_in};
 ghost use Rattle.aabb.specs.Aabb.{union_of};
 ghost use Rattle.bvh2.specs.Words.{tree_nodes, link_of, box_at};
 ghost use Rattle.bvh2.specs.Causes.{TreeSized, LinkInside, Accepted};
 ghost use Rattle.bvh2.specs.FirstCause.{structure_cause};
 ghost use Rattle.bvh2.specs.Words.{boxed_words};
-ghost use Rattle.bvh2_check.specs.Marking.{mark_count};
 ghost use Rattle.tree_words.specs.Nodes.{in_turn};
 ghost use Rattle.join.specs.Join.{moved_link, moved_node, first_node, second_node, under_root, joined_words, joined_indices, marks_needed};
 ghost use Rattle.join.specs.Join.{room_for, size_tests, tree_tests, edge_to_spare, sums_fit, join_of, joining_answer};
-ghost use Rattle.join.specs.Steps.{lesser_cause, LinksInside, StaysWords};
+ghost use Rattle.join.specs.Steps.{lesser_cause, LinksInside};
 
-// How the call ends: how many leaves the joined tree has; or refused for the cause of this number.
-#[derive(Clone, Copy)]
-pub enum Joining {
-    Joined(u32),
-    Refused(u32),
-}
+use causes::Refusal;
 
 // The greatest index word.
 const MOST: usize = 0xffff_ffff;
@@ -28,32 +23,17 @@ const MOST: usize = 0xffff_ffff;
 // The most edges of a path that the new root's may lengthen.
 const EDGES: u32 = 126;
 
-// The lesser of two numbers of causes, of which 0 is none.
-fn lesser(a: u32, b: u32) -> u32
-    ensures { result ≡ lesser_cause a b }
+// Of two trees' causes the one with the lesser number.
+fn first_of(a: Result<(), Refusal>, b: Result<(), Refusal>) -> Result<(), Refusal>
+    ensures { cause_in result ≡ lesser_cause (cause_in a) (cause_in b) }
 {
-    if a == 0 {
-        return b;
+    match (a, b) {
+        (Err(first), Err(second)) => {
+            let lesser = u32::from(second) < u32::from(first);
+            Err(if lesser { second } else { first })
+        }
+        _ => a.and(b),
     }
-    if b == 0 {
-        return a;
-    }
-    let second = b < a;
-    if second {
-        return b;
-    }
-    a
-}
-
-// How many marks a tree of n leaves needs.
-fn marks_for(n: usize) -> usize
-    requires { n ≤ 65536 }
-    ensures { result ≡ mark_count n }
-{
-    if n == 0 {
-        return 0;
-    }
-    3 * n - 1
 }
 
 // Whether marks, words and indices are long enough for trees of n and m leaves.
@@ -61,23 +41,13 @@ fn has_room(n: usize, m: usize, marks: usize, words: usize, indices: usize) -> b
     requires { n + m ≤ 65536 }
     ensures { result ≡ room_for n m marks words indices }
 {
-    if n + m == 0 {
-        return true;
-    }
-    if marks < marks_for(n) {
-        return false;
-    }
-    if marks < marks_for(m) {
-        return false;
-    }
-    if words < (2 * (n + m) - 1) * 7 {
-        return false;
-    }
-    n + m <= indices
+    (3 * n.max(m)).saturating_sub(1) <= marks
+        && (2 * (n + m)).saturating_sub(1) * 7 <= words
+        && n + m <= indices
 }
 
-// Causes 1, 2 and 4, or 0.
-fn size_cause(
+// Causes 1, 2 and 4.
+fn check_sizes(
     first: &[u32],
     n: usize,
     second: &[u32],
@@ -85,32 +55,35 @@ fn size_cause(
     marks: usize,
     words: usize,
     indices: usize,
-) -> u32
-    ensures { result ≡ first_cause (size_tests (length first.now) n (length second.now) m marks words indices) }
+) -> Result<(), Refusal>
+    ensures { cause_in result ≡ first_cause (size_tests (length first.now) n (length second.now) m marks words indices) }
 {
-    let cause = lesser(bvh2_check::sizes(first, n), bvh2_check::sizes(second, m));
-    if cause != 0 {
-        return cause;
-    }
+    first_of(bvh2_check::sizes(first, n), bvh2_check::sizes(second, m))?;
     let many = n + m > bvh2::MAX_LEAVES;
     if many {
-        return 2;
+        return Err(Refusal::TooMany);
     }
     if !has_room(n, m, marks, words, indices) {
-        return 4;
+        return Err(Refusal::SliceShort);
     }
-    0
+    Ok(())
 }
 
-// Causes 5 to 7 of the trees themselves, or 0; the marks needed are zero afterwards.
-fn both_structures(first: &[u32], n: usize, second: &[u32], m: usize, marks: &mut [u32]) -> u32
+// Causes 5 to 7 of the trees themselves; the marks needed are zero afterwards.
+fn check_structures(
+    first: &[u32],
+    n: usize,
+    second: &[u32],
+    m: usize,
+    marks: &mut [u32],
+) -> Result<(), Refusal>
     requires { TreeSized first.now n × TreeSized second.now m × (marks_needed n m ≤ length marks.old) }
-    ensures value { result ≡ lesser_cause (structure_cause first.now n) (structure_cause second.now m) }
+    ensures value { cause_in result ≡ lesser_cause (structure_cause first.now n) (structure_cause second.now m) }
     ensures marks_after { marks.new ≡ splice marks.old 0 (replicate (marks_needed n m) 0) }
 {
     let a = bvh2_check::structure(first, n, marks);
     let b = bvh2_check::structure(second, m, marks);
-    lesser(a, b)
+    first_of(a, b)
 }
 
 // Whether the new root's edge makes no path of two accepted trees longer than 127.
@@ -118,60 +91,54 @@ fn edge_to_spare(first: &[u32], n: usize, second: &[u32], m: usize) -> bool
     requires { Accepted first.now n × Accepted second.now m }
     ensures { result ≡ edge_to_spare first.now n second.now m }
 {
-    if n == 0 {
+    if n == 0 || m == 0 {
         return true;
     }
-    if m == 0 {
-        return true;
-    }
-    if !bvh2_check::within_depth(first, 0, EDGES) {
-        return false;
-    }
-    bvh2_check::within_depth(second, 0, EDGES)
+    bvh2_check::within_depth(first, 0, EDGES) && bvh2_check::within_depth(second, 0, EDGES)
 }
 
-// Causes 5 to 7, or 0; the marks needed are zero afterwards.
-fn tree_cause(first: &[u32], n: usize, second: &[u32], m: usize, marks: &mut [u32]) -> u32
+// Causes 5 to 7; the marks needed are zero afterwards.
+fn check_trees(
+    first: &[u32],
+    n: usize,
+    second: &[u32],
+    m: usize,
+    marks: &mut [u32],
+) -> Result<(), Refusal>
     requires { TreeSized first.now n × TreeSized second.now m × (marks_needed n m ≤ length marks.old) }
-    ensures value { result ≡ first_cause (tree_tests first.now n second.now m) }
+    ensures value { cause_in result ≡ first_cause (tree_tests first.now n second.now m) }
     ensures marks_after { marks.new ≡ splice marks.old 0 (replicate (marks_needed n m) 0) }
 {
-    let cause = both_structures(first, n, second, m, marks);
-    if cause != 0 {
-        return cause;
-    }
+    check_structures(first, n, second, m, marks)?;
     if !edge_to_spare(first, n, second, m) {
-        return 7;
+        return Err(Refusal::NotOneTree);
     }
-    0
+    Ok(())
 }
 
 // Whether no word moved up by so much is over 32 bits.
 fn sums_fit(panes: usize, list: &[u32]) -> bool
     ensures { result ≡ sums_fit panes list.now }
 {
-    let mut i = 0;
-    while i < list.len() {
-        if panes > MOST {
-            return false;
-        }
-        if list[i] as usize > MOST - panes {
-            return false;
-        }
-        i += 1;
-    }
-    true
+    list.iter()
+        .all(|word| (*word as usize).saturating_add(panes) <= MOST)
+}
+
+// The list's words in front.
+fn put_front(list: &[u32], out: &mut [u32])
+    requires { length list.now ≤ length out.old }
+    ensures { out.new ≡ splice out.old 0 list.now }
+{
+    out[..list.len()].copy_from_slice(list);
 }
 
 // The list's words, each moved up by so much, from word `at` on.
 fn put_moved(list: &[u32], by: usize, out: &mut [u32], at: usize)
-    requires { (at + length list.now ≤ length out.old) × StaysWords by list.now }
+    requires { (at + length list.now ≤ length out.old) × (sums_fit by list.now ≡ true) }
     ensures { out.new ≡ splice out.old at (map (λ k. k + by) list.now) }
 {
-    let mut i = 0;
-    while i < list.len() {
-        out[at + i] = (list[i] as usize + by) as u32;
-        i += 1;
+    for (i, word) in list.iter().enumerate() {
+        out[at + i] = (*word as usize + by) as u32;
     }
 }
 
@@ -209,10 +176,8 @@ fn move_rest(from: &[u32], n: usize, nodes: u32, positions: u32, words: &mut [u3
     ensures { words.new ≡ splice words.old ((1 + nodes) * 7)
         (in_turn (λ v. moved_node from.now nodes positions (v + 1)) (tree_nodes n - 1)) }
 {
-    let mut v: usize = 1;
-    while v < 2 * n - 1 {
+    for v in 1..2 * n - 1 {
         move_node(from, n, v, nodes, positions, words, v + nodes as usize);
-        v += 1;
     }
 }
 
@@ -247,14 +212,12 @@ fn put_words(first: &[u32], n: usize, second: &[u32], m: usize, words: &mut [u32
     ensures { words.new ≡ splice words.old 0 (joined_words first.now n second.now m) }
 {
     if n == 0 {
-        put_moved(second, 0, words, 0);
-        return;
+        put_front(second, words);
+    } else if m == 0 {
+        put_front(first, words);
+    } else {
+        put_under_root(first, n, second, m, words);
     }
-    if m == 0 {
-        put_moved(first, 0, words, 0);
-        return;
-    }
-    put_under_root(first, n, second, m, words)
 }
 
 // The joined tree's index words.
@@ -262,12 +225,12 @@ fn put_indices(first: &[u32], panes: usize, second: &[u32], indices: &mut [u32])
     requires { (length first.now + length second.now ≤ length indices.old) × (sums_fit panes second.now ≡ true) }
     ensures { indices.new ≡ splice indices.old 0 (joined_indices first.now panes second.now) }
 {
-    put_moved(first, 0, indices, 0);
+    put_front(first, indices);
     put_moved(second, panes, indices, first.len());
 }
 
-// Two accepted trees as one, in front of `words` and `indices`: a new root above both. The second's leaves stand behind the first's, and its index
-// words are counted on from the first's panes. `marks` are working words.
+// Two accepted trees as one, in front of `words` and `indices`, and how many leaves it has: a new root above both. The second's leaves stand behind
+// the first's, and its index words are counted on from the first's panes. `marks` are working words.
 pub fn join(
     first: &[u32],
     first_indices: &[u32],
@@ -277,7 +240,7 @@ pub fn join(
     marks: &mut [u32],
     words: &mut [u32],
     indices: &mut [u32],
-) -> Joining
+) -> Result<u32, Refusal>
     ensures { record { answer = joining_answer result; marks = marks.new; words = words.new; indices = indices.new }
         ≡ join_of (record {
           first = first.entry.now;
@@ -292,18 +255,12 @@ pub fn join(
 {
     let n = first_indices.len();
     let m = second_indices.len();
-    let sizes = size_cause(first, n, second, m, marks.len(), words.len(), indices.len());
-    if sizes != 0 {
-        return Joining::Refused(sizes);
-    }
-    let trees = tree_cause(first, n, second, m, marks);
-    if trees != 0 {
-        return Joining::Refused(trees);
-    }
+    check_sizes(first, n, second, m, marks.len(), words.len(), indices.len())?;
+    check_trees(first, n, second, m, marks)?;
     if !sums_fit(first_panes, second_indices) {
-        return Joining::Refused(13);
+        return Err(Refusal::IndexOver);
     }
     put_words(first, n, second, m, words);
     put_indices(first_indices, first_panes, second_indices, indices);
-    Joining::Joined((n + m) as u32)
+    Ok((n + m) as u32)
 }

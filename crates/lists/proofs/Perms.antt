@@ -6,7 +6,7 @@ use mathlib.Core.List
 use mathlib.Mathlib.Data.List.Nodup.{Nodup-iff_count-le-one}
 use mathlib.Core.Logic.{ite, ◌↔◌}
 use mathlib.Core.Nat
-use Prim.Native.Nat.{ℕ, zero, suc, ◌+◌, ◌≤◌, ◌<◌}
+use Prim.Native.Nat.{ℕ, suc, ◌+◌, ◌≤◌, ◌<◌}
 use native.Mathlib.Omega.{arith}
 use native.Mathlib.Decide.{ℕ_discrete, dec_lt}
 use lib.ListN.{length}

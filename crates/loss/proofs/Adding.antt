@@ -11,6 +11,7 @@ use lib.Ieee.{Float}
 use lib.ListN.{length, get_or, set, replicate, length-append, length-map}
 use Rattle.lists.specs.Sums.{sum_over}
 use Rattle.lists.proofs.Sums.{over_append, over_most}
+use Rattle.causes.specs.Refusal.{cause_number}
 use Rattle.faststack.specs.Stack.{capacity}
 use Rattle.ray.specs.declared.Ray.{Ray}
 use Rattle.ray.specs.Ray.{octant_of}
@@ -256,7 +257,7 @@ module _ {bytes indices : List ℕ} {panes : ℕ} {losses : List ℕ} {ray : Ray
   After A.Done u =
       (record { answer = summed sum; tests = u.tests } ≡ loss_walked bytes indices panes losses ray)
       × (totals ≡ charged losses before (panes_met indices (walk_met bytes (length indices) ray).accumulator))
-  After (A.Refused k) u = unanswered (refused k) ≡ loss_walked bytes indices panes losses ray
+  After (A.Refused f) u = unanswered (refused (cause_number f)) ≡ loss_walked bytes indices panes losses ray
 
   pub adding_seeks : w.positions.bits ≡ 0 → (k : ℕ) (a : Answer) (u : WalkerWords WalkRay)
       → record { walker = u; answer = step_answer a } ≡ seek_words (node_count bytes) (node_words_at bytes by_boxes) k (length indices) w → After a u
@@ -275,4 +276,4 @@ module _ {bytes indices : List ℕ} {panes : ℕ} {losses : List ℕ} {ray : Ray
         ap (λ (x : ℕ). record { answer = summed x; tests = u.tests }) K.sums ∙ walk_done bytes indices panes losses ray u K.noted K.there g,
         K.charges ∙ ap (λ (o : OutcomeWords WalkRay (List ℕ)). charged losses before (panes_met indices o.accumulator)) g,
       )
-      go (A.Refused j) g = walk_refused bytes indices panes losses ray u K.noted j K.there g
+      go (A.Refused f) g = walk_refused bytes indices panes losses ray u K.noted (cause_number f) K.there g

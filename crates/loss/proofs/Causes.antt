@@ -3,7 +3,6 @@ use mathlib.Core.Bool.{Bool, true, false, ◌&&◌}
 use mathlib.Core.List.{List, [], ◌∷◌, ◌++◌}
 use mathlib.Core.Path.{◌≡◌, refl, sym, ap, ◌∙◌}
 use Prim.Native.Nat.{ℕ, zero, suc, ◌%◌, ◌≤◌, ◌<◌}
-use native.Mathlib.Omega.{arith}
 use borrow.Author.Tests.{eq-eqb, ne_eqb, le-leb, lt-leb, leb-true, eqb-true}
 use lib.Dec.{leb}
 use lib.Ieee.{Float}
@@ -148,15 +147,18 @@ module _ (bytes indices : List ℕ) (panes : ℕ) (losses : List ℕ) (rays : Li
         append_later entry (walk_conditions bytes indices panes losses rays)
         (all_passed bytes indices panes losses rays (length ray_totals) (length pane_totals) none)
 
-    pub report_fault : all_below walks (ray_count rays) ≡ false → refusing 10 ≡ report_of bytes indices panes losses rays ray_totals pane_totals
-    unfolding report_of walk_conditions
-    report_fault h =
-        by_number 10 (λ z. omega arith)
-        ∙ ap (λ (j : ℕ). report_by bytes indices panes losses rays j ray_totals pane_totals) (sym (behind_entry ∙ first_here [] h))
+    pub report_fault : (k : ℕ) → k ≡ first_cause (walk_conditions bytes indices panes losses rays) → (k ≡ 0 → ⊥)
+        → refusing k ≡ report_of bytes indices panes losses rays ray_totals pane_totals
+    unfolding report_of
+    report_fault k e h =
+        by_number k h
+        ∙ ap (λ (j : ℕ). report_by bytes indices panes losses rays j ray_totals pane_totals) (e ∙ sym behind_entry)
 
-    pub report_totals : all_below walks (ray_count rays) ≡ true
+    pub none_walks : first_cause (walk_conditions bytes indices panes losses rays) ≡ 0 → all_below walks (ray_count rays) ≡ true
+    unfolding walk_conditions sorted place_of
+    none_walks e = (none_passed 0 (walk_conditions bytes indices panes losses rays) tt e).0
+
+    pub report_totals : first_cause (walk_conditions bytes indices panes losses rays) ≡ 0
         → totals_in bytes indices panes losses rays ray_totals pane_totals ≡ report_of bytes indices panes losses rays ray_totals pane_totals
-    unfolding report_of report_by walk_conditions
-    report_totals h =
-        ap (λ (j : ℕ). report_by bytes indices panes losses rays j ray_totals pane_totals)
-        (sym (behind_entry ∙ passed_none (walk_conditions bytes indices panes losses rays) (h, tt)))
+    unfolding report_of report_by
+    report_totals e = ap (λ (j : ℕ). report_by bytes indices panes losses rays j ray_totals pane_totals) (sym (behind_entry ∙ e))

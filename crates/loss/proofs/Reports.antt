@@ -1,11 +1,18 @@
 -- The rays of a report, one after the other: each may walk where nothing refuses the report on entry, and what a walk found tells whether it had a
 -- fault.
 use mathlib.Core.Bool.{true, false}
-use mathlib.Core.List.{List}
+use mathlib.Core.List.{List, []}
 use mathlib.Core.Path.{◌≡◌, sym, ap, ◌∙◌}
 use Prim.Native.Nat.{ℕ, ◌+◌, ◌*◌, ◌<◌}
 use lib.Ieee.{Float, nan}
 use lib.ListN.{length, get_or}
+use Rattle.std.specs.Prelude as P
+use Rattle.causes.specs.declared.Refusal.{Refusal}
+use Rattle.causes.specs.Refusal.{cause_number}
+use Rattle.causes.specs.Causes.{first_cause}
+use Rattle.causes.proofs.Causes.{first_here, passed_none}
+use Rattle.causes.proofs.Sizes.{Fit, sizes_pass}
+use Rattle.lists.specs.Below.{all_below}
 use Rattle.lists.specs.Sums.{sum_over}
 use Rattle.lists.proofs.Tells.{all_at}
 use Rattle.ray.specs.declared.Ray.{Ray}
@@ -16,10 +23,9 @@ use Rattle.walk_record.proofs.WalkRay.{begun_accepted}
 use Rattle.query.specs.Met.{positions_met, tests_made}
 use Rattle.query.specs.Result.{Result}
 use Rattle.loss.specs.declared.RayLoss.{RayLoss}
-use Rattle.loss.specs.declared.RayLoss.TheVariants.{Summed, Refused}
-use Rattle.loss.specs.Loss.{LossAnswer, summed, loss_at, is_summed, loss_walked, loss_result, walks_by}
+use Rattle.loss.specs.Loss.{LossAnswer, summed, refused, loss_at, is_summed, loss_walked, loss_result, walks_by, walk_conditions}
 use Rattle.loss.specs.Charged.{Spare, Ready, Entered}
-use Rattle.loss.proofs.Faults.{faultless_sums, sums_faultless}
+use Rattle.loss.proofs.Faults.{faultless_sums, sums_faultless, fault_ten}
 
 module _ (bytes indices : List ℕ) (panes : ℕ) (losses : List ℕ) (rays : List Float) where
   module _ (E : Entered bytes indices panes losses rays) (i : ℕ) (there : i < ray_count rays) where
@@ -34,20 +40,40 @@ module _ (bytes indices : List ℕ) (panes : ℕ) (losses : List ℕ) (rays : Li
 
   -- what a ray's walk found tells whether it had a fault
   module _ (i : ℕ) where
-    tells : (a : RayLoss) → loss_result a ≡ loss_walked bytes indices panes losses (ray_in rays i)
+    tells : (a : P.Result RayLoss Refusal) → loss_result a ≡ loss_walked bytes indices panes losses (ray_in rays i)
         → is_summed (loss_result a).answer ≡ walks_by bytes indices panes losses rays i
     unfolding walks_by
     tells a e = ap (λ (r : Result LossAnswer). is_summed r.answer) e
 
-    pub refused_faults : (k : ℕ) → loss_result (Refused k) ≡ loss_walked bytes indices panes losses (ray_in rays i)
+    pub refused_faults : (f : Refusal) → loss_result (P.Err f) ≡ loss_walked bytes indices panes losses (ray_in rays i)
         → walks_by bytes indices panes losses rays i ≡ false
     unfolding loss_result is_summed
-    refused_faults k e = sym (tells (Refused k) e)
+    refused_faults f e = sym (tells (P.Err f) e)
 
-    pub summed_walks : (loss tests : ℕ) → loss_result (Summed loss tests) ≡ loss_walked bytes indices panes losses (ray_in rays i)
+    pub summed_walks : (found : RayLoss) → loss_result (P.Ok found) ≡ loss_walked bytes indices panes losses (ray_in rays i)
         → walks_by bytes indices panes losses rays i ≡ true
     unfolding loss_result is_summed
-    summed_walks loss tests e = sym (tells (Summed loss tests) e)
+    summed_walks found e = sym (tells (P.Ok found) e)
+
+    -- a fault has number 10
+    pub refused_number : Fit (length bytes) (length indices) → (f : Refusal)
+        → loss_result (P.Err f) ≡ loss_walked bytes indices panes losses (ray_in rays i) → cause_number f ≡ 10
+    unfolding loss_result walks_by
+    refused_number s f e =
+        let t = fault_ten bytes indices panes losses (ray_in rays i) (sizes_pass (length bytes) (length indices) s) (refused_faults f e) in
+        let q : refused (cause_number f) ≡ refused 10 = ap (λ (r : Result LossAnswer). r.answer) (e ∙ t) in
+        cc
+
+  -- so the walks' cause is 10 where one has a fault, and none where none has
+  pub walks_fault : all_below (walks_by bytes indices panes losses rays) (ray_count rays) ≡ false
+      → first_cause (walk_conditions bytes indices panes losses rays) ≡ 10
+  unfolding walk_conditions
+  walks_fault h = first_here [] h
+
+  pub walks_none : all_below (walks_by bytes indices panes losses rays) (ray_count rays) ≡ true
+      → first_cause (walk_conditions bytes indices panes losses rays) ≡ 0
+  unfolding walk_conditions
+  walks_none h = passed_none (walk_conditions bytes indices panes losses rays) (h, tt)
 
 -- ---- what a sum says
 

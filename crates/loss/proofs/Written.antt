@@ -96,9 +96,6 @@ module _ (bytes indices : List ℕ) (panes : ℕ) (losses : List ℕ) (rays : Li
     words_length j = front_length paneBefore (pane_total indices losses met j) panes pane_room
 
     -- as many words as there were
-    pub pane_words : length pane_totals ≡ length paneBefore
-    pane_words = ap length T.of_panes ∙ words_length i
-
     pub ray_words : i ≤ length rayBefore → length ray_totals ≡ length rayBefore
     ray_words h = ap length T.of_rays ∙ front_length rayBefore (ray_total indices losses met) i h
 

@@ -1,16 +1,17 @@
 -- Internal: pane totals as a walk adds to them.
-use Rattle.std.specs.Prelude.{true, false, cond, List, [], ◌∷◌, ◌≡◌, ℕ, ◌+◌, ◌≤◌, ◌<◌, ltb, Float, length, get_or, set}
+use Rattle.std.specs.Prelude.{Result, Ok, Err, true, false, cond, List, [], ◌∷◌, ◌≡◌, ℕ, ◌+◌, ◌≤◌, ◌<◌, ltb, Float, length, get_or, set}
 use Rattle.lists.specs.Splice.{splice}
 use Rattle.lists.specs.Sums.{sum}
 use Rattle.lists.specs.Values.{values}
 use Rattle.causes.proofs.Sizes.{Fit}
+use Rattle.causes.specs.declared.Refusal.{Refusal}
+use Rattle.causes.specs.Refusal.{cause_number}
 use Rattle.ray.specs.declared.Ray.{Ray}
 use Rattle.packed.specs.Packed.{ray_count, rays_accepted}
 use Rattle.walk_record.specs.WalkRay.{walk_ray, forged_ray}
 use Rattle.query.specs.Met.{positions_met, panes_met}
 use Rattle.loss.specs.Loss.{losses_fit, ray_total, pane_total, met_by, tests_by}
 use Rattle.loss.specs.declared.RayLoss.{RayLoss}
-use Rattle.loss.specs.declared.RayLoss.TheVariants.{Summed, Refused}
 
 -- the loss of each pane of a list is added to that pane's total, where there is one
 unfoldable pub charged : (losses totals : List ℕ) → List ℕ → List ℕ
@@ -20,6 +21,11 @@ charged losses totals (k ∷ l) = charged losses (set totals k (get_or totals k 
 -- the pane of position p: one past the last where there is no such position
 unfoldable pub pane_at : List ℕ → (panes p : ℕ) → ℕ
 pane_at indices panes p = cond (ltb p (length indices)) (get_or indices p 0) panes
+
+-- what is found of it: the pane, or a fault where it is not there
+abbrev pub PaneFound : List ℕ → (panes p : ℕ) → Result ℕ Refusal → Type 0
+PaneFound indices panes p (Ok k) = (k ≡ pane_at indices panes p) × (k < panes)
+PaneFound indices panes p (Err refusal) = (cause_number refusal ≡ 10) × (panes ≤ pane_at indices panes p)
 
 -- a walk may add to each pane's total: it meets less than 2,000,000 positions
 abbrev pub Spare : (panes : ℕ) → List ℕ → Type 0
@@ -32,10 +38,10 @@ pub record Ready (panes : ℕ) (losses : List ℕ) (ray : Ray) (totals : List �
   pub spare : Spare panes totals
 
 -- totals after a walk that has summed; of one that was refused nothing is said
-abbrev pub Charges : (bytes indices losses : List ℕ) → Ray → RayLoss → (before after : List ℕ) → Type 0
-Charges bytes indices losses r (Summed loss tests) before after =
+abbrev pub Charges : (bytes indices losses : List ℕ) → Ray → Result RayLoss Refusal → (before after : List ℕ) → Type 0
+Charges bytes indices losses r (Ok found) before after =
     after ≡ charged losses before (panes_met indices (positions_met bytes (length indices) r))
-Charges bytes indices losses r (Refused number) before after = Unit {0}
+Charges bytes indices losses r (Err refusal) before after = Unit {0}
 
 -- nothing but room for its totals keeps a report from its walks
 pub record Entered (bytes indices : List ℕ) (panes : ℕ) (losses : List ℕ) (rays : List Float) : Type 0 where

@@ -11,15 +11,15 @@ use Rattle.lists.specs.Sums.{sum, sum_over}
 use Rattle.lists.specs.Values.{values}
 use Rattle.causes.specs.Causes.{Condition, ◌unless◌, first_cause}
 use Rattle.causes.specs.Sizes.{record_conditions}
+use Rattle.std.specs.Prelude as P
+use Rattle.causes.specs.declared.Refusal.{Refusal}
+use Rattle.causes.specs.Refusal.{cause_number}
 use Rattle.ray.specs.declared.Ray.{Ray}
 use Rattle.packed.specs.Packed.{ray_in, ray_count, rays_accepted}
 use Rattle.query.specs.Entry.{entry_conditions, entry_cause}
 use Rattle.query.specs.Met.{walk_met, positions_met, tests_made, panes_met}
 use Rattle.query.specs.Result.{Result, unanswered, walked, entered}
 use Rattle.loss.specs.declared.RayLoss.{RayLoss}
-use Rattle.loss.specs.declared.RayLoss.TheVariants as L
-use Rattle.loss.specs.declared.Totals.{Totals}
-use Rattle.loss.specs.declared.Totals.TheVariants as T
 
 -- ---- losses
 
@@ -148,10 +148,10 @@ module _ (bytes indices : List ℕ) (panes : ℕ) (losses : List ℕ) (rays : Li
 
 -- ---- the cases of the results in the requirements' terms
 
-unfoldable pub loss_result : RayLoss → Result LossAnswer
-loss_result (L.Summed loss tests) = record { answer = summed loss; tests = tests }
-loss_result (L.Refused number) = unanswered (refused number)
+unfoldable pub loss_result : P.Result RayLoss Refusal → Result LossAnswer
+loss_result (P.Ok l) = record { answer = summed l.loss; tests = l.tests }
+loss_result (P.Err refusal) = unanswered (refused (cause_number refusal))
 
-unfoldable pub totals_answer : Totals → ReportAnswer
-totals_answer (T.Totalled tests) = totalled tests
-totals_answer (T.Refused number) = refused_report number
+unfoldable pub totals_answer : P.Result ℕ Refusal → ReportAnswer
+totals_answer (P.Ok tests) = totalled tests
+totals_answer (P.Err refusal) = refused_report (cause_number refusal)

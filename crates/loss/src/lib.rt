@@ -1,22 +1,23 @@
 // A ray's loss as a sum over the positions that it meets, and a report over many rays. The published code has neither: it lists the positions.
 #![tactic(auto)]
 
-ghost use Rattle.std.specs.Prelude.{◌≡◌, true, false, ◌+◌, ◌≤◌, ◌<◌, length, get_or, set, replicate};
+ghost use Rattle.std.specs.Prelude.{◌≡◌, true, false, ◌+◌, ◌≤◌, ◌<◌, length, get_or, set};
 ghost use Rattle.lists.specs.Below.{all_below};
 ghost use Rattle.lists.specs.Sums.{sum_over};
 ghost use Rattle.causes.specs.Causes.{first_cause};
+ghost use Rattle.causes.specs.Refusal.{cause_in};
 ghost use Rattle.causes.proofs.Sizes.{Fit};
-ghost use Rattle.ray.specs.Ray.{ray_of};
+ghost use Rattle.ray.specs.Ray.{ray_from};
 ghost use Rattle.packed.specs.Packed.{ray_count};
-ghost use Rattle.walk_record.specs.WalkRay.{walk_ray, forged_ray};
 ghost use Rattle.query.specs.Met.{positions_met, tests_made, panes_met};
 ghost use Rattle.query.specs.Walk.{RecordSized};
 ghost use Rattle.loss.specs.Loss.{losses_fit, loss_cause, loss_at, is_summed, loss_walked, loss_of, loss_result};
-ghost use Rattle.loss.specs.Loss.{walks_by, report_conditions, totalled, totals_in, report_of, totals_answer};
-ghost use Rattle.loss.specs.Charged.{charged, pane_at, Ready, Charges, Entered};
+ghost use Rattle.loss.specs.Loss.{walks_by, report_conditions, walk_conditions, totalled, totals_in, report_of, totals_answer};
+ghost use Rattle.loss.specs.Charged.{charged, PaneFound, Ready, Charges, Entered};
 
 use advance::{Answer, Walk};
-use ray::{Ray, Vec3};
+use causes::Refusal;
+use ray::{Beam, Ray};
 
 // More tests than any walk makes.
 const MOST: u32 = 0xffff_ffff;
@@ -27,18 +28,11 @@ const MOST_LOSS: u32 = 1_000_000;
 // The most rays of a report.
 const MOST_RAYS: usize = 65536;
 
-// A ray's loss with its node tests; or refused for the cause of this number.
-#[derive(Clone, Copy)]
-pub enum RayLoss {
-    Summed(u64, u32),
-    Refused(u32),
-}
-
-// How a report ends: the node tests of all rays; or refused for the cause of this number.
-#[derive(Clone, Copy)]
-pub enum Totals {
-    Totalled(u64),
-    Refused(u32),
+// A ray's loss with its node tests.
+#[derive(Clone, Copy, Debug, PartialEq, Eq)]
+pub struct RayLoss {
+    pub loss: u64,
+    pub tests: u32,
 }
 
 // Whether there is a loss for each of so many panes, and none is over 1,000,000.
@@ -48,24 +42,26 @@ fn losses_fit(panes: usize, losses: &[u32]) -> bool
     if losses.len() != panes {
         return false;
     }
-    let mut k = 0;
-    while k < losses.len() {
-        if losses[k] > MOST_LOSS {
+    for &loss in losses {
+        if loss > MOST_LOSS {
             return false;
         }
-        k += 1;
     }
     true
 }
 
-// The pane of position p: one past the last where there is no such position.
-fn pane_at(indices: &[u32], panes: usize, p: usize) -> usize
-    ensures { result ≡ pane_at indices.now panes p }
+// The pane of position p: a fault where the position or its pane is not there.
+fn pane_at(indices: &[u32], panes: usize, p: usize) -> Result<usize, Refusal>
+    ensures { PaneFound indices.now panes p result }
 {
     if p < indices.len() {
-        return indices[p] as usize;
+        let k = indices[p] as usize;
+        let there = k < panes;
+        if there {
+            return Ok(k);
+        }
     }
-    panes
+    Err(Refusal::Fault)
 }
 
 // Adds to the total of pane k, if it has one.
@@ -86,7 +82,7 @@ fn walk_losses(
     losses: &[u32],
     ray: Ray,
     totals: &mut [u64],
-) -> RayLoss
+) -> Result<RayLoss, Refusal>
     requires { RecordSized bytes.now (length indices.now) × Ready panes losses.now ray totals.old }
     ensures result_value { loss_result result ≡ loss_walked bytes.now indices.now panes losses.now ray }
     ensures charges { Charges bytes.now indices.now losses.now ray result totals.old totals.new }
@@ -101,11 +97,7 @@ fn walk_losses(
         while walk.positions.bits > 0 {
             let held = walk.positions;
             let p = advance::first_position(held);
-            let k = pane_at(indices, panes, p);
-            let absent = k >= panes;
-            if absent {
-                return RayLoss::Refused(10);
-            }
+            let k = pane_at(indices, panes, p)?;
             let taken = losses[k] as u64;
             sum += taken;
             charge(totals, k, taken);
@@ -134,9 +126,12 @@ fn walk_losses(
         let next = advance::walk_after(turn);
         match reply {
             Answer::Tested(_) => walk = next,
-            Answer::Done => return RayLoss::Summed(sum, next.tests),
-            Answer::Refused(cause) => return RayLoss::Refused(cause),
-            Answer::Position(_) => return RayLoss::Refused(10),
+            Answer::Done => {
+                let tests = next.tests;
+                return Ok(RayLoss { loss: sum, tests });
+            }
+            Answer::Refused(refusal) => return Err(refusal),
+            Answer::Position(_) => return Err(Refusal::Fault),
         }
     }
 }
@@ -149,25 +144,26 @@ fn ray_loss(
     losses: &[u32],
     ray: Ray,
     totals: &mut [u64],
-) -> RayLoss
+) -> Result<RayLoss, Refusal>
     requires { Fit (length «record».now) (length indices.now) × Ready panes losses.now ray totals.old }
     ensures result_value { loss_result result ≡ loss_walked «record».now indices.now panes losses.now ray }
     ensures charges { Charges «record».now indices.now losses.now ray result totals.old totals.new }
 {
     if record.len() == 0 {
-        return RayLoss::Summed(0, 0);
+        return Ok(RayLoss { loss: 0, tests: 0 });
     }
     walk_losses(record, indices, panes, losses, ray, totals)
 }
 
-// Cause 12, or 0.
-fn loss_cause(panes: usize, losses: &[u32]) -> u32
-    ensures { result ≡ loss_cause panes losses.now }
+// Refuses losses that do not fit the panes.
+fn check_losses(panes: usize, losses: &[u32]) -> Result<(), Refusal>
+    ensures { cause_in result ≡ loss_cause panes losses.now }
 {
     if losses_fit(panes, losses) {
-        return 0;
+        Ok(())
+    } else {
+        Err(Refusal::LossesUnfit)
     }
-    12
 }
 
 // A ray's loss: what the panes of all positions that it meets take from it, a pane as often as it is met. A position's pane is the one that its index
@@ -177,26 +173,18 @@ pub fn loss(
     indices: &[u32],
     panes: usize,
     losses: &[u32],
-    origin: Vec3,
-    direction: Vec3,
-    tmin: f32,
-    tmax: f32,
-) -> RayLoss
-    ensures { loss_result result ≡ loss_of «record».now indices.now panes losses.now
-        (ray_of origin direction tmin tmax) }
+    beam: Beam,
+) -> Result<RayLoss, Refusal>
+    ensures { loss_result result ≡ loss_of «record».now indices.now panes losses.now (ray_from beam) }
 {
-    let ray = Ray::new(origin, direction, tmin, tmax);
-    let between = loss_cause(panes, losses);
-    let cause = query::entry_cause(true, record.len(), indices.len(), between, ray);
-    if cause != 0 {
-        return RayLoss::Refused(cause);
-    }
-    let mut none = [0u64; 1];
-    ray_loss(record, indices, panes, losses, ray, &mut none[..0])
+    let ray = Ray::new(beam);
+    let between = check_losses(panes, losses);
+    query::check_entry(true, record.len(), indices.len(), between, ray)?;
+    ray_loss(record, indices, panes, losses, ray, &mut [])
 }
 
-// What refuses a report before its walks, 0 for nothing; there is room for so many totals of rays and of panes.
-fn report_cause(
+// What refuses a report before its walks; there is room for so many totals of rays and of panes.
+fn check_report(
     record: &[u8],
     indices: &[u32],
     panes: usize,
@@ -204,65 +192,46 @@ fn report_cause(
     rays: &[f32],
     ray_room: usize,
     pane_room: usize,
-) -> u32
-    ensures { result ≡ first_cause (report_conditions «record».now indices.now panes losses.now rays.now
+) -> Result<(), Refusal>
+    ensures { cause_in result ≡ first_cause (report_conditions «record».now indices.now panes losses.now rays.now
         ray_room pane_room) }
 {
     if rays.len() % packed::RAY != 0 {
-        return 1;
+        return Err(Refusal::LengthUnfit);
     }
-    let sizes = causes::record_cause(record.len(), indices.len());
-    if sizes != 0 {
-        return sizes;
-    }
+    causes::record_sizes(record.len(), indices.len())?;
     let count = rays.len() / packed::RAY;
     if count > MOST_RAYS {
-        return 2;
+        return Err(Refusal::TooMany);
     }
-    if ray_room < count {
-        return 4;
-    }
-    if pane_room < panes {
-        return 4;
+    if ray_room < count || pane_room < panes {
+        return Err(Refusal::SliceShort);
     }
     if !losses_fit(panes, losses) {
-        return 12;
+        return Err(Refusal::LossesUnfit);
     }
     if !packed::rays_accepted(rays) {
-        return 9;
+        return Err(Refusal::RayRefused);
     }
-    0
+    Ok(())
 }
 
-// Whether no ray's walk has a fault.
-fn all_walk(record: &[u8], indices: &[u32], panes: usize, losses: &[u32], rays: &[f32]) -> bool
+// Looks for a fault in the walk of each ray.
+fn check_walks(
+    record: &[u8],
+    indices: &[u32],
+    panes: usize,
+    losses: &[u32],
+    rays: &[f32],
+) -> Result<(), Refusal>
     requires { Entered «record».now indices.now panes losses.now rays.now }
-    ensures { result ≡ all_below (walks_by «record».now indices.now panes losses.now rays.now)
-        (ray_count rays.now) }
+    ensures { cause_in result ≡ first_cause (walk_conditions «record».now indices.now panes losses.now rays.now) }
 {
-    let mut none = [0u64; 1];
-    let mut i = 0;
-    while i < rays.len() / packed::RAY {
+    for i in 0..rays.len() / packed::RAY {
         let ray = packed::ray_at(rays, i);
-        let answer = ray_loss(record, indices, panes, losses, ray, &mut none[..0]);
-        match answer {
-            RayLoss::Refused(_) => return false,
-            _ => {}
-        }
-        i += 1;
+        ray_loss(record, indices, panes, losses, ray, &mut [])?;
     }
-    true
-}
-
-// Sets all totals to zero.
-fn clear(totals: &mut [u64])
-    ensures { totals.new ≡ replicate (length totals.old) 0 }
-{
-    let mut k: usize = 0;
-    while k < totals.len() {
-        totals[k] = 0;
-        k += 1;
-    }
+    Ok(())
 }
 
 // Writes the totals of ray i, whose walk has no fault; its node tests.
@@ -284,14 +253,9 @@ fn total_ray(
     ensures pane_totals_after { pane_totals.new ≡ charged losses.now pane_totals.old
         (panes_met indices.now (positions_met «record».now (length indices.now) ray)) }
 {
-    let answer = ray_loss(record, indices, panes, losses, ray, pane_totals);
-    match answer {
-        RayLoss::Summed(loss, tests) => {
-            ray_totals[i] = loss;
-            return tests;
-        }
-        _ => return 0,
-    }
+    let found = ray_loss(record, indices, panes, losses, ray, pane_totals).unwrap();
+    ray_totals[i] = found.loss;
+    found.tests
 }
 
 // Writes the totals of rays whose walks have no fault; the node tests of all.
@@ -311,10 +275,9 @@ fn total(
         ≡ totals_in «record».now indices.now panes losses.now rays.now
         ray_totals.old pane_totals.old }
 {
-    clear(&mut pane_totals[..panes]);
+    pane_totals[..panes].fill(0);
     let mut tests: u64 = 0;
-    let mut i = 0;
-    while i < rays.len() / packed::RAY {
+    for i in 0..rays.len() / packed::RAY {
         let ray = packed::ray_at(rays, i);
         let made = total_ray(
             record,
@@ -327,13 +290,12 @@ fn total(
             pane_totals,
         );
         tests += made as u64;
-        i += 1;
     }
     tests
 }
 
-// A report over many rays of eight floats each: in front of `ray_totals` what each ray loses, in front of `pane_totals` what each pane takes from all
-// rays together. One walk of each ray looks for faults, and where there is none another writes.
+// A report over many rays of eight floats each, with the node tests of all: in front of `ray_totals` what each ray loses, in front of `pane_totals`
+// what each pane takes from all rays together. One walk of each ray looks for faults, and where there is none another writes.
 pub fn report(
     record: &[u8],
     indices: &[u32],
@@ -342,12 +304,12 @@ pub fn report(
     rays: &[f32],
     ray_totals: &mut [u64],
     pane_totals: &mut [u64],
-) -> Totals
+) -> Result<u64, Refusal>
     ensures { record { answer = totals_answer result; ray_totals = ray_totals.new; pane_totals = pane_totals.new }
         ≡ report_of «record».now indices.now panes losses.now rays.now
         ray_totals.old pane_totals.old }
 {
-    let cause = report_cause(
+    check_report(
         record,
         indices,
         panes,
@@ -355,13 +317,8 @@ pub fn report(
         rays,
         ray_totals.len(),
         pane_totals.len(),
-    );
-    if cause != 0 {
-        return Totals::Refused(cause);
-    }
-    if !all_walk(record, indices, panes, losses, rays) {
-        return Totals::Refused(10);
-    }
+    )?;
+    check_walks(record, indices, panes, losses, rays)?;
     let tests = total(
         record,
         indices,
@@ -371,5 +328,5 @@ pub fn report(
         ray_totals,
         pane_totals,
     );
-    Totals::Totalled(tests)
+    Ok(tests)
 }

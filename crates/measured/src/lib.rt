@@ -8,18 +8,18 @@ ghost use Rattle.cost.specs.Table.{word_of, cost_of};
 ghost use Rattle.cost.specs.Rows.{fill, RowsReady};
 
 use aabb::Aabb;
+use causes::Refusal;
 use ray::{Ray, Vec3};
 use traverse::{Answer, Walker};
 
+// The hit masks of the first m nodes.
 fn fill_masks(record: &[u8], ray: Ray, octant: u32, m: usize, out: &mut [u32])
     requires { (octant < 8) × (80 * m ≤ length «record».now) × (m ≤ length out.old) }
 {
     let e = node_slot::near_ends(ray.direction);
-    let mut i: usize = 0;
-    while i < m {
-        let o = node::BYTES * i;
-        out[i] = node_slot::intersect_ray(record, o, node::metas(record, o), ray, e, octant);
-        i += 1;
+    for i in 0..m {
+        let node = node::node_ref(record, i);
+        out[i] = node_slot::intersect_ray(node, node.metas(), ray, e, octant);
     }
 }
 
@@ -27,10 +27,7 @@ fn fill_masks(record: &[u8], ray: Ray, octant: u32, m: usize, out: &mut [u32])
 #[unsafe(no_mangle)]
 pub extern "C" fn measured_hit_masks(record: &[u8], ray: &[f32], out: &mut [u32]) -> usize {
     let m = record.len() / node::BYTES;
-    if ray.len() != packed::RAY {
-        return 0;
-    }
-    if m > out.len() {
+    if ray.len() != packed::RAY || m > out.len() {
         return 0;
     }
     let r = packed::ray_at(ray, 0);
@@ -44,22 +41,24 @@ const REFUSED: u64 = 0xffff_ffff_ffff_ffff;
 // More steps than any walk has: a test and 24 positions for each of 65,535 nodes, and the last that says done.
 const MOST_STEPS: u32 = 1638376;
 
+// Two words as one.
+fn two_words(upper: u32, lower: u32) -> u64 {
+    u64::from(upper) * words::UPPER + u64::from(lower)
+}
+
 // Walks step by step to the end: how many positions are reported, and below 2^32 the node tests.
 fn walked(record: &[u8], n: usize, start: Walker) -> u64 {
     let mut walker = start;
     let mut reports: u32 = 0;
-    let mut steps: u32 = 0;
-    while steps < MOST_STEPS {
+    for _step in 0..MOST_STEPS {
         let stepped = walker.step(record, n);
-        let answer = stepped.answer;
-        match answer {
+        match stepped.answer {
             Answer::Tested(_) => {}
             Answer::Position(_) => reports += 1,
-            Answer::Done => return reports as u64 * words::UPPER + walker.walk.tests as u64,
+            Answer::Done => return two_words(reports, walker.walk.tests),
             Answer::Refused(_) => return REFUSED,
         }
         walker = stepped.walker;
-        steps += 1;
     }
     REFUSED
 }
@@ -70,31 +69,19 @@ pub extern "C" fn measured_steps(record: &[u8], n: usize, ray: &[f32]) -> u64 {
     if ray.len() != packed::RAY {
         return REFUSED;
     }
-    let r = packed::ray_at(ray, 0);
-    let started = Walker::new(r.origin, r.direction, r.tmin, r.tmax);
-    if started.refused != 0 {
-        return REFUSED;
+    match Walker::new(packed::beam_at(ray, 0)) {
+        Ok(walker) => walked(record, n, walker),
+        Err(_) => REFUSED,
     }
-    walked(record, n, started.walker)
 }
 
 // How many nodes of a record of n positions meet the node rule.
 #[unsafe(no_mangle)]
 pub extern "C" fn measured_rules(record: &[u8], n: usize) -> usize {
     let m = record.len() / node::BYTES;
-    let mut met: usize = 0;
-    let mut i: usize = 0;
-    while i < m {
-        if node_rule::node_rule(record, i, m, n) {
-            met += 1;
-        }
-        i += 1;
-    }
-    met
-}
-
-fn wide(x: u32) -> usize {
-    x as usize
+    (0..m)
+        .filter(|i| node_rule::node_rule(record, *i, m, n))
+        .count()
 }
 
 // The box of node v, or the origin where there is no such node.
@@ -114,35 +101,18 @@ fn node_box(words: &[u32], v: usize) -> Aabb {
 }
 
 // The children of a node by slots; a case is the node, how many children it has, and eight words for them.
-fn order_case(words: &[u32], cases: &[u32], at: usize) -> [u32; 8]
-    requires { at + 10 ≤ length cases.now }
+fn order_case(words: &[u32], case: &[u32]) -> [u32; 8]
+    requires { 10 ≡ length case.now }
 {
-    let parent = node_box(words, wide(cases[at]));
-    let count = wide(cases[at + 1]);
-    let mut boxes = [parent; 8];
+    let parent = node_box(words, case[0] as usize);
+    let count = case[1] as usize;
     let mut children = [0u32; 8];
-    let mut i: usize = 0;
-    while i < 8 {
-        let child = cases[at + 2 + i];
-        children[i] = child;
-        if i < count {
-            let b = node_box(words, wide(child));
-            boxes[i] = b;
-        }
-        i += 1;
+    children.copy_from_slice(&case[2..]);
+    let mut boxes = [parent; 8];
+    for i in 0..count.min(8) {
+        boxes[i] = node_box(words, children[i] as usize);
     }
     order::order_children(parent, boxes, children, count)
-}
-
-// Eight words from a place on.
-fn put_eight(out: &mut [u32], at: usize, x: [u32; 8])
-    requires { at + 8 ≤ length out.old }
-{
-    let mut i: usize = 0;
-    while i < 8 {
-        out[at + i] = x[i];
-        i += 1;
-    }
 }
 
 // The children of each case by slots, eight words each, at the front of the answers; how many cases there are.
@@ -152,25 +122,29 @@ pub extern "C" fn measured_orders(words: &[u32], cases: &[u32], out: &mut [u32])
     if count > out.len() / 8 {
         return 0;
     }
-    let mut i: usize = 0;
-    while i < count {
-        put_eight(out, 8 * i, order_case(words, cases, 10 * i));
-        i += 1;
+    for i in 0..count {
+        let slots = order_case(words, &cases[10 * i..10 * i + 10]);
+        out[8 * i..8 * i + 8].copy_from_slice(&slots);
     }
     count
 }
 
-// The first of causes 1, 2, 5, 6 and 7 of a tree of n leaves, or 0; 4 if there are not three marks to a leaf.
-#[unsafe(no_mangle)]
-pub extern "C" fn measured_accept(words: &[u32], n: usize, marks: &mut [u32]) -> u32 {
-    let first = bvh2_check::sizes(words, n);
-    if first != 0 {
-        return first;
-    }
+// Causes 1, 2, 5, 6 and 7 of a tree of n leaves; 4 if there are not three marks to a leaf.
+fn accept(words: &[u32], n: usize, marks: &mut [u32]) -> Result<(), Refusal> {
+    bvh2_check::sizes(words, n)?;
     if n > marks.len() / 3 {
-        return 4;
+        return Err(Refusal::SliceShort);
     }
     bvh2_check::structure(words, n, marks)
+}
+
+// The number of the first of these causes, or 0.
+#[unsafe(no_mangle)]
+pub extern "C" fn measured_accept(words: &[u32], n: usize, marks: &mut [u32]) -> u32 {
+    match accept(words, n, marks) {
+        Ok(()) => 0,
+        Err(refusal) => u32::from(refusal),
+    }
 }
 
 // The tables of an accepted tree.

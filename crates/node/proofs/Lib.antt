@@ -1,3 +1,4 @@
 pub mod Splice
 pub mod Offsets
+pub mod Chunks
 pub mod RoundTrip

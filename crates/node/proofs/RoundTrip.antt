@@ -1,8 +1,8 @@
 -- Bytes and value of a node are each other's, and what the accessors read and `write_node` writes.
 use mathlib.Core.Path.{◌≡◌, refl, sym, ap, ap₂, ◌∙◌, subst}
-use mathlib.Core.Logic.{◌⊎◌, inl, inr, ⊎_elim}
+use mathlib.Core.Logic.{inl, ⊎_elim}
 use mathlib.Core.List.{List, [], ◌∷◌, ◌++◌}
-use Prim.Native.Nat.{ℕ, zero, suc, ◌+◌, ◌-◌, ◌/◌, ◌^◌, ◌≤◌, ◌<◌}
+use Prim.Native.Nat.{ℕ, zero, suc, ◌+◌, ◌/◌, ◌^◌, ◌≤◌, ◌<◌}
 use native.Mathlib.Nat.{add_assoc, zero-add, add-zero}
 use native.Mathlib.Omega.{arith}
 use lib.ListN.{length, take, drop, get_or, replicate, length-drop, get_or-append}
@@ -20,7 +20,7 @@ use Rattle.lists.specs.Splice.{splice}
 use Rattle.node.specs.Bytes.{bytes}
 use Rattle.node.specs.Node.{slot_offset, eight, slot_from, node_from, no_slot, head_bytes, put_slots, node_bytes, NodeFits, meta_word, MetaWord}
 use Rattle.node.specs.Node.{code_count}
-use Rattle.lists.proofs.Splice.{length-splice, written_next, splice_in, splice_before, splice_after}
+use Rattle.lists.proofs.Splice.{length-splice, written_next}
 use Rattle.node.proofs.Splice.{store-splice}
 use Rattle.node.proofs.Offsets.{Corner, offset_lt, offset_onto, corner_of, length_puts, slots_other, slots_same}
 
@@ -61,48 +61,6 @@ unfolding node_bytes
 node_corner n a e i c =
     ap (λ (k : ℕ). get_or (put_slots 8 (head_bytes n ++ replicate 48 0) 0 n.slots) k 0) (sym (zero-add (slot_offset a e i)))
     ∙ slots_same 8 (head_bytes n ++ replicate 48 0) 0 n.slots a e i (omega arith) (omega (arith, length_start n)) c c.slot_lt
-
--- ---- a head and eight slots written into a record are the node written
-module _ (s : List ℕ) (o : ℕ) (n : Node) (fits : o + 80 ≤ length s) where
-  near : o + length (head_bytes n) ≤ length s
-  near = omega (arith, length-head n)
-
-  wide : o + length (node_bytes n) ≤ length s
-  wide = omega (arith, length-node n)
-
-  abbrev left : List ℕ
-  left = put_slots 8 (splice s o (head_bytes n)) o n.slots
-
-  abbrev right : List ℕ
-  right = splice s o (node_bytes n)
-
-  outside : (j : ℕ) → (j < o + 32) ⊎ (o + 80 ≤ j) → get_or left j 0 ≡ get_or (splice s o (head_bytes n)) j 0
-  outside j h = slots_other 8 (splice s o (head_bytes n)) o n.slots j (omega arith) h
-
-  inside : (k : ℕ) → k < 80 → get_or left (o + k) 0 ≡ get_or (node_bytes n) k 0
-  inside k h =
-      ⊎_elim (λ q. outside (o + k) (inl (omega arith)) ∙ splice_in s o (head_bytes n) near k 0 (omega (arith, length-head n)) ∙ sym (node-head n k q))
-      (λ q. let w = offset_onto k q h in
-      subst (λ (x : ℕ). get_or left (o + x) 0 ≡ get_or (node_bytes n) x 0) w.is
-      (slots_same 8 (splice s o (head_bytes n)) o n.slots w.axis w.end w.slot (omega arith)
-      (omega (arith, length-splice s o (head_bytes n) near)) w.corner w.corner.slot_lt
-      ∙ sym (node_corner n w.axis w.end w.slot w.corner))) (lt_or_ge k 32)
-
-  both : (j : ℕ) → get_or left j 0 ≡ get_or right j 0
-  both j =
-      ⊎_elim (λ p. outside j (inl (omega arith)) ∙ splice_before s o (head_bytes n) near j 0 p ∙ sym (splice_before s o (node_bytes n) wide j 0 p))
-      (λ p. ⊎_elim
-      (λ q. let e : o + (j - o) ≡ j = omega arith in
-      subst (λ (x : ℕ). get_or left x 0 ≡ get_or right x 0) e
-      (inside (j - o) (omega arith) ∙ sym (splice_in s o (node_bytes n) wide (j - o) 0 (omega (arith, length-node n)))))
-      (λ q. outside j (inr q) ∙ splice_after s o (head_bytes n) near j 0 (omega (arith, length-head n))
-      ∙ sym (splice_after s o (node_bytes n) wide j 0 (omega (arith, length-node n)))) (lt_or_ge j (o + 80))) (lt_or_ge j o)
-
-  pub node_written : left ≡ right
-  node_written =
-      ext_get_or 0 left right
-      (length_puts 8 (splice s o (head_bytes n)) o n.slots ∙ length-splice s o (head_bytes n) near ∙ sym (length-splice s o (node_bytes n) wide))
-      (λ j l. both j)
 
 -- ---- a node is its 80 bytes
 module _ (s : List ℕ) (o : ℕ) (t : List ℕ) (q : ℕ) (same : (k : ℕ) → k < 80 → get_or s (o + k) 0 ≡ get_or t (q + k) 0) where

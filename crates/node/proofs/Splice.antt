@@ -1,12 +1,12 @@
 -- Stores of bytes as parts of a list replaced.
-use mathlib.Core.Path.{◌≡◌, ◌∙◌}
-use mathlib.Core.List.{List, [], ◌∷◌, append_assoc}
-use Prim.Native.Nat.{ℕ, suc, ◌+◌, ◌/◌, ◌%◌, ◌≤◌, ◌<◌}
+use mathlib.Core.Path.{◌≡◌, ap, ◌∙◌}
+use mathlib.Core.List.{List, [], ◌∷◌, ◌++◌, append_assoc}
+use Prim.Native.Nat.{ℕ, suc, ◌+◌, ◌/◌, ◌%◌, ◌≤◌}
 use native.Mathlib.Nat.{add-zero}
-use native.Mathlib.Numerals.{add-one}
 use native.Mathlib.Omega.{arith}
-use lib.ListN.{length, take, drop, set, get_or}
-use lib.Seq.{take-length, sets-eq, paste, paste-zero, paste-suc}
+use lib.ListN.{length, take, drop, set}
+use lib.Seq.{sets-eq, drop-drop}
+use borrow.Rule.Slice.PartMut.{put_mid}
 use Rattle.words.specs.Fields.{field}
 use Rattle.words.specs.Le.{store_le}
 use Rattle.lists.specs.Splice.{splice}
@@ -26,20 +26,7 @@ pub store-splice : (s : List ℕ) (at v : ℕ) → at + 4 ≤ length s → store
 unfolding store_le field
 store-splice s at v h = rw add-zero (four s at (v % 256) (v / 256 % 256) (v / 256 / 256 % 256) (v / 256 / 256 / 256 % 256) h)
 
--- the list after i of the elements of b
-unfoldable pub part : List ℕ → ℕ → List ℕ → ℕ → List ℕ
-part s at b i = paste s at b i
-
-pub part_none : (s : List ℕ) (at : ℕ) (b : List ℕ) → s ≡ part s at b 0
-unfolding part
-part_none s at b = paste-zero s at b
-
-pub part_next : (s : List ℕ) (at : ℕ) (b : List ℕ) (t : List ℕ) (i : ℕ) → t ≡ part s at b i → at + i < length s → i < length b
-    → set t (at + i) (get_or b i 0) ≡ part s at b (i + 1)
-unfolding part
-part_next s at b t i e h k = rw (add-one, e) (paste-suc s at b i 0 h k)
-
-pub part-all : (s : List ℕ) (at : ℕ) (b : List ℕ) (n : ℕ) → length b ≡ n → part s at b n ≡ splice s at b
-unfolding part splice
-part-all s at b n e =
-    append_assoc (take at s) (take n b) (drop (at + n) s) ∙ rw (← e, take-length)
+-- a part copied over
+pub put-splice : (s b : List ℕ) (at k : ℕ) → length b ≡ k → put_mid at k s b ≡ splice s at b
+unfolding splice
+put-splice s b at k e = rw e (ap (λ (l : List ℕ). take at s ++ (b ++ l)) (drop-drop k at s))

@@ -1,9 +1,9 @@
 // Internal: a record's node of 80 bytes, as a value and in the record.
 #![tactic(auto)]
 
-ghost use Rattle.std.specs.Prelude.{◌≡◌, [], ◌∷◌, ◌+◌, ◌*◌, ◌%◌, ◌≤◌, ◌<◌, eqb, length, get_or, set};
+ghost use Rattle.std.specs.Prelude.{◌≡◌, [], ◌∷◌, ◌+◌, ◌*◌, ◌%◌, ◌≤◌, ◌<◌, eqb, length, get_or};
 ghost use Rattle.lists.specs.Splice.{splice};
-ghost use Rattle.node.specs.Node.{eight, slot_offset, node_from, MetaWord, inner_bit, code_count, put_slot, put_slots, head_bytes, node_bytes};
+ghost use Rattle.node.specs.Node.{slot_offset, node_from, node_at, MetaWord, inner_bit, code_count, put_slot, put_slots, head_bytes, node_bytes};
 
 // How many bytes a node takes.
 pub const BYTES: usize = 80;
@@ -35,6 +35,21 @@ pub struct Node {
     pub slots: [Slot; 8],
 }
 
+// A node's bytes, as they stand in a record.
+#[derive(Clone, Copy)]
+pub struct NodeRef<'a> {
+    pub bytes: &'a [u8; BYTES],
+}
+
+// Node i of a record.
+pub fn node_ref(record: &[u8], i: usize) -> NodeRef<'_>
+    requires { 80 * i + 80 ≤ length «record».now }
+    ensures { node_from result.bytes.now 0 ≡ node_at «record».now i }
+{
+    let (nodes, _) = record.as_chunks::<BYTES>();
+    NodeRef { bytes: &nodes[i] }
+}
+
 // The offset of a slot's byte in its node: the axis 0, 1, 2 for x, y, z, the end 0 for min, 1 for max.
 pub fn slot_offset(axis: usize, end: usize, slot: usize) -> usize
     requires { (axis < 3) × (end < 2) × (slot < 8) }
@@ -43,172 +58,118 @@ pub fn slot_offset(axis: usize, end: usize, slot: usize) -> usize
     32 + 16 * axis + 8 * end + slot
 }
 
-// A byte of a slot's box.
-pub fn corner(s: &[u8], o: usize, axis: usize, end: usize, slot: usize) -> u8
-    requires { (o + 80 ≤ length s.now) × (axis < 3) × (end < 2) × (slot < 8) }
-    ensures { result ≡ get_or s.now (o + slot_offset axis end slot) 0 }
-{
-    s[o + slot_offset(axis, end, slot)]
-}
+// The reference is copied out of its field where a whole slice is read from it: only so is that proved.
+impl<'a> NodeRef<'a> {
+    // A byte of a slot's box.
+    pub fn corner(self, axis: usize, end: usize, slot: usize) -> u8
+        requires { (axis < 3) × (end < 2) × (slot < 8) }
+        ensures { result ≡ get_or self.entry.bytes.now (slot_offset axis end slot) 0 }
+    {
+        self.bytes[slot_offset(axis, end, slot)]
+    }
 
-// The bits of p's x, of the node at o.
-pub fn px(s: &[u8], o: usize) -> u32
-    requires { o + 80 ≤ length s.now }
-    ensures { result ≡ (node_from s.now o).px }
-{
-    words::load_u32(s, o)
-}
+    // The bits of p's coordinates.
+    pub fn point(self) -> [u32; 3]
+        ensures { let v = node_from self.entry.bytes.now 0 in result ≡ v.px ∷ v.py ∷ v.pz ∷ [] }
+    {
+        let bytes = self.bytes;
+        [
+            words::load_u32(bytes, 0),
+            words::load_u32(bytes, 4),
+            words::load_u32(bytes, 8),
+        ]
+    }
 
-// The bits of p's y.
-pub fn py(s: &[u8], o: usize) -> u32
-    requires { o + 80 ≤ length s.now }
-    ensures { result ≡ (node_from s.now o).py }
-{
-    words::load_u32(s, o + 4)
-}
+    // The exponent bytes.
+    pub fn exponents(self) -> [u8; 3]
+        ensures { let v = node_from self.entry.bytes.now 0 in result ≡ v.ex ∷ v.ey ∷ v.ez ∷ [] }
+    {
+        [self.bytes[12], self.bytes[13], self.bytes[14]]
+    }
 
-// The bits of p's z.
-pub fn pz(s: &[u8], o: usize) -> u32
-    requires { o + 80 ≤ length s.now }
-    ensures { result ≡ (node_from s.now o).pz }
-{
-    words::load_u32(s, o + 8)
-}
+    // Which slots hold a node.
+    pub fn imask(self) -> u8
+        ensures { result ≡ (node_from self.entry.bytes.now 0).imask }
+    {
+        self.bytes[15]
+    }
 
-// The exponent byte of x.
-pub fn ex(s: &[u8], o: usize) -> u8
-    requires { o + 80 ≤ length s.now }
-    ensures { result ≡ (node_from s.now o).ex }
-{
-    s[o + 12]
-}
+    // The number of the first child.
+    pub fn child_base_idx(self) -> u32
+        ensures { result ≡ (node_from self.entry.bytes.now 0).child_base_idx }
+    {
+        let bytes = self.bytes;
+        words::load_u32(bytes, 16)
+    }
 
-// The exponent byte of y.
-pub fn ey(s: &[u8], o: usize) -> u8
-    requires { o + 80 ≤ length s.now }
-    ensures { result ≡ (node_from s.now o).ey }
-{
-    s[o + 13]
-}
+    // The first position.
+    pub fn primitive_base_idx(self) -> u32
+        ensures { result ≡ (node_from self.entry.bytes.now 0).primitive_base_idx }
+    {
+        let bytes = self.bytes;
+        words::load_u32(bytes, 20)
+    }
 
-// The exponent byte of z.
-pub fn ez(s: &[u8], o: usize) -> u8
-    requires { o + 80 ≤ length s.now }
-    ensures { result ≡ (node_from s.now o).ez }
-{
-    s[o + 14]
-}
+    // A slot's meta byte.
+    pub fn child_meta(self, child: usize) -> u8
+        requires { child < 8 }
+        ensures { result ≡ get_or (node_from self.entry.bytes.now 0).child_meta child 0 }
+    {
+        self.bytes[24 + child]
+    }
 
-// Which slots hold a node.
-pub fn imask(s: &[u8], o: usize) -> u8
-    requires { o + 80 ≤ length s.now }
-    ensures { result ≡ (node_from s.now o).imask }
-{
-    s[o + 15]
-}
-
-// The number of the first child.
-pub fn child_base_idx(s: &[u8], o: usize) -> u32
-    requires { o + 80 ≤ length s.now }
-    ensures { result ≡ (node_from s.now o).child_base_idx }
-{
-    words::load_u32(s, o + 16)
-}
-
-// The first position.
-pub fn primitive_base_idx(s: &[u8], o: usize) -> u32
-    requires { o + 80 ≤ length s.now }
-    ensures { result ≡ (node_from s.now o).primitive_base_idx }
-{
-    words::load_u32(s, o + 20)
-}
-
-// A slot's meta byte.
-pub fn child_meta(s: &[u8], o: usize, child: usize) -> u8
-    requires { (o + 80 ≤ length s.now) × (child < 8) }
-    ensures { result ≡ get_or (node_from s.now o).child_meta child 0 }
-{
-    s[o + 24 + child]
-}
-
-// The eight metas in a word.
-pub fn metas(s: &[u8], o: usize) -> u64
-    requires { o + 80 ≤ length s.now }
-    ensures { MetaWord (node_from s.now o) result }
-{
-    words::load_u64(s, o + 24)
-}
-
-// Writes a byte of a slot's box.
-pub fn set_corner(s: &mut [u8], o: usize, axis: usize, end: usize, slot: usize, v: u8)
-    requires { (o + 80 ≤ length s.old) × (axis < 3) × (end < 2) × (slot < 8) }
-    ensures { s.new ≡ set s.old (o + slot_offset axis end slot) v }
-{
-    s[o + slot_offset(axis, end, slot)] = v;
-}
-
-// Writes a slot of the node at o.
-pub fn write_slot(s: &mut [u8], o: usize, slot: usize, t: Slot)
-    requires { (o + 80 ≤ length s.old) × (slot < 8) }
-    ensures { s.new ≡ put_slot s.old o slot t }
-{
-    set_corner(s, o, 0, 0, slot, t.min_x);
-    set_corner(s, o, 1, 0, slot, t.min_y);
-    set_corner(s, o, 2, 0, slot, t.min_z);
-    set_corner(s, o, 0, 1, slot, t.max_x);
-    set_corner(s, o, 1, 1, slot, t.max_y);
-    set_corner(s, o, 2, 1, slot, t.max_z);
-}
-
-// Writes the eight slots of the node at o.
-fn write_slots(s: &mut [u8], o: usize, slots: [Slot; 8])
-    requires { o + 80 ≤ length s.old }
-    ensures { s.new ≡ put_slots 8 s.old o slots }
-{
-    let mut k: usize = 0;
-    while k < 8 {
-        let t = slots[k];
-        write_slot(s, o, k, t);
-        k += 1;
+    // The eight metas in a word.
+    pub fn metas(self) -> u64
+        ensures { MetaWord (node_from self.entry.bytes.now 0) result }
+    {
+        let bytes = self.bytes;
+        words::load_u64(bytes, 24)
     }
 }
 
-// Writes four bytes.
-fn put4(s: &mut [u8], at: usize, a: u8, b: u8, c: u8, d: u8)
-    requires { at + 4 ≤ length s.old }
-    ensures { s.new ≡ splice s.old at (a ∷ b ∷ c ∷ d ∷ []) }
+// Writes a slot among a node's bytes.
+fn write_slot(bytes: &mut [u8; BYTES], slot: usize, t: Slot)
+    requires { slot < 8 }
+    ensures { bytes.new ≡ put_slot bytes.old 0 slot t }
 {
-    s[at] = a;
-    s[at + 1] = b;
-    s[at + 2] = c;
-    s[at + 3] = d;
+    bytes[slot_offset(0, 0, slot)] = t.min_x;
+    bytes[slot_offset(1, 0, slot)] = t.min_y;
+    bytes[slot_offset(2, 0, slot)] = t.min_z;
+    bytes[slot_offset(0, 1, slot)] = t.max_x;
+    bytes[slot_offset(1, 1, slot)] = t.max_y;
+    bytes[slot_offset(2, 1, slot)] = t.max_z;
 }
 
-// Writes eight bytes.
-fn put8(s: &mut [u8], at: usize, b: [u8; 8])
-    requires { at + 8 ≤ length s.old }
-    ensures { s.new ≡ splice s.old at (eight (λ i. get_or b i 0)) }
+// Writes the eight slots.
+fn write_slots(bytes: &mut [u8; BYTES], slots: [Slot; 8])
+    ensures { bytes.new ≡ put_slots 8 bytes.old 0 slots }
 {
-    let mut i: usize = 0;
-    while i < 8 {
-        s[at + i] = b[i];
-        i += 1;
+    for k in 0..8 {
+        write_slot(bytes, k, slots[k]);
     }
 }
 
-// Writes the first 32 bytes of the node at o.
-fn write_head(s: &mut [u8], o: usize, n: Node)
-    requires { o + 80 ≤ length s.old }
-    ensures { s.new ≡ splice s.old o (head_bytes n) }
+// Writes the first 32 bytes.
+fn write_head(bytes: &mut [u8; BYTES], n: Node)
+    ensures { bytes.new ≡ splice bytes.old 0 (head_bytes n) }
 {
-    words::store_u32(s, o, n.px);
-    words::store_u32(s, o + 4, n.py);
-    words::store_u32(s, o + 8, n.pz);
-    put4(s, o + 12, n.ex, n.ey, n.ez, n.imask);
-    words::store_u32(s, o + 16, n.child_base_idx);
-    words::store_u32(s, o + 20, n.primitive_base_idx);
-    let metas = n.child_meta;
-    put8(s, o + 24, metas);
+    words::store_u32(bytes, 0, n.px);
+    words::store_u32(bytes, 4, n.py);
+    words::store_u32(bytes, 8, n.pz);
+    bytes[12..16].copy_from_slice(&[n.ex, n.ey, n.ez, n.imask]);
+    words::store_u32(bytes, 16, n.child_base_idx);
+    words::store_u32(bytes, 20, n.primitive_base_idx);
+    bytes[24..32].copy_from_slice(&n.child_meta);
+}
+
+// The 80 bytes of a node.
+fn bytes_of(n: Node) -> [u8; BYTES]
+    ensures { result ≡ node_bytes n }
+{
+    let mut bytes = [0; BYTES];
+    write_head(&mut bytes, n);
+    write_slots(&mut bytes, n.slots);
+    bytes
 }
 
 // Writes node i of a record.
@@ -217,9 +178,7 @@ pub fn write_node(s: &mut [u8], i: usize, n: Node)
     ensures { s.new ≡ splice s.old (80 * i) (node_bytes n) }
 {
     let o = BYTES * i;
-    let slots = n.slots;
-    write_head(s, o, n);
-    write_slots(s, o, slots);
+    s[o..o + BYTES].copy_from_slice(&bytes_of(n));
 }
 
 // Whether a slot holds no node: a leaf, or nothing.

@@ -4,9 +4,9 @@ use mathlib.Core.Path.{◌≡◌, sym, ap, ap₂, ◌∙◌}
 use Prim.Native.Nat.{ℕ, zero, suc, ◌+◌, ◌-◌, ◌*◌, ◌/◌, ◌%◌, ◌^◌, ◌<◌}
 use native.Mathlib.Nat.{lt_of_le_of_lt}
 use native.Mathlib.Omega.{arith}
-use lib.Dec.{lit≤, lit<}
-use lib.Pow.{mod-mod-pow, shl_exact}
-use lib.Bits.{bit_and, bit_or, bit_xor, and_shr, and_mod, and_mask, and_le_r, or_shifted_r, xor_lt}
+use lib.Dec.{lit<}
+use lib.Pow.{mod-mod-pow}
+use lib.Bits.{bit_and, bit_xor, and_shr, and_mod, and_mask, and_le_r, xor_lt}
 use Rattle.words.specs.Fields.{field}
 use Rattle.words.proofs.Fields.{field_lt, field_is, field_and, field_xor, field-mul, field_shr, bit_field, bit_shl}
 use Rattle.words.proofs.Upto.{equal, equal₂}
@@ -20,11 +20,8 @@ met m = bit_and m ((m * 2 ^ 1) % 2 ^ 64)
 abbrev pub spread : ℕ → ℕ
 spread m = bit_and (met m) 0x1010_1010_1010_1010 / 2 ^ 4
 
-abbrev pub oct8 : ℕ → ℕ
-oct8 x = bit_or x ((x * 2 ^ 32) % 2 ^ 64)
-
 abbrev pub index8 : ℕ → ℕ → ℕ
-index8 m x = bit_and (bit_xor m (bit_and (oct8 x) (spread m * 255))) 0x1f1f_1f1f_1f1f_1f1f
+index8 m x = bit_and (bit_xor m (bit_and x (spread m * 255))) 0x1f1f_1f1f_1f1f_1f1f
 
 -- a mask that repeats a byte has it at each of the eight places
 repeats : (b k : ℕ) → b < 32 → k < 8 → field 8 k (b * 0x0101_0101_0101_0101) ≡ b
@@ -57,10 +54,6 @@ spread_at m k h =
     ∙ met_bit m k h
     ∙ inner_is (field 8 k m) (field_lt 8 k m)
 
--- the product stays in the word, and each byte's in the byte
-pub spread_fits : (m : ℕ) → spread m * 255 < 2 ^ 64
-spread_fits m = let l = and_le_r (met m) 0x1010_1010_1010_1010 in omega arith
-
 inner_small : (a : ℕ) → a < 256 → inner_code a - 1 ≡ zero
 inner_small = equal (λ a. inner_code a - 1) (λ a. zero) 256 tt
 
@@ -70,22 +63,16 @@ full_at m k h =
     ≡ inner_code (field 8 j m) = spread_at m j (omega arith) in omega (arith, inner_small (field 8 j m) (field_lt 8 j m)))
     ∙ ap (λ (x : ℕ). x * 255) (spread_at m k h)
 
-oct8_at : (x o k : ℕ) → x ≡ o * 0x0101_0101 → o < 8 → k < 8 → field 8 k (oct8 x) ≡ o
-oct8_at x o k e ho h =
-    let hx : x < 2 ^ 32 = omega arith in
-    let s : x * 2 ^ 32 + x ≡ o * 0x0101_0101_0101_0101 = omega arith in
-    ap (field 8 k) (ap (bit_or x) (shl_exact 32 32 64 hx (lit≤ tt)) ∙ or_shifted_r x 32 x hx ∙ s) ∙ repeats o k (omega arith) h
-
 -- one byte
 index_rule : (o a : ℕ) → o < 8 → a < 256 → bit_and (bit_xor a (bit_and o (inner_code a * 255))) 31 ≡ bit_index o a
 index_rule = equal₂ (λ o a. bit_and (bit_xor a (bit_and o (inner_code a * 255))) 31) bit_index 8 256 tt
 
-index_at : (m x o k : ℕ) → x ≡ o * 0x0101_0101 → o < 8 → k < 8 → field 8 k (index8 m x) ≡ bit_index o (field 8 k m)
+index_at : (m x o k : ℕ) → x ≡ o * 0x0101_0101_0101_0101 → o < 8 → k < 8 → field 8 k (index8 m x) ≡ bit_index o (field 8 k m)
 index_at m x o k e ho h =
-    field_and 8 k (bit_xor m (bit_and (oct8 x) (spread m * 255))) 0x1f1f_1f1f_1f1f_1f1f
+    field_and 8 k (bit_xor m (bit_and x (spread m * 255))) 0x1f1f_1f1f_1f1f_1f1f
     ∙ ap₂ bit_and
-    (field_xor 8 k m (bit_and (oct8 x) (spread m * 255))
-    ∙ ap (bit_xor (field 8 k m)) (field_and 8 k (oct8 x) (spread m * 255) ∙ ap₂ bit_and (oct8_at x o k e ho h) (full_at m k h)))
+    (field_xor 8 k m (bit_and x (spread m * 255))
+    ∙ ap (bit_xor (field 8 k m)) (field_and 8 k x (spread m * 255) ∙ ap₂ bit_and (ap (field 8 k) e ∙ repeats o k (omega arith) h) (full_at m k h)))
     (repeats 31 k (lit< tt) h)
     ∙ index_rule o (field 8 k m) ho (field_lt 8 k m)
 
@@ -106,9 +93,9 @@ pub child_word : (m : ℕ) → bit_and (m / 2 ^ 5) 0x0707_0707_0707_0707 ≡ eac
 child_word m = byte_of_word child_bits m (bit_and (m / 2 ^ 5) 0x0707_0707_0707_0707) (mask_fits (m / 2 ^ 5) 0x0707_0707_0707_0707 (lit< tt))
     (child_at m)
 
-pub index_word : (m o x : ℕ) → x ≡ o * 0x0101_0101 → o < 8 → index8 m x ≡ each_byte (bit_index o) m
+pub index_word : (m o x : ℕ) → x ≡ o * 0x0101_0101_0101_0101 → o < 8 → index8 m x ≡ each_byte (bit_index o) m
 index_word m o x e h =
-    byte_of_word (bit_index o) m (index8 m x) (mask_fits (bit_xor m (bit_and (oct8 x) (spread m * 255))) 0x1f1f_1f1f_1f1f_1f1f (lit< tt))
+    byte_of_word (bit_index o) m (index8 m x) (mask_fits (bit_xor m (bit_and x (spread m * 255))) 0x1f1f_1f1f_1f1f_1f1f (lit< tt))
     (λ k l. index_at m x o k e h l)
 
 -- ---- for those who use them

@@ -16,9 +16,7 @@ pub fn get_child_and_index_bits(meta8: u64, octant: u32) -> Bits
     requires { octant < 8 }
     ensures { (result.child ≡ each_byte child_bits meta8) × (result.index ≡ each_byte (bit_index octant) meta8) }
 {
-    let oct_inv4 = octant * 0x0101_0101;
-    let mut oct_inv8 = oct_inv4 as u64;
-    oct_inv8 |= oct_inv8 << 32;
+    let oct_inv8 = octant as u64 * 0x0101_0101_0101_0101;
     let inner_mask = 0x1010_1010_1010_1010;
     let is_inner8 = (meta8 & (meta8 << 1)) & inner_mask;
     let inner_mask8 = (is_inner8 >> 4) * 0xff;

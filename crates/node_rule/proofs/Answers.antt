@@ -1,6 +1,6 @@
 -- The laws of a test's answer and of what it says.
-use mathlib.Core.Path.{◌≡◌, refl, sym, ap, ◌∙◌, subst}
-use mathlib.Core.Bool.{Bool, true, false, not, ◌&&◌, ◌||◌}
+use mathlib.Core.Path.{◌≡◌, refl, subst}
+use mathlib.Core.Bool.{Bool, true, false, ◌&&◌, ◌||◌}
 use mathlib.Core.Logic.{◌⊎◌, inl, inr}
 use Prim.Native.Nat.{ℕ, ◌≤◌, ◌<◌}
 use lib.Dec.{T, eqb, leb, ltb, eqb→eq, eqb_refl, leb→le, le→leb, ltb→lt, lt→ltb}
@@ -43,16 +43,12 @@ agree P true false s t = absurd (t s)
 agree P false true s t = absurd (s t)
 agree P false false s t = refl
 
--- a part that was answered, as code asks it
-pub found : (P : Type 0) (b : Bool) → Tells P b → not b ≡ false → P
-unfolding Tells
-found P true t e = t
-found P false t e = absurd (subst T e tt)
+-- a part that was answered
+pub found : (P : Type 0) (b : Bool) → Tells P b → b ≡ true → P
+found P b t e = says P b t (rw e tt)
 
-pub missed : (P : Type 0) (b : Bool) → Tells P b → not b ≡ true → P → ⊥
-unfolding Tells
-missed P true t e = absurd (subst T (sym e) tt)
-missed P false t e = t
+pub missed : (P : Type 0) (b : Bool) → Tells P b → b ≡ false → P → ⊥
+missed P b t e p = subst T e (asked P b t p)
 
 -- ---- tests on numbers, and joined ones
 pub test_tells : (b : Bool) → Tells (T b) b
@@ -82,32 +78,3 @@ or_tells P Q false false t u = neither
     neither : P ⊎ Q → ⊥
     neither (inl p) = t p
     neither (inr q) = u q
-
--- ---- a part's answer, carried to what the answer is of
-pub stopped : (f : ℕ → Bool) (r : Bool) (x y : ℕ) → r ≡ f x → x ≡ y → not r ≡ true → f y ≡ false
-stopped f r x y e g h = ap f (sym g) ∙ sym e ∙ no r h
-  where
-    no : (b : Bool) → not b ≡ true → b ≡ false
-    no true h = sym h
-    no false h = refl
-
-pub passed : (f : ℕ → Bool) (r : Bool) (x y : ℕ) → r ≡ f x → x ≡ y → not r ≡ false → f y ≡ true
-passed f r x y e g h = ap f (sym g) ∙ sym e ∙ yes r h
-  where
-    yes : (b : Bool) → not b ≡ false → b ≡ true
-    yes true h = refl
-    yes false h = sym h
-
--- the same of a part after others that passed
-pub stopped_after : (p : Bool) (f : ℕ → Bool) (r : Bool) (x y : ℕ) → p ≡ true → r ≡ f x → x ≡ y → not r ≡ true → (p && f y) ≡ false
-stopped_after p f r x y h e g k = rw (h, stopped f r x y e g k)
-
-pub passed_after : (p : Bool) (f : ℕ → Bool) (r : Bool) (x y : ℕ) → p ≡ true → r ≡ f x → x ≡ y → not r ≡ false → (p && f y) ≡ true
-passed_after p f r x y h e g k = rw (h, passed f r x y e g k)
-
--- the same of an answer itself
-pub wrong : (r b : Bool) → r ≡ b → not r ≡ true → b ≡ false
-wrong r b e h = stopped (λ n. b) r 0 0 e refl h
-
-pub right : (r b : Bool) → r ≡ b → not r ≡ false → b ≡ true
-right r b e h = passed (λ n. b) r 0 0 e refl h

@@ -1,6 +1,6 @@
 -- The word operations of the rule, byte by byte: what is left is a fact of one byte, computed at every byte.
 use mathlib.Core.Path.{◌≡◌, refl, sym, ap, ap₂, ◌∙◌, subst}
-use mathlib.Core.Bool.{Bool, true, false, not}
+use mathlib.Core.Bool.{Bool, true, false}
 use Prim.Native.Nat.{ℕ, zero, suc, ◌+◌, ◌-◌, ◌*◌, ◌/◌, ◌%◌, ◌^◌, ◌≤◌, ◌<◌, min}
 use native.Mathlib.Omega.{arith}
 use lib.Dec.{eqb, lit<}
@@ -329,13 +329,13 @@ meta_both m zero k room h i l = outer refl l
 meta_both m (suc zero) k room h i l = inner refl (i.code refl)
 meta_both m (suc (suc b)) k room h i l = absurd (omega arith)
 
-pub metas_fail : (m i room : ℕ) (t : Bool) → Tells ((k : ℕ) → k < 8 → InnerRule (field 8 k m) (i / 2 ^ k % 2) k) t → not t ≡ true
+pub metas_fail : (m i room : ℕ) (t : Bool) → Tells ((k : ℕ) → k < 8 → InnerRule (field 8 k m) (i / 2 ^ k % 2) k) t → t ≡ false
     → Tells ((k : ℕ) → k < 8 → MetaRule (field 8 k m) (i / 2 ^ k % 2) k room) false
 metas_fail m i room t a e =
     denied ((k : ℕ) → k < 8 → MetaRule (field 8 k m) (i / 2 ^ k % 2) k room)
     (λ r. missed ((k : ℕ) → k < 8 → InnerRule (field 8 k m) (i / 2 ^ k % 2) k) t a e (λ k l. meta_inner (field 8 k m) (i / 2 ^ k % 2) k room (r k l)))
 
-pub metas_tell : (m i w v room : ℕ) (t r : Bool) → Tells ((k : ℕ) → k < 8 → InnerRule (field 8 k m) (i / 2 ^ k % 2) k) t → not t ≡ false
+pub metas_tell : (m i w v room : ℕ) (t r : Bool) → Tells ((k : ℕ) → k < 8 → InnerRule (field 8 k m) (i / 2 ^ k % 2) k) t → t ≡ true
     → Bytes w (λ k. i / 2 ^ k % 2 * 255) → Bytes v (λ k. bit_and (field 8 k m) (255 - field 8 k w))
     → Tells ((k : ℕ) → k < 8 → LeafRule (field 8 k v) room) r
     → Tells ((k : ℕ) → k < 8 → MetaRule (field 8 k m) (i / 2 ^ k % 2) k room) r

@@ -1,6 +1,5 @@
 -- The node rule as a test and as a statement agree, part by part.
-use mathlib.Core.Path.{◌≡◌, refl, sym, ap, ◌∙◌, subst}
-use mathlib.Core.Bool.{true, false}
+use mathlib.Core.Path.{◌≡◌, refl, sym, subst}
 use mathlib.Core.Logic.{◌⊎◌, inl, inr, ◌↔◌}
 use Prim.Native.Nat.{ℕ, zero, suc, ◌+◌, ◌/◌, ◌%◌, ◌<◌, ◌≤◌}
 use native.Mathlib.Nat.{not-suc-le-zero, eq-or-lt_of_le, le_of_suc-le-suc}
@@ -16,7 +15,7 @@ use Rattle.node_rule.specs.Rule.{point_ok, exponent_ok, head_ok, children_ok, le
 use Rattle.node_rule.specs.Rule.{LeafTop}
 use Rattle.node_rule.specs.Rule.{one, two, three, SlotRule, empty, child, leaf, SlotOf, Rule}
 use Rattle.node_rule.specs.Tells.{Tells}
-use Rattle.node_rule.proofs.Answers.{says, asked, swap, said, denied, agree, test_tells, leb_tells, ltb_tells, eqb_tells, and_tells, or_tells}
+use Rattle.node_rule.proofs.Answers.{says, asked, swap, said, test_tells, leb_tells, ltb_tells, eqb_tells, and_tells, or_tells}
 
 exponent_tells : (e : ℕ) → Tells (Exponent e) (exponent_ok e)
 unfolding exponent_ok
@@ -119,30 +118,3 @@ rule_tells v m n i =
 -- the test is passed exactly where the statement holds
 pub rule_iff : (v : Node) (m n i : ℕ) → T (node_rule v m n i) ↔ Rule v m n i
 rule_iff v m n i = (says (Rule v m n i) (node_rule v m n i) (rule_tells v m n i), asked (Rule v m n i) (node_rule v m n i) (rule_tells v m n i))
-
--- ---- as code asks them
-pub exponent_low : (e : ℕ) → e < 53 → false ≡ exponent_ok e
-exponent_low e h = agree (Exponent e) false (exponent_ok e) (denied (Exponent e) (λ x. let l = x.0 in omega arith)) (exponent_tells e)
-
-pub exponent_high : (e : ℕ) → 53 ≤ e → leb e 161 ≡ exponent_ok e
-exponent_high e h = agree (Exponent e) (leb e 161) (exponent_ok e)
-    (swap (e ≤ 161) (Exponent e) (leb e 161) (λ l. (h, l)) (λ x. x.1) (leb_tells e 161)) (exponent_tells e)
-
-pub no_children : (v : Node) (m i : ℕ) → v.imask ≡ 0 → true ≡ children_ok v m i
-no_children v m i e =
-    agree (Children v m i) true (children_ok v m i)
-    (said (Children v m i) (record { later = λ p. absurd (omega arith); exist = λ p. absurd (omega arith) })) (children_tells v m i)
-
-pub children_early : (v : Node) (m i : ℕ) → (v.imask ≡ 0 → ⊥) → v.child_base_idx ≤ i → false ≡ children_ok v m i
-children_early v m i h l =
-    agree (Children v m i) false (children_ok v m i) (denied (Children v m i) (λ c. let z = c.later (omega arith) in omega arith))
-    (children_tells v m i)
-
-pub children_end : (v : Node) (m i j b k : ℕ) → j ≡ v.imask → b ≡ v.child_base_idx → (j ≡ 0 → ⊥) → i < b → k ≡ ones_below 8 j → leb (b + k) m
-    ≡ children_ok v m i
-children_end v m i j b k p q h l e =
-    let n : k ≡ ones_below 8 v.imask = e ∙ ap (ones_below 8) p in
-    agree (Children v m i) (leb (b + k) m) (children_ok v m i)
-    (swap (b + k ≤ m) (Children v m i) (leb (b + k) m)
-    (λ g. record { later = λ z. omega arith; exist = λ z. omega arith }) (λ c. let z = c.exist (omega arith) in omega arith) (leb_tells (b + k) m))
-    (children_tells v m i)

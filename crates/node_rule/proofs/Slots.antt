@@ -1,7 +1,7 @@
 -- The test of eight bytes at once says what the node rule says of the eight slots.
 use mathlib.Core.Path.{◌≡◌, sym, subst}
 use mathlib.Core.Bool.{Bool}
-use Prim.Native.Nat.{ℕ, ◌+◌, ◌-◌, ◌/◌, ◌%◌, ◌≤◌, ◌<◌}
+use Prim.Native.Nat.{ℕ, ◌+◌, ◌-◌, ◌/◌, ◌%◌, ◌<◌, min}
 use native.Mathlib.Omega.{arith}
 use lib.ListN.{get_or}
 use Rattle.words.specs.Fields.{field}
@@ -64,11 +64,5 @@ slots_word v w imask base n room t m e f r h =
     back k x = subst (λ (y : ℕ). W.MetaRule (field 8 k w) (inner_bit y k) k room) (sym e) x
 
 -- ---- how many positions a node may use
-pub room_none : (base n : ℕ) → n ≤ base → W.RoomOf base n 0
-room_none base n h = record { most = omega arith; inside = λ y p l. absurd (omega arith); all = λ y p l m. absurd (omega arith) }
-
-pub room_some : (base n : ℕ) → base < n → n - base < 24 → W.RoomOf base n (n - base)
-room_some base n h k = record { most = omega arith; inside = λ y p l. omega arith; all = λ y p l m. omega arith }
-
-pub room_all : (base n : ℕ) → base < n → 24 ≤ n - base → W.RoomOf base n 24
-room_all base n h k = record { most = omega arith; inside = λ y p l. omega arith; all = λ y p l m. l }
+pub room_is : (base n : ℕ) → W.RoomOf base n (min (n - base) 24)
+room_is base n = record { most = omega arith; inside = λ y p l. omega arith; all = λ y p l m. omega arith }

@@ -10,6 +10,8 @@ ghost use Rattle.node_rule.specs.Rule.{point_ok, exponent_ok, head_ok, children_
 ghost use Rattle.node_rule.specs.Tells.{Tells};
 ghost use Rattle.node_rule.specs.Words.{Bytes, InnerRule, LeafRule, MetaRule, RoomOf, ones_top};
 
+use node::NodeRef;
+
 // Whether a coordinate of p, given as bits, is within 2^40 of zero: its bits without the sign don't exceed those of 2^40.
 fn point_ok(bits: u32) -> bool
     ensures { result ≡ point_ok bits }
@@ -21,55 +23,37 @@ fn point_ok(bits: u32) -> bool
 fn exponent_ok(e: u8) -> bool
     ensures { result ≡ exponent_ok e }
 {
-    if e < 53 {
-        return false;
-    }
-    e <= 161
+    (53..=161).contains(&e)
 }
 
-// Whether p and e of the node at o are in their ranges.
-fn head_ok(s: &[u8], o: usize) -> bool
-    requires { o + 80 ≤ length s.now }
-    ensures { result ≡ head_ok (node_from s.now o) }
+// Whether p and e of a node are in their ranges.
+fn head_ok(node: NodeRef) -> bool
+    ensures { result ≡ head_ok (node_from node.entry.bytes.now 0) }
 {
-    if !point_ok(node::px(s, o)) {
-        return false;
-    }
-    if !point_ok(node::py(s, o)) {
-        return false;
-    }
-    if !point_ok(node::pz(s, o)) {
-        return false;
-    }
-    if !exponent_ok(node::ex(s, o)) {
-        return false;
-    }
-    if !exponent_ok(node::ey(s, o)) {
-        return false;
-    }
-    exponent_ok(node::ez(s, o))
+    let [px, py, pz] = node.point();
+    let [ex, ey, ez] = node.exponents();
+    point_ok(px)
+        && point_ok(py)
+        && point_ok(pz)
+        && exponent_ok(ex)
+        && exponent_ok(ey)
+        && exponent_ok(ez)
 }
 
 // How many slots hold a node.
 pub fn child_count(imask: u8) -> u32
     ensures { (result ≡ ones_below 8 imask) × (result ≤ 8) }
 {
-    u32::count_ones(imask as u32)
+    imask.count_ones()
 }
 
-// Whether the children of the node at o, number i of m, come after it and exist.
-fn children_ok(s: &[u8], o: usize, imask: u8, m: usize, i: usize) -> bool
-    requires { (o + 80 ≤ length s.now) × (imask ≡ (node_from s.now o).imask) }
-    ensures { result ≡ children_ok (node_from s.now o) m i }
+// Whether the children of a node, number i of m, come after it and exist.
+fn children_ok(node: NodeRef, imask: u8, m: usize, i: usize) -> bool
+    requires { imask ≡ (node_from node.bytes.now 0).imask }
+    ensures { result ≡ children_ok (node_from node.entry.bytes.now 0) m i }
 {
-    if imask == 0 {
-        return true;
-    }
-    let base = node::child_base_idx(s, o) as usize;
-    if base <= i {
-        return false;
-    }
-    base + child_count(imask) as usize <= m
+    let base = node.child_base_idx() as usize;
+    imask == 0 || (i < base && base + child_count(imask) as usize <= m)
 }
 
 // What two words have in common, which is at most the second.
@@ -146,50 +130,35 @@ fn metas_ok(meta8: u64, imask: u8, room: u32) -> bool
     ensures { Tells ((k : ℕ) → k < 8 → MetaRule (field 8 k meta8) (inner_bit imask k) k room) result }
 {
     let inner = spread(imask);
-    if !inner_ok(meta8, imask, inner) {
-        return false;
-    }
-    leaves_ok(rest(meta8, inner), room)
+    inner_ok(meta8, imask, inner) && leaves_ok(rest(meta8, inner), room)
 }
 
 // How far from its node's base a leaf's positions may end.
-const MOST: u32 = 24;
+const MOST: usize = 24;
 
 // As many positions as a node may use from its base on.
 fn room_of(base: u32, n: usize) -> u32
     ensures { RoomOf base n result }
 {
-    if base as usize >= n {
-        return 0;
-    }
-    let r = n - base as usize;
-    if r < 24 {
-        return r as u32;
-    }
-    MOST
+    let left = n.saturating_sub(base as usize);
+    left.min(MOST) as u32
 }
 
-// Whether the eight slots of the node at o meet the rule, with n positions.
-fn slots_ok(s: &[u8], o: usize, meta8: u64, imask: u8, n: usize) -> bool
-    requires { (o + 80 ≤ length s.now) × MetaWord (node_from s.now o) meta8 × (imask ≡ (node_from s.now o).imask) }
-    ensures { result ≡ slots_ok 8 (node_from s.now o) n }
+// Whether the eight slots of a node meet the rule, with n positions.
+fn slots_ok(node: NodeRef, meta8: u64, imask: u8, n: usize) -> bool
+    requires { MetaWord (node_from node.bytes.now 0) meta8 × (imask ≡ (node_from node.bytes.now 0).imask) }
+    ensures { result ≡ slots_ok 8 (node_from node.entry.bytes.now 0) n }
 {
-    let room = room_of(node::primitive_base_idx(s, o), n);
+    let room = room_of(node.primitive_base_idx(), n);
     metas_ok(meta8, imask, room)
 }
 
-// Whether the node at o, whose metas and imask are these, meets the node rule as node i of a record of m nodes and n positions.
-pub fn meets_rule(s: &[u8], o: usize, meta8: u64, imask: u8, i: usize, m: usize, n: usize) -> bool
-    requires { (o + 80 ≤ length s.now) × MetaWord (node_from s.now o) meta8 × (imask ≡ (node_from s.now o).imask) }
-    ensures { result ≡ node_rule (node_from s.now o) m n i }
+// Whether a node, whose metas and imask are these, meets the node rule as node i of a record of m nodes and n positions.
+pub fn meets_rule(node: NodeRef, meta8: u64, imask: u8, i: usize, m: usize, n: usize) -> bool
+    requires { MetaWord (node_from node.bytes.now 0) meta8 × (imask ≡ (node_from node.bytes.now 0).imask) }
+    ensures { result ≡ node_rule (node_from node.entry.bytes.now 0) m n i }
 {
-    if !head_ok(s, o) {
-        return false;
-    }
-    if !children_ok(s, o, imask, m, i) {
-        return false;
-    }
-    slots_ok(s, o, meta8, imask, n)
+    head_ok(node) && children_ok(node, imask, m, i) && slots_ok(node, meta8, imask, n)
 }
 
 // Whether node i of a record of m nodes and n positions meets the node rule. It does not call `meets_rule`: that has one caller, the walk's test of a
@@ -198,13 +167,7 @@ pub fn node_rule(s: &[u8], i: usize, m: usize, n: usize) -> bool
     requires { 80 * i + 80 ≤ length s.now }
     ensures { result ≡ node_rule (node_at s.now i) m n i }
 {
-    let o = node::BYTES * i;
-    let imask = node::imask(s, o);
-    if !head_ok(s, o) {
-        return false;
-    }
-    if !children_ok(s, o, imask, m, i) {
-        return false;
-    }
-    slots_ok(s, o, node::metas(s, o), imask, n)
+    let node = node::node_ref(s, i);
+    let imask = node.imask();
+    head_ok(node) && children_ok(node, imask, m, i) && slots_ok(node, node.metas(), imask, n)
 }

@@ -2,19 +2,16 @@
 use mathlib.Core.Path.{◌≡◌, refl, ap, ◌∙◌}
 use mathlib.Core.Bool.{Bool, true, false, cond}
 use mathlib.Core.List.{List}
-use Prim.Native.Nat.{ℕ, ◌+◌, ◌-◌, ◌<◌}
-use native.Mathlib.Omega.{arith}
+use Prim.Native.Nat.{ℕ, ◌+◌, ◌-◌}
 use lib.Ieee.{Float, binary32, round, of_bits}
 use lib.ListN.{get_or}
 use Rattle.ray.specs.declared.Ray.{Ray}
-use Rattle.ray.specs.declared.Vec3.{Vec3}
 use Rattle.ray.specs.Ray.{below_zero}
 use Rattle.node.specs.declared.Node.{Node}
 use Rattle.node.specs.Node.{slot_offset, slot_from}
 use Rattle.float.specs.Compare.{max_of}
 use Rattle.node_slot.specs.Slot.{least_limit, near_limit, near_of, far_of, passes}
-use Rattle.node_slot.specs.declared.Ends.{Ends}
-use Rattle.node_slot.specs.Parts.{ray_grid_of, near_end, ends_of, box_passes, slot_passes}
+use Rattle.node_slot.specs.Parts.{ray_grid_of, ends_of, box_passes, slot_passes}
 
 -- 0.0001 as code writes it
 least_is : of_bits binary32 953267991 ≡ least_limit
@@ -25,17 +22,6 @@ least_is = refl
 pub limit_is : (r : Ray) (limit : Float) → limit ≡ max_of r.tmin (of_bits binary32 953267991) → limit ≡ near_limit r
 unfolding near_limit
 limit_is r limit e = e ∙ ap (max_of r.tmin) least_is
-
-near_end_lt : (d : Float) → near_end d < 2
-near_end_lt d = go (below_zero d)
-  where
-    go : (b : Bool) → cond b 1 0 < 2
-    go true = omega arith
-    go false = omega arith
-
--- either end of each axis
-pub ends_lt : (d : Vec3) (e : Ends) → e ≡ ends_of d → (e.x < 2) × (e.y < 2) × (e.z < 2)
-ends_lt d e h = rw h (near_end_lt d.x, near_end_lt d.y, near_end_lt d.z)
 
 -- the bytes at the near ends and at the far ends
 module _ (s : List ℕ) (o k : ℕ) where

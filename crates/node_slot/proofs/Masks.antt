@@ -2,18 +2,15 @@
 use mathlib.Core.Path.{◌≡◌, refl, sym, ap, ap₂, ◌∙◌}
 use mathlib.Core.Bool.{Bool, true, false}
 use mathlib.Core.List.{List}
-use Prim.Native.Nat.{ℕ, suc, ◌+◌, ◌*◌, ◌/◌, ◌%◌, ◌^◌, ◌<◌}
-use native.Mathlib.Nat.{mod-eq_of_lt, zero-mul}
+use Prim.Native.Nat.{ℕ, ◌+◌, ◌*◌, ◌/◌, ◌%◌, ◌^◌, ◌<◌}
+use native.Mathlib.Nat.{mod-eq_of_lt, mul_comm, zero-mul}
 use native.Mathlib.Numerals.{add-one}
-use native.Mathlib.Decide.{dec_lt}
 use native.Mathlib.Omega.{arith}
-use lib.ListN.{length, get_or, set}
-use lib.Seq.{get_or-set_same, get_or-set_other}
 use lib.Bits.{bit_and, bit_or, and_mask, and_zero_r}
 use lib.Ieee.{Float}
 use Rattle.words.specs.Fields.{field}
 use Rattle.words.specs.Ors.{or_of}
-use Rattle.words.proofs.Fields.{field_lt, field_and}
+use Rattle.words.proofs.Fields.{field_lt, field_is, field_and}
 use Rattle.words.proofs.Ors.{or_of_congr}
 use Rattle.words.proofs.Upto.{equal}
 use Rattle.ray.specs.declared.Ray.{Ray}
@@ -30,42 +27,21 @@ use Rattle.node_slot.specs.declared.RayGrid.{RayGrid}
 use Rattle.node_slot.specs.declared.Ends.{Ends}
 use Rattle.node_slot.proofs.Boxes.{slot_is}
 
--- ---- the marks, one more
-
-pub marks_next : (pass : ℕ → Bool) (l : List ℕ) (k v : ℕ) → k < length l → v ≡ only_if (pass k) 7
-    → ((j : ℕ) → j < k → get_or l j 0 ≡ only_if (pass j) 7)
-    → (j : ℕ) → j < k + 1 → get_or (set l k v) j 0 ≡ only_if (pass j) 7
-marks_next pass l k v h e m j q = go (dec_lt j k)
-  where
-    go : Dec (j < k) → get_or (set l k v) j 0 ≡ only_if (pass j) 7
-    go (yes p) = get_or-set_other l k j v 0 (omega arith) ∙ m j p
-    go (no p) = let s : j ≡ k = omega arith in rw s (get_or-set_same l k v 0 h ∙ e)
-
 -- ---- a turn of the mask's loop
 
--- x is w without its k low bytes
-abbrev pub Shifted : ℕ → ℕ → ℕ → Type 0
-Shifted w k x = (j : ℕ) → field 8 j x ≡ field 8 (k + j) w
-
-pub shifted_none : (w : ℕ) → Shifted w 0 w
-shifted_none w j = let e : j ≡ 0 + j = omega arith in ap (λ (i : ℕ). field 8 i w) e
-
-pub shifted_next : (w k x : ℕ) → Shifted w k x → Shifted w (k + 1) (x / 256)
+-- byte k of w, shifted down and cut off
+byte_is : (w k a : ℕ) → a ≡ field 8 0 (w / 2 ^ (8 * k)) → a ≡ field 8 k w
 unfolding field
-shifted_next w k x h j = let e : k + suc j ≡ k + 1 + j = omega arith in h (suc j) ∙ ap (λ (i : ℕ). field 8 i w) e
+byte_is w k a e = e ∙ rw (mul_comm 8 k) (sym (field_is 8 k w))
 
-low_is : (w k x a : ℕ) → Shifted w k x → a ≡ field 8 0 x → a ≡ field 8 k w
-low_is w k x a h e = let z : k + 0 ≡ k = omega arith in e ∙ h 0 ∙ ap (λ (i : ℕ). field 8 i w) z
+pub place_lt : (index k b : ℕ) → PlacesFit index → k < 8 → b ≡ field 8 0 (index / 2 ^ (8 * k)) → b < 32
+place_lt index k b p l e = let q = byte_is index k b e in omega (arith, p.place k l)
 
-pub place_lt : (index k y b : ℕ) → PlacesFit index → k < 8 → Shifted index k y → b ≡ field 8 0 y → b < 32
-place_lt index k y b p l h e = let q = low_is index k y b h e in omega (arith, p.place k l)
-
-pub turn : (child index k mask x y a b : ℕ) → mask ≡ word_mask k child index → Shifted child k x → Shifted index k y → a ≡ field 8 0 x → b
-    ≡ field 8 0 y
+pub turn : (child index k mask a b : ℕ) → mask ≡ word_mask k child index → a ≡ field 8 0 (child / 2 ^ (8 * k)) → b ≡ field 8 0 (index / 2 ^ (8 * k))
     → bit_or mask ((a * 2 ^ b) % 2 ^ 32) ≡ word_mask (k + 1) child index
 unfolding word_mask word_hit or_of
-turn child index k mask x y a b e s t p q =
-    ap₂ bit_or e (ap₂ (λ (c i : ℕ). (c * 2 ^ i) % 2 ^ 32) (low_is child k x a s p) (low_is index k y b t q))
+turn child index k mask a b e p q =
+    ap₂ bit_or e (ap₂ (λ (c i : ℕ). (c * 2 ^ i) % 2 ^ 32) (byte_is child k a p) (byte_is index k b q))
     ∙ ap (λ (z : ℕ). word_mask z child index) (sym (add-one k))
 
 -- ---- the decoded words

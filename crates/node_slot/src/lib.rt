@@ -1,13 +1,14 @@
 // Internal: a ray against the eight slot boxes of a node, as a mask of children and positions (cwbvh/node.rs).
 #![tactic(auto)]
 
-ghost use Rattle.std.specs.Prelude.{◌≡◌, ◌+◌, ◌-◌, ◌%◌, ◌≤◌, ◌<◌, length};
+ghost use Rattle.std.specs.Prelude.{◌≡◌, ◌-◌, ◌%◌, ◌≤◌, ◌<◌};
 ghost use Rattle.std.specs.Int.Bits.{bit_and, bit_xor};
 ghost use Rattle.node.specs.Node.{node_from, MetaWord, child_index};
 ghost use Rattle.node_slot.specs.Slot.{plane_at};
 ghost use Rattle.node_slot.specs.Mask.{only_if, hit_mask};
 ghost use Rattle.node_slot.specs.Parts.{extents_of, point_of, ray_grid_of, near_end, ends_of, box_passes, slot_passes, word_mask, Marks, PlacesFit};
 
+use node::NodeRef;
 use ray::{Ray, Vec3};
 
 // No slot counts nearer than this, whatever the ray's start.
@@ -39,25 +40,25 @@ pub fn compute_extent(ex: u8, ey: u8, ez: u8) -> Vec3
     }
 }
 
-// The corner p of the node at o.
-fn point(s: &[u8], o: usize) -> Vec3
-    requires { o + 80 ≤ length s.now }
-    ensures { result ≡ point_of (node_from s.now o) }
+// The corner p of a node.
+fn point(node: NodeRef) -> Vec3
+    ensures { result ≡ point_of (node_from node.entry.bytes.now 0) }
 {
+    let [x, y, z] = node.point();
     Vec3 {
-        x: float::of_bits(node::px(s, o)),
-        y: float::of_bits(node::py(s, o)),
-        z: float::of_bits(node::pz(s, o)),
+        x: float::of_bits(x),
+        y: float::of_bits(y),
+        z: float::of_bits(z),
     }
 }
 
-// The ray in the grid of the node at o.
-fn ray_in_grid(s: &[u8], o: usize, ray: Ray) -> RayGrid
-    requires { o + 80 ≤ length s.now }
-    ensures { result ≡ ray_grid_of (node_from s.now o) ray }
+// The ray in the grid of a node.
+fn ray_in_grid(node: NodeRef, ray: Ray) -> RayGrid
+    ensures { result ≡ ray_grid_of (node_from node.entry.bytes.now 0) ray }
 {
-    let extent = compute_extent(node::ex(s, o), node::ey(s, o), node::ez(s, o));
-    let p = point(s, o);
+    let [ex, ey, ez] = node.exponents();
+    let extent = compute_extent(ex, ey, ez);
+    let p = point(node);
     RayGrid {
         inverse: Vec3 {
             x: extent.x * ray.inverse.x,
@@ -111,17 +112,17 @@ fn box_passes(
     first <= last
 }
 
-// Whether the ray passes slot k of the node at o.
-fn slot_passes(s: &[u8], o: usize, e: Ends, g: RayGrid, near: f32, tmax: f32, k: usize) -> bool
-    requires { (o + 80 ≤ length s.now) × (k < 8) × (e.x < 2) × (e.y < 2) × (e.z < 2) }
-    ensures { result ≡ slot_passes s.now o e g near tmax k }
+// Whether the ray passes slot k of a node.
+fn slot_passes(node: NodeRef, e: Ends, g: RayGrid, near: f32, tmax: f32, k: usize) -> bool
+    requires { (k < 8) × (e.x < 2) × (e.y < 2) × (e.z < 2) }
+    ensures { result ≡ slot_passes node.entry.bytes.now 0 e g near tmax k }
 {
-    let nx = node::corner(s, o, 0, e.x, k);
-    let ny = node::corner(s, o, 1, e.y, k);
-    let nz = node::corner(s, o, 2, e.z, k);
-    let fx = node::corner(s, o, 0, 1 - e.x, k);
-    let fy = node::corner(s, o, 1, 1 - e.y, k);
-    let fz = node::corner(s, o, 2, 1 - e.z, k);
+    let nx = node.corner(0, e.x, k);
+    let ny = node.corner(1, e.y, k);
+    let nz = node.corner(2, e.z, k);
+    let fx = node.corner(0, 1 - e.x, k);
+    let fy = node.corner(1, 1 - e.y, k);
+    let fz = node.corner(2, 1 - e.z, k);
     box_passes(nx, ny, nz, fx, fy, fz, g, near, tmax)
 }
 
@@ -132,16 +133,14 @@ fn mark(passes: bool) -> u8
     if passes { 7 } else { 0 }
 }
 
-// A byte for each slot of the node at o, its mark. The loop compiles to no branch, four slots at once.
-fn marks(s: &[u8], o: usize, e: Ends, g: RayGrid, near: f32, tmax: f32) -> u64
-    requires { (o + 80 ≤ length s.now) × (e.x < 2) × (e.y < 2) × (e.z < 2) }
-    ensures { Marks (slot_passes s.now o e g near tmax) result }
+// A byte for each slot of a node, its mark. The loop compiles to no branch.
+fn marks(node: NodeRef, e: Ends, g: RayGrid, near: f32, tmax: f32) -> u64
+    requires { (e.x < 2) × (e.y < 2) × (e.z < 2) }
+    ensures { Marks (slot_passes node.entry.bytes.now 0 e g near tmax) result }
 {
     let mut marks = [0u8; 8];
-    let mut k: usize = 0;
-    while k < 8 {
-        marks[k] = mark(slot_passes(s, o, e, g, near, tmax, k));
-        k += 1;
+    for k in 0..8 {
+        marks[k] = mark(slot_passes(node, e, g, near, tmax, k));
     }
     words::load_u64(&marks, 0)
 }
@@ -151,15 +150,10 @@ fn marked_bits(marks: u64, child8: u64, index8: u64) -> u32
     requires { PlacesFit index8 }
     ensures { result ≡ word_mask 8 (bit_and child8 marks) index8 }
 {
-    let mut child = child8 & marks;
-    let mut index = index8;
+    let child = child8 & marks;
     let mut mask: u32 = 0;
-    let mut k: u32 = 0;
-    while k < 8 {
-        mask |= words::low_byte(child) << words::low_byte(index);
-        child = child / 256;
-        index = index / 256;
-        k += 1;
+    for k in 0..8u32 {
+        mask |= words::low_byte(child >> (8 * k)) << words::low_byte(index8 >> (8 * k));
     }
     mask
 }
@@ -175,14 +169,14 @@ pub fn near_ends(direction: Vec3) -> Ends
     }
 }
 
-// The hit mask of the node at o, whose metas are meta8, for a ray of this octant that meets the ends e first.
-pub fn intersect_ray(s: &[u8], o: usize, meta8: u64, ray: Ray, e: Ends, octant: u32) -> u32
-    requires { (o + 80 ≤ length s.now) × MetaWord (node_from s.now o) meta8 × (e ≡ ends_of ray.direction) × (octant < 8) }
-    ensures { result ≡ hit_mask (node_from s.now o) ray octant }
+// The hit mask of a node whose metas are meta8, for a ray of this octant that meets the ends e first.
+pub fn intersect_ray(node: NodeRef, meta8: u64, ray: Ray, e: Ends, octant: u32) -> u32
+    requires { MetaWord (node_from node.bytes.now 0) meta8 × (e ≡ ends_of ray.direction) × (octant < 8) }
+    ensures { result ≡ hit_mask (node_from node.entry.bytes.now 0) ray octant }
 {
-    let g = ray_in_grid(s, o, ray);
+    let g = ray_in_grid(node, ray);
     let limit = float::max(ray.tmin, NEAR_LIMIT);
-    let on = marks(s, o, e, g, limit, ray.tmax);
+    let on = marks(node, e, g, limit, ray.tmax);
     if on == 0 {
         return 0;
     }

@@ -4,7 +4,7 @@ use mathlib.Core.Logic.{◌⊎◌, inl, inr}
 use mathlib.Core.List.{List, [], ◌∷◌, ◌++◌}
 use Prim.Native.Nat.{ℕ, ◌+◌, ◌≤◌, ◌<◌}
 use native.Mathlib.Decide.{ℕ_discrete}
-use native.Mathlib.Nat.{lt_of_lt_of_le, le_antisymm}
+use native.Mathlib.Nat.{lt_of_lt_of_le}
 use native.Mathlib.Numerals.{add-one}
 use native.Mathlib.Omega.{arith}
 use lib.ListN.{get_or, set, length-set}
@@ -116,7 +116,3 @@ module _ (table : List (List Float)) (n : ℕ) where
     | inl w ↦ kept_is k slot child h ∙ ap arrays_of (sym (stuck_on (cost_in table) n k n l w.1))
     | inr w ↦ absurd (omega (arith, q, w.slot, w.taken.fits.slot))
   ]
-
-  pub kept_whole : (k : ℕ) (slot child : List ℕ) → Kept k slot child → k ≤ n → n ≤ k
-      → ◌≡◌ {A = Assignment} (record { slot = slot; child = child }) (arrays_of (assignment (cost_in table) n))
-  kept_whole k slot child h l m = kept_is k slot child h ∙ ap (λ (j : ℕ). arrays_of (after j)) (le_antisymm l m)

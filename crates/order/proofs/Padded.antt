@@ -1,9 +1,8 @@
 -- Arrays of eight that are filled from the front.
-use mathlib.Core.Path.{◌≡◌, refl, sym, ap, ap₂, ◌∙◌}
-use mathlib.Core.List.{List, [], ◌∷◌, ◌++◌, map, append_assoc, append-nil, map-append}
+use mathlib.Core.Path.{◌≡◌, sym, ap, ap₂, ◌∙◌}
+use mathlib.Core.List.{List, [], ◌∷◌, ◌++◌, map, append_assoc, map-append}
 use mathlib.Core.Logic.{◌⊎◌, inl, inr}
-use Prim.Native.Nat.{ℕ, zero, suc, ◌+◌, ◌-◌, min, ◌≤◌, ◌<◌}
-use native.Mathlib.Nat.{not-suc-le-zero, le_of_suc-le-suc}
+use Prim.Native.Nat.{ℕ, suc, ◌+◌, ◌-◌, min, ◌≤◌, ◌<◌}
 use native.Mathlib.Numerals.{add-one}
 use native.Mathlib.Omega.{arith}
 use lib.ListN.{length, take, get_or, set, replicate, length-append, length-map}
@@ -29,14 +28,6 @@ map_next f d none xs k ys v len h e g =
     ∙ ap (padded d) (sym (map-append f (take k xs) (get_or xs k none ∷ [])) ∙ ap (map f)
     (sym (take-suc xs k none (omega arith)) ∙ ap (λ (j : ℕ). take j xs) (sym (add-one k))))
 
--- and all of them
-pub map_whole : {A B : Type 0} (f : A → B) (d : B) (xs : List A) (k : ℕ) → length xs ≡ 8 → 8 ≤ k → padded d (map f (take k xs)) ≡ map f xs
-unfolding padded
-map_whole f d xs k e h =
-    ap (λ (l : List _). padded d (map f l)) (take_all k xs (omega arith))
-    ∙ ap (λ (n : ℕ). map f xs ++ replicate (8 - n) d) (length-map xs f ∙ e)
-    ∙ append-nil (map f xs)
-
 -- a count past the whole takes the whole
 pub take-eight : {A : Type 0} (k : ℕ) (xs : List A) → length xs ≡ 8 → take (min k 8) xs ≡ take k xs
 take-eight k xs e = go (lt_or_ge k 8)
@@ -46,9 +37,3 @@ take-eight k xs e = go (lt_or_ge k 8)
     go (inr h) =
         let m : min k 8 ≡ 8 = omega arith in
         ap (λ (j : ℕ). take j xs) m ∙ take_all 8 xs (omega arith) ∙ sym (take_all k xs (omega arith))
-
--- whatever stands for what is past the end
-pub get_d_any : {A : Type 0} (xs : List A) (i : ℕ) (d e : A) → i < length xs → get_or xs i d ≡ get_or xs i e
-get_d_any [] i d e h = absurd (not-suc-le-zero h)
-get_d_any (x ∷ xs) zero d e h = refl
-get_d_any (x ∷ xs) (suc i) d e h = get_d_any xs i d e (le_of_suc-le-suc h)

@@ -13,11 +13,12 @@ ghost use Rattle.order.specs.Order.{sign_of, direction_of, dot_of, direction_cos
 
 use aabb::Aabb;
 use ray::Vec3;
+use std::array;
 
 // The greatest finite f32: only a cost below it is taken.
 const GREATEST: f32 = 340282350000000000000000000000000000000.0;
 
-// A child, a slot and what the pair costs; slot 8 where there is none.
+// A child, a slot and what the pair costs.
 #[derive(Clone, Copy)]
 struct Best {
     cost: f32,
@@ -25,14 +26,21 @@ struct Best {
     slot: usize,
 }
 
-// slot[c] is the slot of child c, and child[s] the child in slot s; 8 where there is none.
+// No pair: dearer than each that is taken, so that a comparison needs no case for it.
+const NO_BEST: Best = Best {
+    cost: GREATEST,
+    child: 8,
+    slot: 8,
+};
+
+// slot[c] is the slot of child c, and child[s] the child in slot s; 8 where there is none, as in the arrays of the published code.
 #[derive(Clone, Copy)]
 pub struct Assignment {
     pub slot: [usize; 8],
     pub child: [usize; 8],
 }
 
-// The first, unless the second is cheaper.
+// The first, unless the second is cheaper. Field by field: where whole values are chosen, a node's children take half as long again.
 fn cheaper_of(a: Best, b: Best) -> Best
     ensures { result ≡ cheaper a b }
 {
@@ -54,13 +62,8 @@ fn cheaper_of(a: Best, b: Best) -> Best
 fn best_slot(row: [f32; 8], child: &[usize; 8], c: usize) -> Best
     ensures { result ≡ best_slot row child.now c 8 }
 {
-    let mut b = Best {
-        cost: GREATEST,
-        child: 8,
-        slot: 8,
-    };
-    let mut s = 0usize;
-    while s < 8 {
+    let mut b = NO_BEST;
+    for s in 0..8 {
         if child[s] == 8 {
             let x = Best {
                 cost: row[s],
@@ -69,7 +72,6 @@ fn best_slot(row: [f32; 8], child: &[usize; 8], c: usize) -> Best
             };
             b = cheaper_of(b, x);
         }
-        s += 1;
     }
     b
 }
@@ -79,26 +81,13 @@ fn best_pair(cost: &[[f32; 8]; 8], slot: &[usize; 8], child: &[usize; 8], n: usi
     requires { n ≤ 8 }
     ensures { result ≡ best_open cost.now slot.now child.now n }
 {
-    let mut b = Best {
-        cost: GREATEST,
-        child: 8,
-        slot: 8,
-    };
-    let mut c = 0usize;
-    while c < n {
+    let mut b = NO_BEST;
+    for c in 0..n {
         if slot[c] == 8 {
             b = cheaper_of(b, best_slot(cost[c], child, c));
         }
-        c += 1;
     }
     b
-}
-
-// The number, or 8 if it is more.
-fn at_most_eight(count: usize) -> usize
-    ensures { result ≡ min count 8 }
-{
-    if count < 8 { count } else { 8 }
 }
 
 // One round for each of n children, or as many as find a pair.
@@ -108,17 +97,13 @@ fn rounds(cost: [[f32; 8]; 8], n: usize) -> Assignment
 {
     let mut slot = [8usize; 8];
     let mut child = [8usize; 8];
-    let mut k = 0usize;
-    while k < n {
+    for _round in 0..n {
         let b = best_pair(&cost, &slot, &child, n);
-        let c = b.child;
-        let s = b.slot;
-        if s == 8 {
+        if b.slot == 8 {
             return Assignment { slot, child };
         }
-        slot[c] = s;
-        child[s] = c;
-        k += 1;
+        slot[b.child] = b.slot;
+        child[b.slot] = b.child;
     }
     Assignment { slot, child }
 }
@@ -128,18 +113,14 @@ fn rounds(cost: [[f32; 8]; 8], n: usize) -> Assignment
 pub fn assign(cost: [[f32; 8]; 8], count: usize) -> Assignment
     ensures { result ≡ arrays_of (assignment (cost_in cost) (min count 8)) }
 {
-    let n = at_most_eight(count);
-    rounds(cost, n)
+    rounds(cost, count.min(8))
 }
 
 // -1 for a bit that is set, else 1.
 fn sign(bit: usize) -> f32
     ensures { result ≡ sign_of bit }
 {
-    if bit == 0 {
-        return 1.0;
-    }
-    -1.0
+    if bit == 0 { 1.0 } else { -1.0 }
 }
 
 // Direction s: -1 on x, y and z where s has the bits 4, 2 and 1.
@@ -183,16 +164,7 @@ fn along(s: usize, v: Vec3) -> f32
 fn cost_row(v: Vec3) -> [f32; 8]
     ensures { result ≡ eight_of (λ s. dot_of (direction_of s) v) }
 {
-    [
-        along(0, v),
-        along(1, v),
-        along(2, v),
-        along(3, v),
-        along(4, v),
-        along(5, v),
-        along(6, v),
-        along(7, v),
-    ]
+    array::from_fn(|s| along(s, v))
 }
 
 // The costs of the first n children against the centre p of their node.
@@ -201,13 +173,8 @@ fn cost_rows(p: Vec3, boxes: [Aabb; 8], n: usize) -> [[f32; 8]; 8]
     ensures { result ≡ padded no_row (map (λ b. eight_of (direction_cost p b)) (take n boxes)) }
 {
     let mut cost = [[GREATEST; 8]; 8];
-    let mut c = 0usize;
-    while c < n {
-        let b = boxes[c];
-        let v = offset(b, p);
-        let row = cost_row(v);
-        cost[c] = row;
-        c += 1;
+    for c in 0..n {
+        cost[c] = cost_row(offset(boxes[c], p));
     }
     cost
 }
@@ -216,33 +183,21 @@ fn cost_rows(p: Vec3, boxes: [Aabb; 8], n: usize) -> [[f32; 8]; 8]
 pub fn direction_costs(parent: Aabb, boxes: [Aabb; 8], count: usize) -> [[f32; 8]; 8]
     ensures { result ≡ padded no_row (cost_table parent (take count boxes)) }
 {
-    let p = parent.center();
-    let n = at_most_eight(count);
-    cost_rows(p, boxes, n)
+    cost_rows(parent.center(), boxes, count.min(8))
 }
 
 // Element c, or all ones where c is not below 8.
 fn child_or_none(children: [u32; 8], c: usize) -> u32
     ensures { result ≡ get_or children c 0xffff_ffff }
 {
-    if c < 8 {
-        return children[c];
-    }
-    0xffff_ffff
+    children.get(c).copied().unwrap_or(0xffff_ffff)
 }
 
 // The children that `child` names for each slot.
 fn place(children: [u32; 8], child: [usize; 8]) -> [u32; 8]
     ensures { result ≡ map (λ c. get_or children c 0xffff_ffff) child }
 {
-    let mut out = [0xffff_ffffu32; 8];
-    let mut s = 0usize;
-    while s < 8 {
-        let v = child_or_none(children, child[s]);
-        out[s] = v;
-        s += 1;
-    }
-    out
+    child.map(|c| child_or_none(children, c))
 }
 
 // The first `count` children of a node by slots, with their boxes in the same order; all ones in a slot without a child. A count over 8 acts as 8.
@@ -250,7 +205,5 @@ pub fn order_children(parent: Aabb, boxes: [Aabb; 8], children: [u32; 8], count:
     ensures { result ≡ placed 0xffff_ffff (slots_of true parent (take count boxes)) (take count children) }
 {
     let cost = direction_costs(parent, boxes, count);
-    let a = assign(cost, count);
-    let child = a.child;
-    place(children, child)
+    place(children, assign(cost, count).child)
 }

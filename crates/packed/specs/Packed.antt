@@ -4,7 +4,8 @@ use Rattle.std.specs.Float.{nan}
 use Rattle.lists.specs.Below.{all_below}
 use Rattle.ray.specs.declared.Vec3.{Vec3}
 use Rattle.ray.specs.declared.Ray.{Ray}
-use Rattle.ray.specs.Ray.{ray_of, accepted_ray}
+use Rattle.ray.specs.declared.Beam.{Beam}
+use Rattle.ray.specs.Ray.{ray_from, accepted_ray}
 use Rattle.aabb.specs.declared.Aabb.{Aabb}
 
 -- x, y, z, from a place on
@@ -16,10 +17,19 @@ unfoldable pub box_in : List Float → ℕ → Aabb
 unfolding vec_in
 box_in s k = record { min = vec_in s (k * 6); max = vec_in s (k * 6 + 3) }
 
--- ray k of a list: origin, direction, tmin, tmax
+-- ray k of a list as it is asked for: origin, direction, tmin, tmax
+abbrev pub beam_in : List Float → ℕ → Beam
+beam_in s k = record {
+  origin = vec_in s (k * 8);
+  direction = vec_in s (k * 8 + 3);
+  tmin = get_or s (k * 8 + 6) nan;
+  tmax = get_or s (k * 8 + 7) nan;
+}
+
+-- ray k of a list
 unfoldable pub ray_in : List Float → ℕ → Ray
 unfolding vec_in
-ray_in s k = ray_of (vec_in s (k * 8)) (vec_in s (k * 8 + 3)) (get_or s (k * 8 + 6) nan) (get_or s (k * 8 + 7) nan)
+ray_in s k = ray_from (beam_in s k)
 
 -- how many rays, and whether each is accepted
 abbrev pub ray_count : List Float → ℕ

@@ -5,8 +5,10 @@ ghost use Rattle.std.specs.Prelude.{◌≡◌};
 ghost use Rattle.quantization.specs.Ends.{quant_min, quant_max, reciprocal_of};
 ghost use Rattle.quantization.specs.Exponent.{extent_scale, exponent_of};
 
+// No extent counts as less.
 const LEAST_EXTENT: f32 = 1e-20;
 
+// The part of an extent that a step covers.
 const DENOM: f32 = 1.0 / 255.0;
 
 // The extent's 255th part, with 1e-20 in the place of a smaller extent.
@@ -22,7 +24,7 @@ pub fn exponent_byte(lo: f32, hi: f32) -> u8
     ensures { result ≡ exponent_of lo hi }
 {
     let scale = extent_scale(lo, hi);
-    ((f32::to_bits(scale) + 8388607) / 8388608) as u8
+    ((scale.to_bits() + 8388607) / 8388608) as u8
 }
 
 // The reciprocal of the power of two that an exponent byte stands for.
@@ -32,17 +34,17 @@ pub fn reciprocal(e: u8) -> f32
     1.0 / float::scale(e)
 }
 
-// The floor of x, clamped to a byte.
+// The floor of x, clamped to a byte: two comparisons and a cut, since the standard cast that saturates takes an f64.
 pub fn quantize_min(x: f32) -> u8
     ensures { result ≡ quant_min x }
 {
     if x >= 255.0 {
-        return 255;
+        255
+    } else if x > 0.0 {
+        std::num::truncating_f32_to_u64(x) as u8
+    } else {
+        0
     }
-    if x > 0.0 {
-        return std::num::truncating_f32_to_u64(x) as u8;
-    }
-    0
 }
 
 // The ceiling of x, clamped to a byte.
@@ -50,10 +52,9 @@ pub fn quantize_max(x: f32) -> u8
     ensures { result ≡ quant_max x }
 {
     let floor = quantize_min(x);
-    if floor < 255 {
-        if (floor as f32) < x {
-            return floor + 1;
-        }
+    if floor < 255 && f32::from(floor) < x {
+        floor + 1
+    } else {
+        floor
     }
-    floor
 }

@@ -2,28 +2,30 @@
 #![tactic(auto)]
 
 ghost use Rattle.std.specs.Prelude.{◌≡◌};
+ghost use Rattle.causes.specs.Refusal.{cause_in};
 ghost use Rattle.query.specs.Entry.{entry_cause};
 
+use causes::Refusal;
 use ray::Ray;
 
-// What refuses a query before its walk begins, 0 for nothing: `fits` says whether other lists have a length that fits, `bytes` is the record's
-// length, `between` the first of the query's own causes between 2 and 9.
-pub fn entry_cause(fits: bool, bytes: usize, n: usize, between: u32, ray: Ray) -> u32
-    ensures { result ≡ entry_cause fits bytes n between ray }
+// Whether a query's walk may begin: `fits` says whether other lists have a length that fits, `bytes` is the record's length, `between` what the
+// query's own causes between 2 and 9 say.
+pub fn check_entry(
+    fits: bool,
+    bytes: usize,
+    n: usize,
+    between: Result<(), Refusal>,
+    ray: Ray,
+) -> Result<(), Refusal>
+    ensures { cause_in result ≡ entry_cause fits bytes n (cause_in between) ray }
 {
     if !fits {
-        return 1;
+        return Err(Refusal::LengthUnfit);
     }
-    let sizes = causes::record_cause(bytes, n);
-    if sizes != 0 {
-        return sizes;
-    }
-    let own = between != 0;
-    if own {
-        return between;
-    }
+    causes::record_sizes(bytes, n)?;
+    between?;
     if !ray.accepted() {
-        return 9;
+        return Err(Refusal::RayRefused);
     }
-    0
+    Ok(())
 }

@@ -6,6 +6,7 @@ use Rattle.float.specs.Compare.{plus_zero, unsigned_zero, is_minus_zero, in_boun
 use Rattle.float.specs.Sign.{sign_bit}
 use Rattle.ray.specs.declared.Vec3.{Vec3}
 use Rattle.ray.specs.declared.Ray.{Ray}
+use Rattle.ray.specs.declared.Beam.{Beam}
 
 -- |v| ≤ 2 ^ -23
 abbrev pub tiny : Float → Bool
@@ -44,6 +45,10 @@ ray_of o d near far = record {
   tmin = near;
   tmax = far;
 }
+
+-- the ray that is asked for
+abbrev pub ray_from : Beam → Ray
+ray_from b = ray_of b.origin b.direction b.tmin b.tmax
 
 -- a ray with another start, and one with another reach
 abbrev pub starting_at : Float → Ray → Ray

@@ -2,7 +2,7 @@
 #![tactic(auto)]
 
 ghost use Rattle.std.specs.Prelude.{◌≡◌, cond};
-ghost use Rattle.ray.specs.Ray.{below_zero, safe_inverse, octant_of, unsigned_vec, plain_vec, ray_of, counts, accepted_ray, bounded_vec};
+ghost use Rattle.ray.specs.Ray.{below_zero, safe_inverse, octant_of, unsigned_vec, plain_vec, ray_from, counts, accepted_ray, bounded_vec};
 
 // Three floats, in the place of the Rust's Vec3A.
 #[derive(Clone, Copy)]
@@ -10,6 +10,15 @@ pub struct Vec3 {
     pub x: f32,
     pub y: f32,
     pub z: f32,
+}
+
+// A ray as it is asked for: from an origin along a direction, with its range of distances.
+#[derive(Clone, Copy)]
+pub struct Beam {
+    pub origin: Vec3,
+    pub direction: Vec3,
+    pub tmin: f32,
+    pub tmax: f32,
 }
 
 // A ray with the inverse of its direction, and the distances between which it meets something: its start and its reach.
@@ -27,8 +36,7 @@ pub fn safe_inverse(v: f32) -> f32
     ensures { result ≡ safe_inverse v }
 {
     if -1.1920928955078125e-7 <= v && v <= 1.1920928955078125e-7 {
-        let negative = f32::to_bits(v) >= 0x8000_0000;
-        if negative { -8388608.0 } else { 8388608.0 }
+        8388608.0_f32.copysign(v)
     } else {
         1.0 / v
     }
@@ -42,6 +50,7 @@ fn below_zero(v: f32, weight: u32) -> u32
 }
 
 // 7 less 4, 2, 1 for an x, a y, a z below zero.
+#[tactic(auto, using(crate::proofs::Bounds::weight_le), unfolding(crate::specs::Ray::octant_of))]
 pub fn octant(direction: Vec3) -> u32
     ensures { result ≡ octant_of direction }
 {
@@ -50,31 +59,25 @@ pub fn octant(direction: Vec3) -> u32
 
 impl Vec3 {
     // Whether each component is finite and within 2^40 of zero.
+    #[tactic(auto, unfolding(crate::specs::Ray::bounded_vec))]
     pub fn bounded(self) -> bool
         ensures { result ≡ bounded_vec self }
     {
-        if float::in_bounds(self.x) {
-            if float::in_bounds(self.y) {
-                return float::in_bounds(self.z);
-            }
-        }
-        false
+        float::in_bounds(self.x) && float::in_bounds(self.y) && float::in_bounds(self.z)
     }
 
     // Whether no component is -0.0.
+    #[tactic(auto, unfolding(crate::specs::Ray::plain_vec))]
     pub fn plain(self) -> bool
         ensures { result ≡ plain_vec self }
     {
-        if float::is_minus_zero(self.x) {
-            return false;
-        }
-        if float::is_minus_zero(self.y) {
-            return false;
-        }
-        !float::is_minus_zero(self.z)
+        !float::is_minus_zero(self.x)
+            && !float::is_minus_zero(self.y)
+            && !float::is_minus_zero(self.z)
     }
 
     // Each zero component as +0.0.
+    #[tactic(auto, unfolding(crate::specs::Ray::unsigned_vec))]
     fn unsigned(self) -> Vec3
         ensures { result ≡ unsigned_vec self }
     {
@@ -87,47 +90,42 @@ impl Vec3 {
 }
 
 impl Ray {
-    // The ray from an origin along a direction, zeros of either sign as +0.0, with its range of distances.
-    pub fn new(origin: Vec3, direction: Vec3, tmin: f32, tmax: f32) -> Ray
-        ensures { result ≡ ray_of origin direction tmin tmax }
+    // The ray that is asked for, zeros of either sign as +0.0.
+    #[tactic(auto, unfolding(crate::specs::Ray::ray_of))]
+    pub fn new(beam: Beam) -> Ray
+        ensures { result ≡ ray_from beam }
     {
-        let from = origin.unsigned();
-        let along = direction.unsigned();
-        let x = safe_inverse(along.x);
-        let y = safe_inverse(along.y);
-        let z = safe_inverse(along.z);
-        let inverse = Vec3 { x, y, z };
+        let origin = beam.origin.unsigned();
+        let direction = beam.direction.unsigned();
         Ray {
-            origin: from,
-            direction: along,
-            inverse,
-            tmin,
-            tmax,
+            origin,
+            direction,
+            inverse: Vec3 {
+                x: safe_inverse(direction.x),
+                y: safe_inverse(direction.y),
+                z: safe_inverse(direction.z),
+            },
+            tmin: beam.tmin,
+            tmax: beam.tmax,
         }
     }
 
     // Whether a distance counts: it is not before the start, and below the reach. NaN counts for no ray.
+    #[tactic(auto, unfolding(crate::specs::Ray::counts))]
     pub fn counts(self, distance: f32) -> bool
         ensures { result ≡ counts self distance }
     {
-        let early = distance < self.tmin;
-        if early {
-            return false;
-        }
-        distance < self.tmax
+        !(distance < self.tmin) && distance < self.tmax
     }
 
     // Whether no cause of refusal 9 holds of the ray.
+    #[tactic(auto, unfolding(crate::specs::Ray::accepted_ray))]
     pub fn accepted(self) -> bool
         ensures { result ≡ accepted_ray self }
     {
-        if self.origin.bounded() {
-            if self.direction.bounded() {
-                if self.tmin == self.tmin {
-                    return self.tmax == self.tmax;
-                }
-            }
-        }
-        false
+        self.origin.bounded()
+            && self.direction.bounded()
+            && !self.tmin.is_nan()
+            && !self.tmax.is_nan()
     }
 }

@@ -1,7 +1,9 @@
 // The stored cases of rays, boxes and quantised ends.
+ghost use Rattle.std.specs.Prelude.{◌≤◌};
+
 use aabb::Aabb;
-use ray::Ray;
-use stored::{real, same, same_vector, vector, word};
+use ray::{Beam, Ray};
+use stored::{beam, real, same, same_vector, vector, word};
 
 // A float, its safe inverse.
 fn safe_inverse(case: &[u8]) -> bool {
@@ -10,24 +12,17 @@ fn safe_inverse(case: &[u8]) -> bool {
 
 // Origin, direction, tmin, tmax; inverse, octant, whether it is accepted.
 fn rays(case: &[u8]) -> bool {
-    let direction = vector(case, 3);
-    let r = Ray::new(vector(case, 0), direction, real(case, 6), real(case, 7));
-    if same_vector(case, 8, r.inverse) {
-        if ray::octant(direction) == word(case, 11) {
-            return r.accepted() as u32 == word(case, 12);
-        }
-    }
-    false
+    let beam = beam(case, 0);
+    let r = Ray::new(beam);
+    same_vector(case, 8, r.inverse)
+        && same(case, 11, ray::octant(beam.direction))
+        && same(case, 12, u32::from(r.accepted()))
 }
 
-fn box_at(case: &[u8], i: usize) -> Aabb {
-    if i > 1000 {
-        let zero = vector(case, 1001);
-        return Aabb {
-            min: zero,
-            max: zero,
-        };
-    }
+// The box in the six words from word i on.
+fn box_at(case: &[u8], i: usize) -> Aabb
+    requires { i ≤ 1000 }
+{
     let min = vector(case, i);
     let max = vector(case, i + 3);
     Aabb { min, max }
@@ -36,45 +31,45 @@ fn box_at(case: &[u8], i: usize) -> Aabb {
 // A box; half area, centre, whether it is accepted.
 fn boxes(case: &[u8]) -> bool {
     let b = box_at(case, 0);
-    if same(case, 6, b.half_area()) {
-        if same_vector(case, 7, b.center()) {
-            return b.accepted() as u32 == word(case, 10);
-        }
-    }
-    false
+    same(case, 6, b.half_area())
+        && same_vector(case, 7, b.center())
+        && same(case, 10, u32::from(b.accepted()))
 }
 
 // Two boxes; their union.
 fn unions(case: &[u8]) -> bool {
     let u = box_at(case, 0).union(box_at(case, 6));
-    if same_vector(case, 12, u.min) {
-        return same_vector(case, 15, u.max);
-    }
-    false
+    same_vector(case, 12, u.min) && same_vector(case, 15, u.max)
 }
 
 // A box, a ray's origin and direction; the distance at which it enters.
 fn entries(case: &[u8]) -> bool {
-    let r = Ray::new(vector(case, 6), vector(case, 9), 0.0, 1.0);
+    let origin = vector(case, 6);
+    let direction = vector(case, 9);
+    let r = Ray::new(Beam {
+        origin,
+        direction,
+        tmin: 0.0,
+        tmax: 1.0,
+    });
     same(case, 12, box_at(case, 0).intersect_ray(r))
 }
 
 // The two ends of an axis; the exponent byte of its extent.
 fn exponents(case: &[u8]) -> bool {
-    quantization::exponent_byte(real(case, 0), real(case, 1)) as u32 == word(case, 2)
+    let byte = quantization::exponent_byte(real(case, 0), real(case, 1));
+    same(case, 2, u32::from(byte))
 }
 
 // A child's end on its parent's grid; its floor in the lowest byte, its ceiling in the next.
 fn ends(case: &[u8]) -> bool {
     let x = real(case, 0);
     let bytes = word(case, 1);
-    if quantization::quantize_min(x) as u32 == bytes % 0x100 {
-        return quantization::quantize_max(x) as u32 == bytes / 0x100;
-    }
-    false
+    u32::from(quantization::quantize_min(x)) == bytes % 0x100
+        && u32::from(quantization::quantize_max(x)) == bytes / 0x100
 }
 
-// Whether the library agrees with a case.
+// Whether the library agrees with a case, whose kind the file tells by a number.
 pub fn agrees(kind: u32, case: &[u8]) -> bool {
     match kind {
         1 => safe_inverse(case),

@@ -23,7 +23,7 @@ fn fill<F: Write + Seek + OpenFile>(file: &mut File<F>, start: &[u8], long: u32)
     file.writer.set_len(0)?;
     file.writer.seek(SeekFrom::Start(0))?;
     file.writer.write_all(start)?;
-    file.writer.set_len(long as u64)?;
+    file.writer.set_len(u64::from(long))?;
     file.reader.seek(SeekFrom::Start(0))?;
     Ok(())
 }
@@ -32,7 +32,7 @@ fn fill<F: Write + Seek + OpenFile>(file: &mut File<F>, start: &[u8], long: u32)
 fn answered<F: Read>(file: &mut File<F>, line: &[u8]) -> io::Result<bool> {
     let mut text = [0u8; 19];
     let long = check_text::answer(&mut file.reader, &mut text)?;
-    Ok(check::same(&text[..long], line))
+    Ok(&text[..long] == line)
 }
 
 // Bytes of the input's start, of the input, of output; the start and the output, each filled up to whole words. The input is zero past its start.
@@ -49,14 +49,14 @@ fn line<F: Read + Write + Seek + OpenFile>(case: &[u8], file: &mut File<F>) -> i
     answered(file, &case[from..end])
 }
 
-// Whether the library agrees with a case.
+// Whether the library agrees with a case, whose kind the file tells by a number.
 pub fn agrees<F: Read + Write + Seek + OpenFile>(
     kind: u32,
     case: &[u8],
     file: &mut File<F>,
 ) -> io::Result<bool> {
-    if kind == 41 {
-        return line(case, file);
+    match kind {
+        41 => line(case, file),
+        _ => Ok(false),
     }
-    Ok(false)
 }

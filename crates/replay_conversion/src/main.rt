@@ -7,8 +7,6 @@ mod lent;
 mod shown;
 mod trees;
 
-use std::env::Env;
-use std::fs::Files;
 use std::io;
 
 // Whether the library agrees with a case.
@@ -22,21 +20,8 @@ fn agrees(kind: u32, case: &[u8]) -> bool {
     }
 }
 
-// Runs the file that argument i names.
-fn run<R: Files + Env + Print + AllocGlobal>(rt: &R, i: usize) -> io::Result<bool> {
-    let mut space = [0u8; stored::CASE_BYTES];
-    let buffer: &mut [u8] = &mut space;
-    let (mut file, mut at) = stored::open(rt, i)?;
-    while at.turns > 0 {
-        let length = stored::read_case(&mut file, at, buffer)?;
-        let same = agrees(at.kind, &buffer[..length]);
-        at = stored::next(rt, &mut file, at, length, same)?;
-    }
-    Ok(at.all)
-}
-
 fn main(rt: HostRuntime) -> io::Result<()> {
-    let converted = run(&rt, 1)?;
-    let shown = run(&rt, 2)?;
+    let converted = stored::replay(&rt, 1, |kind, case| Ok(agrees(kind, case)))?;
+    let shown = stored::replay(&rt, 2, |kind, case| Ok(agrees(kind, case)))?;
     stored::print_verdict(&rt, converted && shown)
 }

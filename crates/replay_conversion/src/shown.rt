@@ -35,10 +35,7 @@ fn same_text(case: &[u8], input: &[u8], from: usize, long: usize) -> bool
         &mut list,
         &mut text,
     );
-    if end != long {
-        return false;
-    }
-    lent::written_bytes(case, from, &text, long)
+    end == long && lent::written_bytes(case, from, &text, long)
 }
 
 // Bytes of input, bytes of output; input, output, each filled up to whole words.
@@ -50,10 +47,7 @@ pub fn shown(case: &[u8]) -> bool {
     if case.len() / 4 != from + (printed + 3) / 4 {
         return false;
     }
-    if from > 65536 {
-        return false;
-    }
-    if end > case.len() {
+    if from > 65536 || end > case.len() {
         return false;
     }
     same_text(case, &case[8..end], from, printed)

@@ -3,8 +3,8 @@ ghost use Rattle.std.specs.Prelude.{◌≤◌, length};
 
 use crate::lent;
 use crate::lent::{BYTE, COST};
-use bvh2_to_cwbvh::{Conversion, bvh2_to_cwbvh};
-use stored::{WORD, cleared_words, copy_words, word, written_words};
+use bvh2_to_cwbvh::{Converted, bvh2_to_cwbvh};
+use stored::{WORD, cleared_words, copy_words, filled_with, word, written_words};
 
 // Room for the words of a tree, its index words, and the bytes of its record.
 const MOST_WORDS: usize = 2048;
@@ -31,10 +31,7 @@ fn tree_size(n: usize) -> usize
     requires { n ≤ 128 }
     ensures { result ≤ 1785 }
 {
-    if n == 0 {
-        return 0;
-    }
-    (2 * n - 1) * 7
+    if n == 0 { 0 } else { (2 * n - 1) * 7 }
 }
 
 // The record bytes that they need.
@@ -42,31 +39,10 @@ fn record_size(n: usize) -> usize
     requires { n ≤ 128 }
     ensures { result ≤ 10160 }
 {
-    if n == 0 {
-        return 0;
-    }
-    if n == 1 {
-        return node::BYTES;
-    }
-    node::BYTES * (n - 1)
-}
-
-fn is_converted(answer: Conversion, nodes: u32, deepest: u32) -> bool {
-    match answer {
-        Conversion::Converted(m, level) => {
-            if m == nodes {
-                return level == deepest;
-            }
-            false
-        }
-        Conversion::Refused(_) => false,
-    }
-}
-
-fn is_refused(answer: Conversion, number: u32) -> bool {
-    match answer {
-        Conversion::Converted(_, _) => false,
-        Conversion::Refused(x) => x == number,
+    match n {
+        0 => 0,
+        1 => node::BYTES,
+        _ => node::BYTES * (n - 1),
     }
 }
 
@@ -88,16 +64,10 @@ fn same_slices(
     }
     let tables = 5 + size + n;
     let outputs = tables + 2 * size;
-    if !written_words(case, tables, decisions, size) {
-        return false;
-    }
-    if !lent::written_costs(case, tables + size, costs, size) {
-        return false;
-    }
-    if !lent::written_bytes(case, outputs, record, node::BYTES * nodes) {
-        return false;
-    }
-    written_words(case, outputs + 20 * nodes, list, n)
+    written_words(case, tables, decisions, WORD, size)
+        && lent::written_costs(case, tables + size, costs, size)
+        && lent::written_bytes(case, outputs, record, node::BYTES * nodes)
+        && written_words(case, outputs + 20 * nodes, list, WORD, n)
 }
 
 // Whether a conversion with these slices ends as an accepted case says.
@@ -117,8 +87,10 @@ fn ends_converted(
     let answer = bvh2_to_cwbvh(
         words, indices, limit, ordered, decisions, costs, record, list,
     );
-    if is_converted(answer, word(case, 3), word(case, 4)) {
-        return same_slices(
+    let nodes = word(case, 3);
+    let level = word(case, 4);
+    answer == Ok(Converted { nodes, level })
+        && same_slices(
             case,
             words.len(),
             indices.len(),
@@ -126,19 +98,14 @@ fn ends_converted(
             costs,
             record,
             list,
-        );
-    }
-    false
+        )
 }
 
 // The same with so much lent beyond what the tree needs.
 fn converts(case: &[u8], words: &[u32], indices: &[u32], spare: usize) -> bool
     requires { spare ≤ 5 }
 {
-    if words.len() > ACCEPTED_WORDS {
-        return false;
-    }
-    if indices.len() > ACCEPTED_LEAVES {
+    if words.len() > ACCEPTED_WORDS || indices.len() > ACCEPTED_LEAVES {
         return false;
     }
     let table = words.len() + spare;
@@ -163,10 +130,7 @@ fn converts(case: &[u8], words: &[u32], indices: &[u32], spare: usize) -> bool
 pub fn accepted(case: &[u8]) -> bool {
     let n = word(case, 0) as usize;
     let nodes = word(case, 3) as usize;
-    if n > ACCEPTED_LEAVES {
-        return false;
-    }
-    if nodes > ACCEPTED_LEAVES {
+    if n > ACCEPTED_LEAVES || nodes > ACCEPTED_LEAVES {
         return false;
     }
     let size = tree_size(n);
@@ -179,18 +143,12 @@ pub fn accepted(case: &[u8]) -> bool {
     let indices: &mut [u32] = &mut index_space[..n];
     copy_words(case, 5, words);
     copy_words(case, 5 + size, indices);
-    if converts(case, words, indices, 0) {
-        return converts(case, words, indices, SPARE);
-    }
-    false
+    converts(case, words, indices, 0) && converts(case, words, indices, SPARE)
 }
 
 // How much of the tables a refusal zeroes: nothing for causes 1 to 4, else all that is needed, which is as much as the tree has.
 fn cleared(number: u32, size: usize) -> usize {
-    if number < 5 {
-        return 0;
-    }
-    size
+    if number < 5 { 0 } else { size }
 }
 
 // Whether a conversion with these slices ends as a refused case says: both outputs as they were lent, and of the tables all that is not zeroed.
@@ -209,17 +167,11 @@ fn ends_refused(
     let answer = bvh2_to_cwbvh(
         words, indices, limit, ordered, decisions, costs, record, list,
     );
-    if !is_refused(answer, number) {
-        return false;
-    }
-    if !lent::untouched(record, list) {
-        return false;
-    }
     let size = cleared(number, words.len());
-    if cleared_words(decisions, size) {
-        return lent::cleared_costs(costs, size);
-    }
-    false
+    answer.map_err(u32::from) == Err(number)
+        && lent::untouched(record, list)
+        && cleared_words(decisions, WORD, size)
+        && cleared_words(costs, COST, size)
 }
 
 // The same with slices of the lengths that the case says.
@@ -228,16 +180,10 @@ fn refuses(case: &[u8], words: &[u32], indices: &[u32]) -> bool {
     let costs_end = word(case, 3) as usize;
     let record_end = word(case, 4) as usize;
     let list_end = word(case, 5) as usize;
-    if decisions_end > MOST_WORDS {
+    if decisions_end > MOST_WORDS || costs_end > MOST_WORDS {
         return false;
     }
-    if costs_end > MOST_WORDS {
-        return false;
-    }
-    if record_end > MOST_BYTES {
-        return false;
-    }
-    if list_end > MOST_LEAVES {
+    if record_end > MOST_BYTES || list_end > MOST_LEAVES {
         return false;
     }
     let mut decisions = [WORD; MOST_WORDS];
@@ -259,10 +205,7 @@ fn refuses(case: &[u8], words: &[u32], indices: &[u32]) -> bool {
 pub fn refused(case: &[u8]) -> bool {
     let size = word(case, 0) as usize;
     let n = word(case, 1) as usize;
-    if size > MOST_WORDS {
-        return false;
-    }
-    if n > MOST_LEAVES {
+    if size > MOST_WORDS || n > MOST_LEAVES {
         return false;
     }
     if case.len() / 4 != 9 + size + n {
@@ -281,13 +224,10 @@ pub fn refused(case: &[u8]) -> bool {
 pub fn lengths(case: &[u8]) -> bool {
     let size = word(case, 0) as usize;
     let n = word(case, 1) as usize;
-    if size > ZERO_WORDS {
+    if size > ZERO_WORDS || n > ZERO_LEAVES {
         return false;
     }
-    if n > ZERO_LEAVES {
-        return false;
-    }
-    let words = [0u32; ZERO_WORDS];
-    let indices = [0u32; ZERO_LEAVES];
+    let words: [u32; ZERO_WORDS] = filled_with(0);
+    let indices: [u32; ZERO_LEAVES] = filled_with(0);
     refuses(case, &words[..size], &indices[..n])
 }

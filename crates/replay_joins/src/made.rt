@@ -14,16 +14,12 @@ const SIGN: u32 = 0x8000_0000;
 fn node_word(n: usize, v: usize, c: usize) -> u32
     requires { (v ≤ 1048576) × (c ≤ 6) }
 {
-    if c < 3 {
-        return SIGN + (3 * v + c) as u32;
+    match c {
+        0..3 => SIGN + (3 * v + c) as u32,
+        3..6 => (3 * v + c - 3) as u32,
+        _ if v + 1 < n => (2 * v + 1) as u32,
+        _ => words::KIND + (v + 1 - n) as u32,
     }
-    if c < 6 {
-        return (3 * v + c - 3) as u32;
-    }
-    if v + 1 < n {
-        return (2 * v + 1) as u32;
-    }
-    words::KIND + (v + 1 - n) as u32
 }
 
 // Word i of a tree of n leaves, whose root stands in a case from word `root` on.
@@ -31,9 +27,10 @@ fn tree_word(case: &[u8], root: usize, n: usize, i: usize) -> u32
     requires { (root ≤ 65536) × (i ≤ 1048576) }
 {
     if i < 7 {
-        return word(case, root + i);
+        word(case, root + i)
+    } else {
+        node_word(n, i / 7, i % 7)
     }
-    node_word(n, i / 7, i % 7)
 }
 
 // Makes words of such a tree.
@@ -43,10 +40,8 @@ pub fn put_tree(case: &[u8], root: usize, n: usize, words: &mut [u32])
     if words.len() > MOST_WORDS {
         return;
     }
-    let mut i = 0;
-    while i < words.len() {
+    for i in 0..words.len() {
         words[i] = tree_word(case, root, n, i);
-        i += 1;
     }
 }
 
@@ -55,9 +50,7 @@ pub fn put_indices(indices: &mut [u32]) {
     if indices.len() > MOST_WORDS {
         return;
     }
-    let mut p = 0;
-    while p < indices.len() {
+    for p in 0..indices.len() {
         indices[p] = 5 * p as u32 + 2;
-        p += 1;
     }
 }

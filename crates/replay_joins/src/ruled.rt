@@ -1,7 +1,7 @@
 // The stored cases of joins by lengths: trees made by a rule, of as many leaves as are joined and more, and digests of what is written.
 ghost use Rattle.std.specs.Prelude.{◌≤◌};
 
-use crate::calls::{HEAD, SPARE, answers, is_short};
+use crate::calls::{HEAD, SPARE, answers, in_two_turns};
 use crate::made::{put_indices, put_tree};
 use stored::{WORD, digested_words, word};
 
@@ -28,83 +28,12 @@ const FEW: usize = 64;
 fn same_outputs(case: &[u8], words: &[u32], indices: &[u32]) -> bool {
     let count = word(case, 11) as usize;
     let leaves = word(case, 12) as usize;
-    if digested_words(words, count, word(case, DIGESTS)) {
-        return digested_words(indices, leaves, word(case, DIGESTS + 1));
-    }
-    false
+    digested_words(words, WORD, count, word(case, DIGESTS))
+        && digested_words(indices, WORD, leaves, word(case, DIGESTS + 1))
 }
 
-// Whether a join ends as stored, with so much lent beyond what the case says.
-fn ends(
-    case: &[u8],
-    spare: usize,
-    first: &[u32],
-    first_indices: &[u32],
-    second: &[u32],
-    second_indices: &[u32],
-    marks: &mut [u32],
-    words: &mut [u32],
-    indices: &mut [u32],
-) -> bool
-    requires { spare ≤ 5 }
-{
-    if answers(
-        case,
-        spare,
-        first,
-        first_indices,
-        second,
-        second_indices,
-        marks,
-        words,
-        indices,
-    ) {
-        return same_outputs(case, words, indices);
-    }
-    false
-}
-
-// The same in two turns, the second with more to spare.
-fn compared(
-    case: &[u8],
-    first: &[u32],
-    first_indices: &[u32],
-    second: &[u32],
-    second_indices: &[u32],
-    marks: &mut [u32],
-    words: &mut [u32],
-    indices: &mut [u32],
-) -> bool {
-    if !ends(
-        case,
-        0,
-        first,
-        first_indices,
-        second,
-        second_indices,
-        marks,
-        words,
-        indices,
-    ) {
-        return false;
-    }
-    if is_short(case) {
-        return true;
-    }
-    ends(
-        case,
-        SPARE,
-        first,
-        first_indices,
-        second,
-        second_indices,
-        marks,
-        words,
-        indices,
-    )
-}
-
-// The same, where the first tree's words stand at the front of these and the second's from word `from` on, and the index words of both in a list.
+// Whether a join ends as stored in two turns, where the first tree's words stand at the front of these and the second's from word `from` on, and the
+// index words of both in a list.
 fn of_parts(
     case: &[u8],
     trees: &[u32],
@@ -120,28 +49,29 @@ fn of_parts(
     let n = word(case, 1) as usize;
     let second_end = from + word(case, 2) as usize;
     let m = word(case, 3) as usize;
-    if first_end > trees.len() {
+    if first_end > trees.len() || second_end > trees.len() {
         return false;
     }
-    if second_end > trees.len() {
+    if n > list.len() || m > list.len() {
         return false;
     }
-    if n > list.len() {
-        return false;
-    }
-    if m > list.len() {
-        return false;
-    }
-    compared(
-        case,
-        &trees[..first_end],
-        &list[..n],
-        &trees[from..second_end],
-        &list[..m],
-        marks,
-        words,
-        indices,
-    )
+    let first = &trees[..first_end];
+    let first_indices = &list[..n];
+    let second = &trees[from..second_end];
+    let second_indices = &list[..m];
+    in_two_turns(case, |spare| {
+        answers(
+            case,
+            spare,
+            first,
+            first_indices,
+            second,
+            second_indices,
+            marks,
+            words,
+            indices,
+        ) && same_outputs(case, words, indices)
+    })
 }
 
 // A case with few words lent: the second tree stands behind the first.
@@ -187,10 +117,7 @@ fn with_itself(
 
 // Whether a case has a tree to join with itself: the lengths of both are the same.
 fn is_twice(case: &[u8]) -> bool {
-    if word(case, 0) != word(case, 2) {
-        return false;
-    }
-    word(case, 1) == word(case, 3)
+    word(case, 0) == word(case, 2) && word(case, 1) == word(case, 3)
 }
 
 // A case with few words lent.
@@ -204,13 +131,14 @@ fn with_few(case: &[u8], trees: &mut [u32], list: &[u32]) -> bool {
 // What a call starts with; the roots of the first tree and of the second; digests of the words and of the index words written. Where more than few
 // words are lent, both trees are one, and two trees stand where a joined one would: the stack has no room for more.
 pub fn sized(case: &[u8]) -> bool {
+    // Written out, and not by filled_with: a second copy of so many words would leave the stack no room.
     let mut list = [0u32; LEAVES];
     let mut large = [WORD; LARGE];
     let mut half = [WORD; HALF];
     let mut marks = [WORD; MARKS];
     let mut indices = [WORD; LEAVES];
     put_indices(&mut list);
-    if word(case, 5) as usize + SPARE <= FEW {
+    if word(case, 5) as usize + SPARE as usize <= FEW {
         return with_few(case, &mut large, &list);
     }
     if is_twice(case) {

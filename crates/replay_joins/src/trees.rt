@@ -1,7 +1,7 @@
 // The stored cases of joins: two trees, and what their join answers and leaves in the slices that it is lent.
 ghost use Rattle.std.specs.Prelude.{◌≤◌};
 
-use crate::calls::{HEAD, SPARE, answers, is_short};
+use crate::calls::{HEAD, answers, in_two_turns};
 use stored::{WORD, copy_words, word, written_words};
 
 // Room for the words of a tree and for its index words.
@@ -21,31 +21,27 @@ fn same_outputs(case: &[u8], at: usize, words: &[u32], indices: &[u32]) -> bool
     requires { at ≤ 8192 }
 {
     let count = word(case, 11) as usize;
-    if count > WORD_SPACE {
-        return false;
-    }
-    if written_words(case, at, words, count) {
-        return written_words(case, at + count, indices, word(case, 12) as usize);
-    }
-    false
+    count <= WORD_SPACE
+        && written_words(case, at, words, WORD, count)
+        && written_words(case, at + count, indices, WORD, word(case, 12) as usize)
 }
 
 // Whether a join ends as stored, with so much lent beyond what the case says.
 fn ends(
     case: &[u8],
     at: usize,
-    spare: usize,
+    spare: u32,
     first: &[u32],
     first_indices: &[u32],
     second: &[u32],
     second_indices: &[u32],
 ) -> bool
-    requires { (at ≤ 8192) × (spare ≤ 5) }
+    requires { at ≤ 8192 }
 {
     let mut marks = [WORD; MARK_SPACE];
     let mut words = [WORD; WORD_SPACE];
     let mut indices = [WORD; INDEX_SPACE];
-    if answers(
+    answers(
         case,
         spare,
         first,
@@ -55,41 +51,10 @@ fn ends(
         &mut marks,
         &mut words,
         &mut indices,
-    ) {
-        return same_outputs(case, at, &words, &indices);
-    }
-    false
+    ) && same_outputs(case, at, &words, &indices)
 }
 
-// The same in two turns, the second with more to spare.
-fn compared(
-    case: &[u8],
-    at: usize,
-    first: &[u32],
-    first_indices: &[u32],
-    second: &[u32],
-    second_indices: &[u32],
-) -> bool
-    requires { at ≤ 8192 }
-{
-    if !ends(case, at, 0, first, first_indices, second, second_indices) {
-        return false;
-    }
-    if is_short(case) {
-        return true;
-    }
-    ends(
-        case,
-        at,
-        SPARE,
-        first,
-        first_indices,
-        second,
-        second_indices,
-    )
-}
-
-// The same, where the words and index words of a case go to these.
+// The same in two turns, where the words and index words of a case go to these.
 fn copied(
     case: &[u8],
     first: &mut [u32],
@@ -97,16 +62,10 @@ fn copied(
     second: &mut [u32],
     second_indices: &mut [u32],
 ) -> bool {
-    if first.len() > MOST_WORDS {
+    if first.len() > MOST_WORDS || second.len() > MOST_WORDS {
         return false;
     }
-    if first_indices.len() > MOST_LEAVES {
-        return false;
-    }
-    if second.len() > MOST_WORDS {
-        return false;
-    }
-    if second_indices.len() > MOST_LEAVES {
+    if first_indices.len() > MOST_LEAVES || second_indices.len() > MOST_LEAVES {
         return false;
     }
     let leaves = HEAD + first.len();
@@ -120,7 +79,17 @@ fn copied(
     copy_words(case, leaves, first_indices);
     copy_words(case, from, second);
     copy_words(case, last_leaves, second_indices);
-    compared(case, at, first, first_indices, second, second_indices)
+    in_two_turns(case, |spare| {
+        ends(
+            case,
+            at,
+            spare,
+            first,
+            first_indices,
+            second,
+            second_indices,
+        )
+    })
 }
 
 // What a call starts with; words and index words of the first tree, of the second; words and index words written.
@@ -129,16 +98,10 @@ pub fn joined(case: &[u8]) -> bool {
     let first_leaves = word(case, 1) as usize;
     let second_words = word(case, 2) as usize;
     let second_leaves = word(case, 3) as usize;
-    if first_words > MOST_WORDS {
+    if first_words > MOST_WORDS || second_words > MOST_WORDS {
         return false;
     }
-    if first_leaves > MOST_LEAVES {
-        return false;
-    }
-    if second_words > MOST_WORDS {
-        return false;
-    }
-    if second_leaves > MOST_LEAVES {
+    if first_leaves > MOST_LEAVES || second_leaves > MOST_LEAVES {
         return false;
     }
     let mut first = [0u32; MOST_WORDS];

@@ -1,7 +1,7 @@
 // Trees that are made by a rule and not stored: a row of boxes along x with whole numbers as ends, which reach from a middle on the y and z axes.
 ghost use Rattle.std.specs.Prelude.{◌<◌, ◌≤◌};
 
-use stored::pattern;
+use stored::OneWord;
 
 // The middle on y and z: a ray along x there meets every box.
 const MIDDLE: u32 = 4096;
@@ -12,7 +12,7 @@ const MIDDLE: u32 = 4096;
 fn mixed(seed: u32, k: u32) -> u32
     ensures { result < 1048576 }
 {
-    let a = (k as u64 * 2654435761 + seed as u64) % 0x1_0000_0000;
+    let a = (u64::from(k) * 2654435761 + u64::from(seed)) % 0x1_0000_0000;
     let b = (a / 32768 + a * 2246822519) % 0x1_0000_0000;
     (b / 4096) as u32
 }
@@ -42,15 +42,12 @@ fn ends_of(seed: u32, reach: u32, k: u32) -> [u32; 6]
 
 // Word i, and 0 past the end.
 fn at(words: &[u32], i: usize) -> u32 {
-    if i < words.len() {
-        return words[i];
-    }
-    0
+    words.get(i).copied().unwrap_or(0)
 }
 
 fn put(words: &mut [u32], i: usize, x: u32) {
-    if i < words.len() {
-        words[i] = x;
+    if let Some(word) = words.get_mut(i) {
+        *word = x;
     }
 }
 
@@ -58,10 +55,8 @@ fn put(words: &mut [u32], i: usize, x: u32) {
 fn put_ends(words: &mut [u32], to: usize, ends: [u32; 6])
     requires { to ≤ 1048576 }
 {
-    let mut i: usize = 0;
-    while i < 6 {
+    for i in 0..6 {
         put(words, to + i, ends[i]);
-        i += 1;
     }
 }
 
@@ -78,29 +73,23 @@ fn put_node(words: &mut [u32], v: usize, ends: [u32; 6], link: u32)
 fn put_leaves(words: &mut [u32], n: u32, seed: u32, reach: u32)
     requires { (n ≤ 65536) × (0 < reach) × (reach < 4096) }
 {
-    let mut k: u32 = 0;
-    while k < n {
+    for k in 0..n {
         let v = (n - 1 + k) as usize;
         let link = words::KIND + (n - 1 - k);
         put_node(words, v, ends_of(seed, reach, k), link);
-        k += 1;
     }
-}
-
-fn lesser(a: u32, b: u32) -> u32 {
-    if a < b { a } else { b }
 }
 
 // The ends of two nodes together, whose words start at a and b.
 fn union(words: &[u32], a: usize, b: usize) -> [u32; 6]
     requires { (a ≤ 1048576) × (b ≤ 1048576) }
 {
-    let x = lesser(at(words, a), at(words, b));
-    let y = lesser(at(words, a + 1), at(words, b + 1));
-    let z = lesser(at(words, a + 2), at(words, b + 2));
-    let high_x = words::greater(at(words, a + 3), at(words, b + 3));
-    let high_y = words::greater(at(words, a + 4), at(words, b + 4));
-    let high_z = words::greater(at(words, a + 5), at(words, b + 5));
+    let x = at(words, a).min(at(words, b));
+    let y = at(words, a + 1).min(at(words, b + 1));
+    let z = at(words, a + 2).min(at(words, b + 2));
+    let high_x = at(words, a + 3).max(at(words, b + 3));
+    let high_y = at(words, a + 4).max(at(words, b + 4));
+    let high_z = at(words, a + 5).max(at(words, b + 5));
     [x, y, z, high_x, high_y, high_z]
 }
 
@@ -108,9 +97,7 @@ fn union(words: &[u32], a: usize, b: usize) -> [u32; 6]
 fn put_inners(words: &mut [u32], count: usize)
     requires { count ≤ 65536 }
 {
-    let mut v = count;
-    while v > 0 {
-        v -= 1;
+    for v in (0..count).rev() {
         let first = 2 * v + 1;
         let ends = union(words, first * 7, first * 7 + 7);
         put_node(words, v, ends, first as u32);
@@ -128,10 +115,8 @@ fn real(x: u32) -> f32 {
 fn turn_ends(words: &mut [u32], v: usize)
     requires { v ≤ 1048576 }
 {
-    let mut i: usize = 0;
-    while i < 6 {
-        put(words, v + i, pattern(real(at(words, v + i))));
-        i += 1;
+    for i in v..v + 6 {
+        put(words, i, real(at(words, i)).to_word());
     }
 }
 
@@ -139,10 +124,8 @@ fn turn_ends(words: &mut [u32], v: usize)
 fn turn_all(words: &mut [u32], count: usize)
     requires { count ≤ 131072 }
 {
-    let mut v: usize = 0;
-    while v < count {
+    for v in 0..count {
         turn_ends(words, 7 * v);
-        v += 1;
     }
 }
 
@@ -150,10 +133,8 @@ fn turn_all(words: &mut [u32], count: usize)
 fn put_panes(panes: &mut [f32], words: &[u32], from: usize)
     requires { from ≤ 1048576 }
 {
-    let mut i: usize = 0;
-    while i < panes.len() {
+    for i in 0..panes.len() {
         panes[i] = real(at(words, from + i / 6 * 7 + i % 6));
-        i += 1;
     }
 }
 
@@ -164,10 +145,8 @@ fn put_indices(indices: &mut [u32], n: u32)
     if indices.len() > 65536 {
         return;
     }
-    let mut p: usize = 0;
-    while p < indices.len() {
+    for p in 0..indices.len() {
         indices[p] = 7 * p as u32 % n;
-        p += 1;
     }
 }
 

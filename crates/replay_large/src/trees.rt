@@ -1,12 +1,10 @@
 // The stored cases of large trees.
-ghost use Rattle.std.specs.Prelude.{◌≡◌, ◌+◌, ◌*◌, ◌<◌, ◌≤◌, length};
+ghost use Rattle.std.specs.Prelude.{◌<◌, ◌≤◌};
 
-use crate::digests;
 use crate::made::put_tree;
 use crate::rays::same_ray;
-use bvh2_to_cwbvh::{Conversion, bvh2_to_cwbvh};
-use stored::{digest_of, word};
-use validate::Validity;
+use bvh2_to_cwbvh::{Converted, bvh2_to_cwbvh};
+use stored::{digest_of, digest_of_bytes, filled_with, word};
 
 // The most leaves, and for these the words of a tree, the bytes of a record, the floats of panes, and the working words of a check.
 const LEAVES: usize = 20000;
@@ -29,30 +27,16 @@ const RAY: usize = 22;
 // Whether a record is sound by the check, with this level.
 fn sound(record: &[u8], n: usize, level: u32) -> bool {
     let mut work = [0u32; CHECK_WORDS];
-    let v = validate::validate(record, n, &mut work);
-    match v {
-        Validity::Sound(deepest) => deepest == level,
-        _ => false,
-    }
+    validate::validate(record, n, &mut work) == Ok(Some(level))
 }
 
 // Whether all rays of a case are answered as stored.
 fn same_rays(case: &[u8], record: &[u8], list: &[u32], panes: &[f32]) -> bool {
-    let rays = word(case, 11);
-    let words = case.len() / 4;
-    let mut at = HEAD;
-    let mut i: u32 = 0;
-    while i < rays {
-        if at >= words {
-            return false;
-        }
-        if !same_ray(&case[at * 4..], record, list, panes) {
-            return false;
-        }
-        at += RAY;
-        i += 1;
-    }
-    at == words
+    let rays = word(case, 11) as usize;
+    case.len() / 4 == HEAD + rays * RAY
+        && case[HEAD * 4..]
+            .chunks_exact(RAY * 4)
+            .all(|ray| same_ray(ray, record, list, panes))
 }
 
 // Whether the first `nodes` nodes of what was lent for a record are as stored, and all that is asked of them.
@@ -62,23 +46,10 @@ fn same_record(case: &[u8], space: &[u8], list: &[u32], panes: &[f32]) -> bool {
         return false;
     }
     let record = &space[..bytes];
-    if digests::of_bytes(record) != word(case, 9) {
-        return false;
-    }
-    if digest_of(list) != word(case, 10) {
-        return false;
-    }
-    if !sound(record, list.len(), word(case, 6)) {
-        return false;
-    }
-    same_rays(case, record, list, panes)
-}
-
-fn is_converted(answer: Conversion, nodes: u32, deepest: u32) -> bool {
-    match answer {
-        Conversion::Converted(m, level) => m == nodes && level == deepest,
-        Conversion::Refused(_) => false,
-    }
+    digest_of_bytes(record) == word(case, 9)
+        && digest_of(list) == word(case, 10)
+        && sound(record, list.len(), word(case, 6))
+        && same_rays(case, record, list, panes)
 }
 
 // Whether a tree is converted as stored, with its tables, and its record is as stored.
@@ -97,43 +68,15 @@ fn converts(
     let answer = bvh2_to_cwbvh(
         words, indices, limit, ordered, decisions, costs, record, list,
     );
-    if !is_converted(answer, word(case, 5), word(case, 6)) {
-        return false;
-    }
-    if digest_of(decisions) != word(case, 7) {
-        return false;
-    }
-    if digests::of_floats(costs) != word(case, 8) {
-        return false;
-    }
-    same_record(case, record, list, panes)
+    let nodes = word(case, 5);
+    let level = word(case, 6);
+    answer == Ok(Converted { nodes, level })
+        && digest_of(decisions) == word(case, 7)
+        && digest_of(costs) == word(case, 8)
+        && same_record(case, record, list, panes)
 }
 
 // ---- room for it
-
-fn zero_words() -> [u32; WORDS]
-    ensures { 279993 ≡ length result }
-{
-    [0u32; WORDS]
-}
-
-fn zero_costs() -> [f32; WORDS]
-    ensures { 279993 ≡ length result }
-{
-    [0.0f32; WORDS]
-}
-
-fn zero_bytes() -> [u8; BYTES]
-    ensures { 1599920 ≡ length result }
-{
-    [0u8; BYTES]
-}
-
-fn zero_corners() -> [f32; CORNERS]
-    ensures { 120000 ≡ length result }
-{
-    [0.0f32; CORNERS]
-}
 
 // The record bytes that n leaves need.
 fn record_size(n: usize) -> usize
@@ -141,9 +84,10 @@ fn record_size(n: usize) -> usize
     ensures { result ≤ 1599920 }
 {
     if n == 1 {
-        return node::BYTES;
+        node::BYTES
+    } else {
+        node::BYTES * (n - 1)
     }
-    node::BYTES * (n - 1)
 }
 
 // The same for a tree that is made in these words.
@@ -151,27 +95,18 @@ fn same_made(case: &[u8], words: &mut [u32], indices: &mut [u32], panes: &mut [f
     let n = indices.len();
     let seed = word(case, 1);
     let reach = word(case, 2);
-    if n == 0 {
+    if n == 0 || n > LEAVES || words.len() > WORDS {
         return false;
     }
-    if n > LEAVES {
-        return false;
-    }
-    if reach == 0 {
-        return false;
-    }
-    if reach > 4095 {
-        return false;
-    }
-    if words.len() > WORDS {
+    if reach == 0 || reach > 4095 {
         return false;
     }
     put_tree(words, indices, panes, n as u32, seed, reach);
     let size = words.len();
     let bytes = record_size(n);
-    let mut decisions = zero_words();
-    let mut costs = zero_costs();
-    let mut record = zero_bytes();
+    let mut decisions: [u32; WORDS] = filled_with(0);
+    let mut costs: [f32; WORDS] = filled_with(0.0);
+    let mut record: [u8; BYTES] = filled_with(0);
     let mut list = [0u32; LEAVES];
     converts(
         case,
@@ -188,17 +123,14 @@ fn same_made(case: &[u8], words: &mut [u32], indices: &mut [u32], panes: &mut [f
 // Leaves, seed, reach, limit, order; nodes, deepest level; digests of decision words, costs, record, list; rays, and these.
 fn large(case: &[u8]) -> bool {
     let n = word(case, 0) as usize;
-    if n == 0 {
-        return false;
-    }
-    if n > LEAVES {
+    if n == 0 || n > LEAVES {
         return false;
     }
     let size = (2 * n - 1) * 7;
     let corners = 6 * n;
-    let mut words = zero_words();
+    let mut words: [u32; WORDS] = filled_with(0);
     let mut indices = [0u32; LEAVES];
-    let mut panes = zero_corners();
+    let mut panes: [f32; CORNERS] = filled_with(0.0);
     same_made(
         case,
         &mut words[..size],
@@ -207,7 +139,7 @@ fn large(case: &[u8]) -> bool {
     )
 }
 
-// Whether the library agrees with a case.
+// Whether the library agrees with a case, whose kind the file tells by a number.
 pub fn agrees(kind: u32, case: &[u8]) -> bool {
     match kind {
         42 => large(case),

@@ -3,8 +3,8 @@ ghost use Rattle.std.specs.Prelude.{◌≤◌};
 
 use crate::lent::BEFORE;
 use crate::{lent, single};
-use loss::Totals;
-use stored::{copy_bytes, copy_reals, copy_words, wide, word};
+use causes::Refusal;
+use stored::{copy_bytes, copy_words, wide, word};
 
 // Room for the bytes of a record, its index words, its losses and the floats of its rays.
 const MOST_BYTES: usize = 49152;
@@ -22,10 +22,7 @@ const PANE_SPACE: usize = 80;
 
 // Whether a case has this number, and this count of node tests.
 fn same_head(case: &[u8], number: u32, tests: u64) -> bool {
-    if word(case, 7) != number {
-        return false;
-    }
-    wide(case, 8) == tests
+    word(case, 7) == number && wide(case, 8) == tests
 }
 
 // Whether this is the stored answer of a report, and leaves in the words, those past the lent ones too, what it should: the totals of so many rays
@@ -33,7 +30,7 @@ fn same_head(case: &[u8], number: u32, tests: u64) -> bool {
 fn same_answer(
     case: &[u8],
     at: usize,
-    answer: Totals,
+    answer: Result<u64, Refusal>,
     count: usize,
     panes: usize,
     ray_totals: &[u64],
@@ -43,23 +40,13 @@ fn same_answer(
     requires count_bound { count ≤ 65536 }
 {
     match answer {
-        Totals::Totalled(tests) => {
-            if !same_head(case, 0, tests) {
-                return false;
-            }
-            if !lent::written(case, at, ray_totals, count) {
-                return false;
-            }
-            lent::written(case, at + count * 2, pane_totals, panes)
+        Ok(tests) => {
+            same_head(case, 0, tests)
+                && lent::written(case, at, ray_totals, count)
+                && lent::written(case, at + count * 2, pane_totals, panes)
         }
-        Totals::Refused(number) => {
-            if number == 0 {
-                return false;
-            }
-            if !same_head(case, number, 0) {
-                return false;
-            }
-            lent::untouched(ray_totals, pane_totals)
+        Err(refusal) => {
+            same_head(case, u32::from(refusal), 0) && lent::untouched(ray_totals, pane_totals)
         }
     }
 }
@@ -80,14 +67,8 @@ fn answers(
     let panes = word(case, 2) as usize;
     let ray_room = word(case, 5) as usize;
     let pane_room = word(case, 6) as usize;
-    if ray_room > ray_space.len() {
-        return false;
-    }
-    if pane_room > pane_space.len() {
-        return false;
-    }
     let count = rays.len() / 8;
-    if count > 65536 {
+    if ray_room > ray_space.len() || pane_room > pane_space.len() || count > 65536 {
         return false;
     }
     let answer = loss::report(
@@ -109,9 +90,10 @@ fn totals_words(case: &[u8], count: usize, panes: usize) -> usize
     ensures { result ≤ 8590065662 }
 {
     if word(case, 7) > 0 {
-        return 0;
+        0
+    } else {
+        (count + panes) * 2
     }
-    (count + panes) * 2
 }
 
 // Whether the single call answers as stored for each of so many rays, whose floats stand from word `from` on and whose answers end the case.
@@ -130,27 +112,16 @@ fn same_losses(
 {
     let panes = word(case, 2) as usize;
     let words = case.len() / 4;
-    let mut i: usize = 0;
-    while i < count {
+    for i in 0..count {
         let ray = from + i * 8;
         let answer = at + i * 4;
-        if ray > words {
+        if ray > words || answer > words {
             return false;
         }
-        if answer > words {
+        let floats = &case[ray * 4..];
+        if !single::same_loss(floats, &case[answer * 4..], record, list, panes, losses) {
             return false;
         }
-        if !single::same_loss(
-            &case[ray * 4..],
-            &case[answer * 4..],
-            record,
-            list,
-            panes,
-            losses,
-        ) {
-            return false;
-        }
-        i += 1;
     }
     at + count * 4 == words
 }
@@ -197,13 +168,7 @@ fn copied(
     losses: &mut [u32],
     rays: &mut [f32],
 ) -> bool {
-    if record.len() > MOST_BYTES {
-        return false;
-    }
-    if list.len() > MOST_POSITIONS {
-        return false;
-    }
-    if losses.len() > MOST_LOSSES {
+    if record.len() > MOST_BYTES || list.len() > MOST_POSITIONS || losses.len() > MOST_LOSSES {
         return false;
     }
     let positions = 10 + (record.len() + 3) / 4;
@@ -212,7 +177,7 @@ fn copied(
     copy_bytes(case, 40, record);
     copy_words(case, positions, list);
     copy_words(case, taken, losses);
-    copy_reals(case, from, rays);
+    copy_words(case, from, rays);
     compared(case, from, record, list, losses, rays)
 }
 
@@ -223,16 +188,10 @@ pub fn reported(case: &[u8]) -> bool {
     let positions = word(case, 1) as usize;
     let taken = word(case, 3) as usize;
     let floats = word(case, 4) as usize;
-    if bytes > MOST_BYTES {
+    if bytes > MOST_BYTES || positions > MOST_POSITIONS {
         return false;
     }
-    if positions > MOST_POSITIONS {
-        return false;
-    }
-    if taken > MOST_LOSSES {
-        return false;
-    }
-    if floats > MOST_FLOATS {
+    if taken > MOST_LOSSES || floats > MOST_FLOATS {
         return false;
     }
     let mut record = [0u8; MOST_BYTES];

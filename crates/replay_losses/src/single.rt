@@ -1,19 +1,7 @@
 // The loss of one ray by itself.
-use loss::RayLoss;
-use stored::{real, vector, wide, word};
+use stored::{beam, wide, word};
 
-// Whether a stored answer is this number, sum and count of node tests.
-fn same_words(answer: &[u8], number: u32, sum: u64, tests: u32) -> bool {
-    if word(answer, 0) != number {
-        return false;
-    }
-    if wide(answer, 1) != sum {
-        return false;
-    }
-    word(answer, 3) == tests
-}
-
-// Whether the single call answers as stored for a ray's eight floats.
+// Whether the single call answers as stored for a ray's eight floats: the number of a refusal, the sum and the node tests, each 0 where there is none.
 pub fn same_loss(
     floats: &[u8],
     answer: &[u8],
@@ -22,23 +10,9 @@ pub fn same_loss(
     panes: usize,
     losses: &[u32],
 ) -> bool {
-    let found = loss::loss(
-        record,
-        list,
-        panes,
-        losses,
-        vector(floats, 0),
-        vector(floats, 3),
-        real(floats, 6),
-        real(floats, 7),
-    );
-    match found {
-        RayLoss::Summed(sum, tests) => same_words(answer, 0, sum, tests),
-        RayLoss::Refused(number) => {
-            if number == 0 {
-                return false;
-            }
-            same_words(answer, number, 0, 0)
-        }
-    }
+    let (number, sum, tests) = match loss::loss(record, list, panes, losses, beam(floats, 0)) {
+        Ok(found) => (0, found.loss, found.tests),
+        Err(refusal) => (u32::from(refusal), 0, 0),
+    };
+    word(answer, 0) == number && wide(answer, 1) == sum && word(answer, 3) == tests
 }

@@ -1,54 +1,27 @@
 // Any-hit on a stored question: a ray's eight floats, the number of positions, the words lent, and the answer.
 use crate::head::same_head;
-use any_hit::{AnyHit, AnyHitFound};
-use stored::{all_are, real, vector, word};
+use any_hit::{AnyHit, AnyHitError};
+use stored::{WORD, all_are, beam, word, written_words};
 
-// Room for the words lent with guard words past them, and what all of these hold before.
+// Room for the words lent with guard words past them.
 const SPACE: usize = 1600;
 
-const BEFORE: u32 = 0xdead_beef;
-
-// Whether these are the words that the stored answer found.
-fn same_found(asked: &[u8], found: &[u32]) -> bool {
-    let mut i = 0;
-    while i < found.len() {
-        if word(asked, 13 + i) != found[i] {
-            return false;
-        }
-        i += 1;
-    }
-    true
-}
-
-// Whether the first `count` words are those found, and the others as they were.
-fn same_list(asked: &[u8], space: &[u32], count: usize) -> bool {
-    if count > space.len() {
-        return false;
-    }
-    if same_found(asked, &space[..count]) {
-        return all_are(&space[count..], BEFORE);
-    }
-    false
-}
+// The number of a refusal for a short list, as it is stored: it is none of those that other calls give.
+const SHORT: u32 = 11;
 
 // Whether this is the stored answer, and leaves in the words, those past the lent ones too, what it should: all as it was beside a refusal.
-fn same_answer(asked: &[u8], found: AnyHitFound, space: &[u32]) -> bool {
-    let answer = found.answer;
-    match answer {
-        AnyHit::Listed(count) => {
-            if same_head(asked, 10, 0, found.tests, count) {
-                return same_list(asked, space, count as usize);
-            }
-            false
+fn same_answer(asked: &[u8], found: Result<AnyHit, AnyHitError>, space: &[u32]) -> bool {
+    match found {
+        Ok(found) => {
+            same_head(asked, 10, 0, found.tests, found.count)
+                && written_words(asked, 13, space, WORD, found.count as usize)
         }
-        AnyHit::Short(needed) => {
-            if same_head(asked, 10, 11, found.tests, 1) {
-                return word(asked, 13) == needed && all_are(space, BEFORE);
-            }
-            false
+        Err(AnyHitError::Short(needed)) => {
+            same_head(asked, 10, SHORT, 0, 1) && word(asked, 13) == needed && all_are(space, WORD)
         }
-        AnyHit::Refused(number) => same_head(asked, 10, number, found.tests, 0)
-            && all_are(space, BEFORE),
+        Err(AnyHitError::Refused(refusal)) => {
+            same_head(asked, 10, u32::from(refusal), 0, 0) && all_are(space, WORD)
+        }
     }
 }
 
@@ -59,20 +32,12 @@ fn answers(asked: &[u8], record: &[u8], space: &mut [u32]) -> bool {
     if lent > space.len() {
         return false;
     }
-    let found = any_hit::any_hit(
-        record,
-        n,
-        vector(asked, 0),
-        vector(asked, 3),
-        real(asked, 6),
-        real(asked, 7),
-        &mut space[..lent],
-    );
+    let found = any_hit::any_hit(record, n, beam(asked, 0), &mut space[..lent]);
     same_answer(asked, found, space)
 }
 
 // Whether any-hit answers as stored.
 pub fn same_any_hit(asked: &[u8], record: &[u8]) -> bool {
-    let mut space = [BEFORE; SPACE];
+    let mut space = [WORD; SPACE];
     answers(asked, record, &mut space)
 }

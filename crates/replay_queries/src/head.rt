@@ -7,11 +7,5 @@ use stored::word;
 pub fn same_head(asked: &[u8], at: usize, number: u32, tests: u32, count: u32) -> bool
     requires { at ≤ 65536 }
 {
-    if word(asked, at) != number {
-        return false;
-    }
-    if word(asked, at + 1) != tests {
-        return false;
-    }
-    word(asked, at + 2) == count
+    word(asked, at) == number && word(asked, at + 1) == tests && word(asked, at + 2) == count
 }

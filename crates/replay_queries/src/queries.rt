@@ -1,12 +1,10 @@
 // The stored cases of queries: a record with index words and panes, and questions with their answers.
-ghost use Rattle.std.specs.Prelude.{◌≡◌, ◌+◌, ◌≤◌, length};
+ghost use Rattle.std.specs.Prelude.{◌+◌, ◌≤◌, IfSome};
 
 use crate::{any, nearest};
-use stored::{copy_bytes, copy_reals, copy_words, word, zero_record};
+use stored::{RECORD_BYTES, copy_bytes, copy_words, filled_with, word};
 
-// Room for the bytes of a record, for its index words, and for the floats of its panes: of the first two more than queries accept.
-const MOST_BYTES: usize = 5242959;
-
+// Room for index words, more than queries accept, and for the floats of panes.
 const MOST_POSITIONS: usize = 65537;
 
 const MOST_CORNERS: usize = 512;
@@ -22,23 +20,17 @@ fn past(asked: &[u8], at: usize) -> usize
     at + 1 + word(asked, at) as usize
 }
 
-// The words of a question, if any-hit, closest and miss answer it as stored; else 0.
-fn question_words(asked: &[u8], record: &[u8], list: &[u32], panes: &[f32]) -> usize
-    ensures { result ≤ 1099511627776 }
+// The words of a question, if any-hit, closest and miss answer it as stored.
+fn question_words(asked: &[u8], record: &[u8], list: &[u32], panes: &[f32]) -> Option<usize>
+    ensures { IfSome result (λ long. long ≤ 1099511627776) }
 {
     let closest = past(asked, 12);
     let miss = past(asked, closest + 2);
     let end = past(asked, miss + 2);
-    if !any::same_any_hit(asked, record) {
-        return 0;
-    }
-    if !nearest::same_closest(asked, closest, record, list, panes) {
-        return 0;
-    }
-    if nearest::same_miss(asked, miss, record, list, panes) {
-        return end;
-    }
-    0
+    let same = any::same_any_hit(asked, record)
+        && nearest::same_closest(asked, closest, record, list, panes)
+        && nearest::same_miss(asked, miss, record, list, panes);
+    if same { Some(end) } else { None }
 }
 
 // Whether all of so many questions are answered as stored from word `from` on, where the case ends with them.
@@ -52,26 +44,16 @@ fn same_answers(
 ) -> bool {
     let words = case.len() / 4;
     let mut at = from;
-    let mut i: u32 = 0;
-    while i < questions {
+    for _ in 0..questions {
         if at >= words {
             return false;
         }
-        let long = question_words(&case[at * 4..], record, list, panes);
-        if long == 0 {
+        let Some(long) = question_words(&case[at * 4..], record, list, panes) else {
             return false;
-        }
+        };
         at += long;
-        i += 1;
     }
     at == words
-}
-
-// Zeros for index words.
-fn zero_words() -> [u32; MOST_POSITIONS]
-    ensures { 65537 ≡ length result }
-{
-    [0u32; MOST_POSITIONS]
 }
 
 // Whether the questions of a case are answered as stored, where its stored bytes, index words and floats of panes go to the front of these zeros.
@@ -84,18 +66,12 @@ fn answered(case: &[u8], record: &mut [u8], list: &mut [u32], panes: &mut [f32])
     if end > MOST_WORDS {
         return false;
     }
-    if bytes > record.len() {
-        return false;
-    }
-    if positions > list.len() {
-        return false;
-    }
-    if corners > panes.len() {
+    if bytes > record.len() || positions > list.len() || corners > panes.len() {
         return false;
     }
     copy_bytes(case, 28, &mut record[..bytes]);
     copy_words(case, from, &mut list[..positions]);
-    copy_reals(case, from + positions, &mut panes[..corners]);
+    copy_words(case, from + positions, &mut panes[..corners]);
     same_answers(case, end, word(case, 3), record, list, panes)
 }
 
@@ -104,17 +80,11 @@ fn queried(case: &[u8]) -> bool {
     let bytes = word(case, 0) as usize;
     let positions = word(case, 1) as usize;
     let corners = word(case, 2) as usize;
-    if bytes > MOST_BYTES {
+    if bytes > RECORD_BYTES || positions > MOST_POSITIONS || corners > MOST_CORNERS {
         return false;
     }
-    if positions > MOST_POSITIONS {
-        return false;
-    }
-    if corners > MOST_CORNERS {
-        return false;
-    }
-    let mut record = zero_record();
-    let mut list = zero_words();
+    let mut record: [u8; RECORD_BYTES] = filled_with(0);
+    let mut list: [u32; MOST_POSITIONS] = filled_with(0);
     let mut panes = [0.0f32; MOST_CORNERS];
     answered(
         case,
@@ -124,7 +94,7 @@ fn queried(case: &[u8]) -> bool {
     )
 }
 
-// Whether the library agrees with a case.
+// Whether the library agrees with a case, whose kind the file tells by a number.
 pub fn agrees(kind: u32, case: &[u8]) -> bool {
     match kind {
         32 | 33 | 34 | 35 => queried(case),

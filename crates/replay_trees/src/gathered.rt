@@ -3,61 +3,40 @@ ghost use Rattle.std.specs.Prelude.{◌<◌, ◌≤◌};
 ghost use Rattle.bvh2.specs.Causes.{Accepted};
 ghost use Rattle.children.specs.Tabled.{Tabled};
 
-use crate::trees::{MOST_WORDS, first_cause, node_count};
+use crate::trees::{MOST_WORDS, is_accepted, node_count};
 use aabb::Aabb;
 use stored::{copy_words, word};
 
-// A node number as a byte, 255 for none.
-fn code(number: u32) -> u32 {
-    if number == 0xffff_ffff {
-        return 255;
+// A node number as the byte that stands for it in a case, 255 for none; a greater number has no byte.
+fn code(number: u32) -> Option<u8> {
+    match number {
+        0xffff_ffff => Some(255),
+        0..255 => Some(number as u8),
+        _ => None,
     }
-    if number < 255 {
-        return number;
-    }
-    256
-}
-
-fn wide(byte: u8) -> u32 {
-    byte as u32
 }
 
 // Whether the eight bytes from word `at` on are these numbers.
 fn same_numbers(case: &[u8], at: usize, numbers: [u32; 8]) -> bool
     requires { at ≤ 1000002 }
 {
-    if at * 4 + 8 > case.len() {
-        return false;
+    match case.get(at * 4..at * 4 + 8) {
+        Some(bytes) => numbers
+            .iter()
+            .zip(bytes)
+            .all(|(number, byte)| code(*number) == Some(*byte)),
+        None => false,
     }
-    let mut k = 0usize;
-    while k < 8 {
-        if code(numbers[k]) != wide(case[at * 4 + k]) {
-            return false;
-        }
-        k += 1;
-    }
-    true
 }
 
 // The box of a node, or the other one where there is no such node.
 fn box_or(words: &[u32], number: u32, other: Aabb) -> Aabb {
     let v = number as usize;
     if v < words.len() / 7 {
-        return bvh2::node_box(words, v);
+        bvh2::node_box(words, v)
+    } else {
+        other
     }
-    other
-}
-
-// The boxes of the nodes found, and the box of their parent where there is none.
-fn child_boxes(words: &[u32], parent: Aabb, found: [u32; 8]) -> [Aabb; 8] {
-    let mut boxes = [parent; 8];
-    let mut k = 0usize;
-    while k < 8 {
-        let b = box_or(words, found[k], parent);
-        boxes[k] = b;
-        k += 1;
-    }
-    boxes
 }
 
 // Whether the children found stand, ordered, in the slots that are stored from word `at` on.
@@ -71,7 +50,7 @@ fn same_slots(
 ) -> bool
     requires { at ≤ 1000002 }
 {
-    let boxes = child_boxes(words, parent, found);
+    let boxes = found.map(|number| box_or(words, number, parent));
     same_numbers(case, at, order::order_children(parent, boxes, found, count))
 }
 
@@ -88,14 +67,10 @@ fn same_children(
 {
     let mut found = [0xffff_ffffu32; 8];
     let count = children::get_children(words, decisions, v, depth, &mut found);
-    if count != word(case, at) as usize {
-        return false;
-    }
-    if same_numbers(case, at + 1, found) {
-        let parent = bvh2::node_box(words, v);
-        return same_slots(case, at + 3, words, parent, found, count);
-    }
-    false
+    let parent = bvh2::node_box(words, v);
+    count == word(case, at) as usize
+        && same_numbers(case, at + 1, found)
+        && same_slots(case, at + 3, words, parent, found, count)
 }
 
 // The same for node v and every node below it, five words for each from word `from` on.
@@ -117,10 +92,8 @@ fn same_below(
         return true;
     }
     let first = words::below_kind(link) as usize;
-    if same_below(case, from, words, decisions, first, depth - 1) {
-        return same_below(case, from, words, decisions, first + 1, depth - 1);
-    }
-    false
+    same_below(case, from, words, decisions, first, depth - 1)
+        && same_below(case, from, words, decisions, first + 1, depth - 1)
 }
 
 // The same for every node of a tree, by its tables for a leaf limit.
@@ -140,14 +113,10 @@ fn same_tree(case: &[u8], from: usize, words: &[u32], n: usize, limit: u32) -> b
 fn same_limits(case: &[u8], from: usize, size: usize, words: &[u32], n: usize) -> bool
     requires { (from ≤ 2048) × (size ≤ 2048) × (0 < n) × Accepted words.now n }
 {
-    let mut at = from;
-    let mut limit: u32 = 0;
-    while limit < 4 {
-        if !same_tree(case, at, words, n, limit) {
+    for limit in 0..4 {
+        if !same_tree(case, from + limit as usize * size, words, n, limit) {
             return false;
         }
-        at += size;
-        limit += 1;
     }
     true
 }
@@ -155,10 +124,7 @@ fn same_limits(case: &[u8], from: usize, size: usize, words: &[u32], n: usize) -
 // Leaves; node words; for each limit and each node the children.
 pub fn children(case: &[u8]) -> bool {
     let n = word(case, 0) as usize;
-    if n == 0 {
-        return false;
-    }
-    if n > 128 {
+    if n == 0 || n > 128 {
         return false;
     }
     let nodes = node_count(n);
@@ -168,8 +134,5 @@ pub fn children(case: &[u8]) -> bool {
     let mut space = [0u32; MOST_WORDS];
     let words: &mut [u32] = &mut space[..nodes * 7];
     copy_words(case, 1, words);
-    if first_cause(words, n) != 0 {
-        return false;
-    }
-    same_limits(case, 1 + nodes * 7, nodes * 5, words, n)
+    is_accepted(words, n) && same_limits(case, 1 + nodes * 7, nodes * 5, words, n)
 }

@@ -12,7 +12,7 @@ use Rattle.lists.specs.Splice.{splice}
 use Rattle.lists.specs.Sums.{sum, sum_over}
 use Rattle.float.specs.Compare.{min_of, max_of, unsigned_zero, is_minus_zero, in_bounds}
 use Rattle.float.specs.PowerOfTwo.{scale_of}
-use Rattle.ray.specs.Ray.{safe_inverse, octant_of, unsigned_vec, plain_vec, ray_of, counts, bounded_vec, accepted_ray}
+use Rattle.ray.specs.Ray.{safe_inverse, octant_of, unsigned_vec, plain_vec, ray_of, bounded_vec, accepted_ray}
 use Rattle.packed.specs.Packed.{vec_in, ray_in, rays_accepted}
 use Rattle.causes.specs.Causes.{first_cause}
 use Rattle.causes.specs.Sizes.{record_conditions}
@@ -23,7 +23,7 @@ use Rattle.node_slot.specs.Slot.{near_limit, adjusted_inverse, adjusted_origin, 
 use Rattle.node_slot.specs.Mask.{hit_bits, slot_hit, hit_mask}
 use Rattle.walk.specs.WordStep.{step_words, advance_words, report_words, visit_words, pop_words}
 use Rattle.walk.specs.WordQueries.{query_words}
-use Rattle.walk_record.specs.Walk.{step_at, query_at, any_hit_at}
+use Rattle.walk_record.specs.Walk.{query_at, any_hit_at}
 use Rattle.query.specs.Entry.{entry_conditions}
 use Rattle.query.specs.Result.{walked, entered}
 use Rattle.loss.specs.Loss.{losses_fit, all_there, loss_walked, loss_of, is_summed, walks_by, report_conditions, walk_conditions, totals_in}

@@ -1,6 +1,6 @@
 -- The samples of two trees joined (02, [4]). `proofs/Joins.antt` computes them.
 use Rattle.std.specs.Prelude.{List, [], ◌∷◌, ◌++◌, ◌≡◌, ℕ, replicate, take}
-use Rattle.join.specs.Join.{JoinCall, joined, refused_join, JoinEnd, join_of}
+use Rattle.join.specs.Join.{joined, refused_join, JoinEnd, join_of}
 use Rattle.samples.specs.TreeT.{words_t, indices_t}
 
 -- what the slices hold before

@@ -7,11 +7,11 @@ use lib.ListN.{length, take, drop, get_or, length-append, length-take}
 use Rattle.text.specs.Text.{chars, decimal}
 use Rattle.text.proofs.Decimal.{decimal_most, decimal-word}
 use Rattle.show.specs.Show.{node_line, node_lines, spaced, indices_line, record_text, numbered_line}
-use Rattle.show.proofs.Lines.{length-node, length_indices}
+use Rattle.show.proofs.Lines.{length_node, length_indices}
 
 -- a line has at most five digits of an index, and 160 of 80 bytes
 node_most : (i : ℕ) (bytes : List ℕ) → i < 10 ^ 5 → length (node_line i (take 80 bytes)) ≤ 167
-node_most i bytes h = omega (arith, length-node i (take 80 bytes), decimal_most 4 i h, length-take 80 bytes)
+node_most i bytes h = omega (arith, length_node i (take 80 bytes), decimal_most 4 i h, length-take 80 bytes)
 
 pub lines_most : (bytes : List ℕ) (k i : ℕ) → i + k ≤ 10 ^ 5 → length (node_lines bytes i k) ≤ 167 * k
 unfolding node_lines
@@ -36,11 +36,6 @@ record_most bytes m l h w =
     let lines = lines_most bytes m 0 (omega arith) in
     let list = spaced_most l w in
     omega (arith, length-append (node_lines bytes 0 m) (indices_line l), length_indices l)
-
--- the greatest that `showrecord` prints: 255 nodes and 256 indices
-pub record_small : (bytes : List ℕ) (m : ℕ) (l : List ℕ) → m ≤ 255 → length l ≤ 256 → ((k : ℕ) → get_or l k 0 < 2 ^ 32)
-    → length (record_text bytes m l) ≤ 64_000
-record_small bytes m l h g w = omega (arith, record_most bytes m l (omega arith) w)
 
 pub length_numbered : (word : List ℕ) (k : ℕ) → length (numbered_line word k) ≡ length word + (length (decimal k) + 1)
 unfolding numbered_line chars

@@ -10,9 +10,9 @@ use Rattle.text.proofs.Hex.{length-hex}
 use Rattle.text.proofs.Put.{drop_next}
 use Rattle.show.specs.Show.{node_line, node_lines, spaced, indices_line}
 
-pub length-node : (i : ℕ) (node : List ℕ) → length (node_line i node) ≡ length (decimal i) + (2 * length node + 2)
+pub length_node : (i : ℕ) (node : List ℕ) → length (node_line i node) ≡ length (decimal i) + (2 * length node + 2)
 unfolding node_line chars
-length-node i node = simp (length-append, length-hex) (omega arith)
+length_node i node = simp (length-append, length-hex) (omega arith)
 
 pub length_indices : (l : List ℕ) → length (indices_line l) ≡ length (spaced l) + 8
 unfolding indices_line chars

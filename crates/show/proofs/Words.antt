@@ -1,9 +1,9 @@
 -- Laws of the words read.
-use mathlib.Core.Path.{◌≡◌, refl, ap, ◌∙◌}
+use mathlib.Core.Path.{◌≡◌, refl, ap}
 use mathlib.Core.List.{List, [], ◌∷◌}
 use Prim.Native.Nat.{ℕ, zero, suc, ◌+◌, ◌-◌, ◌*◌, ◌≤◌, ◌<◌}
 use native.Mathlib.Omega.{arith}
-use lib.ListN.{length, get_or}
+use lib.ListN.{length}
 use Rattle.words.specs.Le.{le_at}
 use Rattle.show.specs.Input.{input_words}
 
@@ -11,13 +11,6 @@ pub length_words : (input : List ℕ) (at n : ℕ) → length (input_words input
 unfolding input_words
 length_words input at zero = refl
 length_words input at (suc n) = ap suc (length_words input (at + 4) n)
-
--- word k lies 4 k bytes further on
-pub word_at : (input : List ℕ) (at n k : ℕ) → k < n → get_or (input_words input at n) k 0 ≡ le_at 4 input (at + 4 * k)
-unfolding input_words
-word_at input at zero k h = absurd (omega arith)
-word_at input at (suc n) zero h = ap (le_at 4 input) (omega arith)
-word_at input at (suc n) (suc k) h = word_at input (at + 4) n k (omega arith) ∙ ap (le_at 4 input) (omega arith)
 
 -- the next word first
 pub words_next : (input : List ℕ) (at n k : ℕ) → k < n

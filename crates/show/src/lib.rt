@@ -2,11 +2,14 @@
 #![tactic(auto)]
 
 ghost use Rattle.std.specs.Prelude.{◌≡◌, ◌++◌, ◌+◌, ◌*◌, ◌≤◌, length, take};
+ghost use Rattle.causes.specs.Refusal.{cause_number};
 ghost use Rattle.lists.specs.Splice.{splice};
 ghost use Rattle.text.specs.Put.{Put};
 ghost use Rattle.text.specs.Text.{chars, decimal};
 ghost use Rattle.show.specs.Input.{input_words};
 ghost use Rattle.show.specs.Show.{node_line, node_lines, spaced, indices_line, record_text, numbered_line, refusal_text, sound_text, unsound_text};
+
+use causes::Refusal;
 
 // Reads words from a place of the input on.
 pub fn read_words(input: &[u8], from: usize, count: usize, words: &mut [u32])
@@ -19,6 +22,7 @@ pub fn read_words(input: &[u8], from: usize, count: usize, words: &mut [u32])
 }
 
 // Writes the line of node i.
+#[tactic(auto, using(crate::proofs::Lines::length_node))]
 fn put_node(out: &mut [u8], at: usize, i: u32, node: &[u8]) -> usize
     requires { at + length (node_line i node.now) ≤ length out.old }
     ensures { Put out.old at (node_line i node.now) result out.new }
@@ -45,6 +49,7 @@ fn put_nodes(out: &mut [u8], at: usize, record: &[u8], m: usize) -> usize
 }
 
 // Writes an index behind a space.
+#[tactic(auto, unfolding(text::specs::Text::chars))]
 fn put_index(out: &mut [u8], at: usize, index: u32) -> usize
     requires { at + length (chars " " ++ decimal index) ≤ length out.old }
     ensures { Put out.old at (chars " " ++ decimal index) result out.new }
@@ -59,13 +64,14 @@ fn put_spaced(out: &mut [u8], at: usize, indices: &[u32]) -> usize
     ensures { Put out.old at (spaced indices.now) result out.new }
 {
     let mut p = at;
-    for i in 0..indices.len() {
-        p = put_index(out, p, indices[i]);
+    for &index in indices {
+        p = put_index(out, p, index);
     }
     p
 }
 
 // Writes the line of the index list.
+#[tactic(auto, using(crate::proofs::Lines::length_indices))]
 fn put_indices(out: &mut [u8], at: usize, indices: &[u32]) -> usize
     requires { at + length (indices_line indices.now) ≤ length out.old }
     ensures { Put out.old at (indices_line indices.now) result out.new }
@@ -98,12 +104,12 @@ fn print_numbered(word: &[u8], k: u32, out: &mut [u8]) -> usize
 }
 
 // Prints a refusal.
-pub fn print_refusal(k: u32, out: &mut [u8]) -> usize
+pub fn print_refusal(refusal: Refusal, out: &mut [u8]) -> usize
     requires { 19 ≤ length out.old }
-    ensures value { result ≡ length (refusal_text k) }
-    ensures out_after { out.new ≡ splice out.old 0 (refusal_text k) }
+    ensures value { result ≡ length (refusal_text (cause_number refusal)) }
+    ensures out_after { out.new ≡ splice out.old 0 (refusal_text (cause_number refusal)) }
 {
-    print_numbered(b"refused ", k, out)
+    print_numbered(b"refused ", u32::from(refusal), out)
 }
 
 // Prints that a record is sound, with its deepest level.

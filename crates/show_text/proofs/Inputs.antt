@@ -5,7 +5,7 @@ use mathlib.Core.List.{List}
 use Prim.Native.Nat.{ℕ, zero, suc, ◌+◌, ◌*◌, ◌≤◌, ◌<◌}
 use native.Mathlib.Omega.{arith}
 use lib.Dec.{eqb}
-use lib.ListN.{length, take, length-take}
+use lib.ListN.{length, take}
 use borrow.Author.Tests.{lt-ltb, le-ltb, le-leb, lt-leb, eq-eqb, ne_eqb}
 use Rattle.lists.specs.Splice.{splice}
 use Rattle.words.specs.Le.{le_at}
@@ -14,10 +14,6 @@ use Rattle.show.specs.Show.{refusal_text}
 use Rattle.show.proofs.Words.{length_words}
 use Rattle.show_text.specs.ShowText.{most_leaves, tree_size, input_size, tree_words, index_words, tree_text, order_text, leaves_text, show_text}
 use Rattle.lists.proofs.Splice.{splice_taken}
-
--- a part of up to m
-pub take_most : (n m : ℕ) (l : List ℕ) → n ≤ m → length (take n l) ≤ m
-take_most n m l h = omega (arith, length-take n l)
 
 -- input that ends within the word n
 pub text_short : (input : List ℕ) → length input < 4 → refusal_text 1 ≡ show_text input

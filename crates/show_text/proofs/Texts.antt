@@ -11,8 +11,10 @@ use Rattle.lists.proofs.Splice.{splice_taken}
 use Rattle.show.specs.Show.{node_line, node_lines, indices_line, record_text, refusal_text}
 use Rattle.bvh2_tables.specs.Call.{Call, leaf_count}
 use Rattle.bvh2_to_cwbvh.specs.Conversion.{defined_record, defined_nodes, defined_list, conversion_of}
-use Rattle.bvh2_to_cwbvh.specs.declared.Conversion.{Conversion}
-use Rattle.bvh2_to_cwbvh.specs.declared.Conversion.TheVariants.{Refused}
+use Rattle.std.specs.Prelude.{Result, Err}
+use Rattle.causes.specs.declared.Refusal.{Refusal}
+use Rattle.causes.specs.Refusal.{cause_number}
+use Rattle.bvh2_to_cwbvh.specs.declared.Converted.{Converted}
 use Rattle.bvh2_to_cwbvh.specs.Answer.{outcome_of}
 use Rattle.show_text.specs.ShowText.{most_leaves, cause_text, tree_text}
 use Rattle.show_text.specs.Room.{TextRoom}
@@ -43,9 +45,6 @@ record_written s a t l m n e f = ap₂ (λ (x y : List ℕ). x ++ indices_line y
 abbrev pub Wrote : List ℕ → List ℕ → ℕ → List ℕ → Type 0
 Wrote s text r t = (r ≡ length text) × (t ≡ splice s 0 text)
 
-pub wrote_as : (s a b : List ℕ) (r : ℕ) (t : List ℕ) → a ≡ b → Wrote s a r t → Wrote s b r t
-wrote_as s a b r t e h = rw (← e) h
-
 pub wrote_fits : (s text : List ℕ) (r : ℕ) (t : List ℕ) → Wrote s text r t → r ≤ length t
 wrote_fits s text r t h =
     let e : take (length text) t ≡ text = ap (take (length text)) h.1 ∙ splice_taken s text (length text) refl in
@@ -66,12 +65,13 @@ module _ (c : Call) (out : ℕ) (few : leaf_count c ≤ most_leaves)
       ∙ w ∙ ap (cause_text c.words c.indices c.limit c.ordered) (sym h.none)
 
   -- the number of the cause
-  pub refusal_shown : (v : Conversion) (ds₁ : List ℕ) (cs₁ : List Float) (bytes₁ list₁ : List ℕ) → outcome_of v ds₁ cs₁ bytes₁ list₁ ≡ conversion_of c
-      → (k : ℕ) → v ≡ Refused k → refusal_text k ≡ tree_text c.words c.indices c.limit c.ordered
+  pub refusal_shown : (v : Result Converted Refusal) (ds₁ : List ℕ) (cs₁ : List Float) (bytes₁ list₁ : List ℕ)
+      → outcome_of v ds₁ cs₁ bytes₁ list₁ ≡ conversion_of c → (f : Refusal) → v ≡ Err f
+      → refusal_text (cause_number f) ≡ tree_text c.words c.indices c.limit c.ordered
   unfolding tree_text cause_text
-  refusal_shown v ds₁ cs₁ bytes₁ list₁ e k q =
-      let h = refuses c out few room v ds₁ cs₁ bytes₁ list₁ e k q in
-      number k h.1 ∙ ap (cause_text c.words c.indices c.limit c.ordered) (sym h.0)
+  refusal_shown v ds₁ cs₁ bytes₁ list₁ e f q =
+      let h = refuses c out few room v ds₁ cs₁ bytes₁ list₁ e f q in
+      number (cause_number f) h.1 ∙ ap (cause_text c.words c.indices c.limit c.ordered) (sym h.0)
     where
       number : (k : ℕ) → 0 < k → refusal_text k ≡ cause_text c.words c.indices c.limit c.ordered k
       number zero h = absurd (omega arith)

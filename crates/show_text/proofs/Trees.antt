@@ -18,8 +18,10 @@ use Rattle.bvh2_tables.specs.Tables.{table_size, record_size, prepare_conditions
 use Rattle.bvh2_tables.proofs.Room.{room_enough}
 use Rattle.bvh2_to_cwbvh.specs.Conversion.{nodes_of, level_of, defined_record, defined_nodes, defined_list, Convertible}
 use Rattle.bvh2_to_cwbvh.specs.Conversion.{conversion_conditions, conversion_cause, Outcome, conversion_of}
-use Rattle.bvh2_to_cwbvh.specs.declared.Conversion.{Conversion}
-use Rattle.bvh2_to_cwbvh.specs.declared.Conversion.TheVariants.{Converted, Refused}
+use Rattle.std.specs.Prelude.{Result, Ok, Err}
+use Rattle.causes.specs.declared.Refusal.{Refusal}
+use Rattle.causes.specs.Refusal.{cause_number}
+use Rattle.bvh2_to_cwbvh.specs.declared.Converted.{Converted}
 use Rattle.bvh2_to_cwbvh.specs.Answer.{conversion_answer, outcome_of}
 use Rattle.bvh2_to_cwbvh.proofs.Endings.{cause_none}
 use Rattle.bvh2_to_cwbvh.proofs.Answers as A
@@ -91,14 +93,15 @@ module _ (c : Call) (out : ℕ) (few : leaf_count c ≤ most_leaves)
     pub list_is : list₁ ≡ splice c.list 0 (defined_list c)
     pub sizes_are : Sizes c
 
-  module _ (v : Conversion) (ds₁ : List ℕ) (cs₁ : List Float) (bytes₁ list₁ : List ℕ) (e : outcome_of v ds₁ cs₁ bytes₁ list₁ ≡ conversion_of c) where
+  module _ (v : Result Converted Refusal) (ds₁ : List ℕ) (cs₁ : List Float) (bytes₁ list₁ : List ℕ)
+      (e : outcome_of v ds₁ cs₁ bytes₁ list₁ ≡ conversion_of c) where
     answer_is : conversion_answer v ≡ (conversion_of c).answer
     answer_is = ap (λ (o : Outcome). o.answer) e
 
-    pub converts : (m level : ℕ) → v ≡ Converted m level → Converts m bytes₁ list₁
+    pub converts : (d : Converted) → v ≡ Ok d → Converts d.nodes bytes₁ list₁
     unfolding conversion_answer
-    converts m level q =
-        let r = A.answered c m level (sym answer_is ∙ ap conversion_answer q) in
+    converts d q =
+        let r = A.answered c d.nodes d.level (sym answer_is ∙ ap conversion_answer q) in
         record {
           none = sym cause_roomy ∙ cause_none c (A.convertible_none c r.none) r.low;
           nodes_are = r.nodes;
@@ -108,9 +111,9 @@ module _ (c : Call) (out : ℕ) (few : leaf_count c ≤ most_leaves)
         }
 
     -- the number of a refusal is that of the cause
-    pub refuses : (k : ℕ) → v ≡ Refused k → (roomy_cause c.words (leaf_count c) c.limit c.ordered ≡ k) × (0 < k)
+    pub refuses : (f : Refusal) → v ≡ Err f → (roomy_cause c.words (leaf_count c) c.limit c.ordered ≡ cause_number f) × (0 < cause_number f)
     unfolding conversion_answer
-    refuses k q = let h = (A.refused_cause c k).0 (sym answer_is ∙ ap conversion_answer q) in (sym cause_roomy ∙ h.0, h.1)
+    refuses f q = let h = (A.refused_cause c (cause_number f)).0 (sym answer_is ∙ ap conversion_answer q) in (sym cause_roomy ∙ h.0, h.1)
 
   -- what the printing of a record asks
   pub print_ready : (m : ℕ) (bytes₁ list₁ : List ℕ) → Converts m bytes₁ list₁ → length bytes₁ ≡ length c.bytes → length list₁ ≡ length c.list

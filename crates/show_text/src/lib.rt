@@ -6,17 +6,14 @@ ghost use Rattle.lists.specs.Splice.{splice};
 ghost use Rattle.show_text.specs.ShowText.{most_leaves, tree_size, tree_text, show_text};
 ghost use Rattle.show_text.specs.Room.{TextRoom};
 
-use bvh2_to_cwbvh::Conversion;
+use causes::Refusal;
 
 // How many words the tree of n leaves has.
 fn tree_size(n: usize) -> usize
     requires { n ≤ most_leaves }
     ensures { result ≡ tree_size n }
 {
-    if n == 0 {
-        return 0;
-    }
-    (2 * n - 1) * 7
+    if n == 0 { 0 } else { (2 * n - 1) * 7 }
 }
 
 // Converts a tree and writes its record and index list, or the number of the cause of refusal.
@@ -37,22 +34,17 @@ fn tree_text(
     ensures out_after { out.new ≡ splice out.old 0 (tree_text words.now indices.now limit ordered) }
 {
     let n = indices.len();
-    let c = bvh2_to_cwbvh::bvh2_to_cwbvh(
+    let conversion = bvh2_to_cwbvh::bvh2_to_cwbvh(
         words, indices, limit, ordered, decisions, costs, record, list,
     );
-    match c {
-        Conversion::Converted(nodes, _) => {
-            return show::print_record(record, nodes as usize, list, n, out);
-        }
-        Conversion::Refused(number) => {
-            return show::print_refusal(number, out);
-        }
+    match conversion {
+        Ok(converted) => show::print_record(record, converted.nodes as usize, list, n, out),
+        Err(refusal) => show::print_refusal(refusal, out),
     }
 }
 
 // Reads n, leaf limit, order, a tree and its index words, and writes the tree's record and index list, or the number of the cause of refusal; the
-// working
-// slices are enough for any tree that is read.
+// working slices are enough for any tree that is read.
 pub fn show_text(
     input: &[u8],
     words: &mut [u32],
@@ -69,20 +61,20 @@ pub fn show_text(
     ensures out_after { out.new ≡ splice out.old 0 (show_text input.now) }
 {
     if input.len() < 4 {
-        return show::print_refusal(1, out);
+        return show::print_refusal(Refusal::LengthUnfit, out);
     }
     let n = words::load_u32(input, 0) as usize;
     if n > 256 {
-        return show::print_refusal(2, out);
+        return show::print_refusal(Refusal::TooMany, out);
     }
     let k = tree_size(n);
     if input.len() != 12 + 4 * (k + n) {
-        return show::print_refusal(1, out);
+        return show::print_refusal(Refusal::LengthUnfit, out);
     }
     let limit = words::load_u32(input, 4);
     let order = words::load_u32(input, 8);
     if order > 1 {
-        return show::print_refusal(3, out);
+        return show::print_refusal(Refusal::LimitOver, out);
     }
     show::read_words(input, 12, k, words);
     show::read_words(input, 12 + 4 * k, n, indices);

@@ -1,84 +1,99 @@
 // The words of a stored case, and its floats.
 ghost use Rattle.std.specs.Prelude.{◌≡◌, ◌+◌, ◌≤◌, length};
 
-// The most words of a case that are copied at once.
+use ray::{Beam, Vec3};
+
+// The most words of a case that are copied at once: past them a place may be too great for a number.
 const MOST_COPIED: usize = 65536;
 
-// The bytes of 65,536 nodes, one more than a record may have, and of a part of another.
-const RECORD_BYTES: usize = 5242959;
+// The bytes of 65,536 nodes, one more than a record may have, and of a part of another: room for any stored record.
+pub const RECORD_BYTES: usize = 5242959;
 
-// A record of zeros, to the front of which a case's own bytes are copied.
-pub fn zero_record() -> [u8; RECORD_BYTES]
-    ensures { 5242959 ≡ length result }
+// A type whose values a case stores in a word each: a number as it is, a float by its pattern.
+pub trait OneWord: Copy + PartialEq {
+    fn of_word(word: u32) -> Self;
+
+    fn to_word(self) -> u32;
+}
+
+impl OneWord for u32 {
+    fn of_word(word: u32) -> u32 {
+        word
+    }
+
+    fn to_word(self) -> u32 {
+        self
+    }
+}
+
+impl OneWord for f32 {
+    fn of_word(word: u32) -> f32 {
+        float::of_bits(word)
+    }
+
+    // Every NaN has one pattern.
+    fn to_word(self) -> u32 {
+        if self <= self {
+            f32::to_bits(self)
+        } else {
+            0x7fc0_0000
+        }
+    }
+}
+
+// So many items of one value.
+pub fn filled_with<T: Copy, const N: usize>(x: T) -> [T; N]
+    ensures { N ≡ length result }
 {
-    [0u8; RECORD_BYTES]
+    [x; N]
 }
 
 // Word i of a case; 0 past its end.
 pub fn word(case: &[u8], i: usize) -> u32 {
     if i < case.len() / 4 {
-        return words::load_u32(case, i * 4);
+        words::load_u32(case, i * 4)
+    } else {
+        0
     }
-    0
 }
 
 // Words i and i + 1 of a case as one number, the low one first.
 pub fn wide(case: &[u8], i: usize) -> u64
     requires { i ≤ 1048576 }
 {
-    word(case, i) as u64 + word(case, i + 1) as u64 * 4294967296
+    u64::from(word(case, i)) + u64::from(word(case, i + 1)) * 0x1_0000_0000
 }
 
 // The words of a case from word `from` on, as many as `into` has, up to MOST_COPIED.
-pub fn copy_words(case: &[u8], from: usize, into: &mut [u32])
+pub fn copy_words<T: OneWord>(case: &[u8], from: usize, into: &mut [T])
     requires { from ≤ 65536 }
 {
     if into.len() > MOST_COPIED {
         return;
     }
-    let mut i = 0;
-    while i < into.len() {
-        into[i] = word(case, from + i);
-        i += 1;
+    for i in 0..into.len() {
+        into[i] = T::of_word(word(case, from + i));
     }
 }
 
 // The bytes of a case from byte `from` on, as many as `into` has; none where the case has fewer.
 pub fn copy_bytes(case: &[u8], from: usize, into: &mut [u8]) {
-    if from > case.len() {
-        return;
-    }
-    let rest = &case[from..];
-    if into.len() > rest.len() {
-        return;
-    }
-    let mut i = 0;
-    while i < into.len() {
-        into[i] = rest[i];
-        i += 1;
+    if let Some(rest) = case.get(from..) {
+        if let Some(bytes) = rest.get(..into.len()) {
+            into.copy_from_slice(bytes);
+        }
     }
 }
 
 // Word i as a float.
 pub fn real(case: &[u8], i: usize) -> f32 {
-    float::of_bits(word(case, i))
+    f32::of_word(word(case, i))
 }
 
-// The floats of a case from word `from` on, as many as `into` has.
-pub fn copy_reals(case: &[u8], from: usize, into: &mut [f32])
-    requires { from ≤ 65536 }
-{
-    let mut i = 0;
-    while i < into.len() {
-        into[i] = real(case, from + i);
-        i += 1;
-    }
-}
-
-// Words i to i + 2 as a vector.
-pub fn vector(case: &[u8], i: usize) -> ray::Vec3 {
+// Words i to i + 2 as a vector, for any i: no case of vectors has as many as 1000 words.
+pub fn vector(case: &[u8], i: usize) -> Vec3 {
     if i > 1000 {
-        return ray::Vec3 {
+        return Vec3 {
             x: 0.0,
             y: 0.0,
             z: 0.0,
@@ -87,33 +102,33 @@ pub fn vector(case: &[u8], i: usize) -> ray::Vec3 {
     let x = real(case, i);
     let y = real(case, i + 1);
     let z = real(case, i + 2);
-    ray::Vec3 { x, y, z }
+    Vec3 { x, y, z }
 }
 
-// A float's pattern as it is stored: every NaN is one.
-pub fn pattern(x: f32) -> u32 {
-    if x <= x {
-        return f32::to_bits(x);
+// The eight floats from word i on as a ray: its origin, its direction, tmin and tmax.
+pub fn beam(case: &[u8], i: usize) -> Beam
+    requires { i ≤ 65536 }
+{
+    let origin = vector(case, i);
+    let direction = vector(case, i + 3);
+    let tmin = real(case, i + 6);
+    let tmax = real(case, i + 7);
+    Beam {
+        origin,
+        direction,
+        tmin,
+        tmax,
     }
-    0x7fc0_0000
 }
 
-// Whether word i is a float's pattern.
-pub fn same(case: &[u8], i: usize, x: f32) -> bool {
-    word(case, i) == pattern(x)
+// Whether word i is this number, or this float's pattern.
+pub fn same<T: OneWord>(case: &[u8], i: usize, x: T) -> bool {
+    word(case, i) == x.to_word()
 }
 
 // Whether three words are a vector's patterns.
-pub fn same_vector(case: &[u8], i: usize, v: ray::Vec3) -> bool {
-    if i > 1000 {
-        return false;
-    }
-    if same(case, i, v.x) {
-        if same(case, i + 1, v.y) {
-            return same(case, i + 2, v.z);
-        }
-    }
-    false
+pub fn same_vector(case: &[u8], i: usize, v: Vec3) -> bool {
+    i <= 1000 && same(case, i, v.x) && same(case, i + 1, v.y) && same(case, i + 2, v.z)
 }
 
 // The bytes of the whole words that so many bytes fill.
@@ -121,16 +136,4 @@ pub fn filled_up(bytes: u32) -> usize
     ensures { (bytes ≤ result) × (result ≤ bytes + 3) }
 {
     (bytes as usize + 3) / 4 * 4
-}
-
-// Whether every one of these words is x.
-pub fn all_are(words: &[u32], x: u32) -> bool {
-    let mut i = 0;
-    while i < words.len() {
-        if words[i] != x {
-            return false;
-        }
-        i += 1;
-    }
-    true
 }

@@ -6,53 +6,35 @@ mod digests;
 mod lent;
 mod names;
 
-ghost use Rattle.std.specs.Prelude.{◌≡◌, ◌≤◌, ◌<◌, ◌*◌, length, take, true, IfOk};
+ghost use Rattle.std.specs.Prelude.{◌≡◌, ◌≤◌, ◌<◌, ◌*◌, length, take, true, IfOk, IfSome};
 ghost use Rattle.stored.specs.Given.{own_length, ConsumesSome, GivesNext};
 ghost use Rattle.std.specs.Io.KnownBytes.{Consumes};
 
 pub use cases::{
-    all_are, copy_bytes, copy_reals, copy_words, filled_up, pattern, real, same, same_vector,
-    vector, wide, word, zero_record,
+    OneWord, RECORD_BYTES, beam, copy_bytes, copy_words, filled_up, filled_with, real, same,
+    same_vector, vector, wide, word,
 };
-pub use digests::{digest_of, digest_with};
-pub use lent::{WORD, cleared_words, digested_words, fill, written_words};
+pub use digests::{digest_of, digest_of_bytes, digest_with};
+pub use lent::{
+    WORD, all_are, cleared_words, digested_words, same_bytes, same_words, written, written_words,
+};
 use std::env::Env;
 use std::fs::Files;
 use std::io::{ErrorKind, Read};
 use std::{env, fs, io};
 
-// The most cases and groups of a file.
-const MOST_TURNS: u32 = 1000000;
-
 // The most groups of a file.
 const MOST_GROUPS: u32 = 100;
 
 // Room for the bytes of any stored case.
-pub const CASE_BYTES: usize = 65536;
+const CASE_BYTES: usize = 65536;
 
-// Where a replay stands in a file: its group, how many of the group's cases were run, how many agreed, whether all did, and the turns left, 0 at the
-// end.
+// A group of cases: what they are about, how many they are, and the words of each; 0 where each tells its own.
 #[derive(Clone, Copy)]
-pub struct Place {
+pub struct Group {
     pub kind: u32,
     pub count: u32,
     pub words: u32,
-    pub run: u32,
-    pub agreed: u32,
-    pub groups: u32,
-    pub all: bool,
-    pub turns: u32,
-}
-
-// The place after the last group.
-fn ended(at: Place, all: bool) -> Place
-    ensures { result.turns ≡ 0 }
-{
-    Place {
-        all,
-        turns: 0,
-        ..at
-    }
 }
 
 // Fills a buffer with a file's next bytes, or says that the file ends before it is full.
@@ -66,166 +48,115 @@ fn filled<F: Read>(file: &mut F, buffer: &mut [u8]) -> io::Result<bool>
     }
 }
 
-// The place before the first case of the next group. The last group counts those before it.
-fn next_group<F: Read>(file: &mut F, at: Place, all: bool) -> io::Result<Place>
-    ensures { IfOk result (λ next. next.turns ≤ at.turns) }
-{
-    let mut head = [0u8; 12];
-    let full = filled(file, &mut head)?;
-    let kind = word(&head, 0);
-    let count = word(&head, 1);
-    let words = word(&head, 2);
-    if !full {
-        return Ok(ended(at, false));
-    }
-    if kind == 0 {
-        if count == at.groups {
-            return Ok(ended(at, all));
-        }
-        return Ok(ended(at, false));
-    }
-    if at.groups >= MOST_GROUPS {
-        return Ok(ended(at, false));
-    }
-    let groups = at.groups + 1;
-    Ok(Place {
-        kind,
-        count,
-        words,
-        run: 0,
-        agreed: 0,
-        groups,
-        all,
-        ..at
-    })
-}
-
-// Opens the file that argument i names, at the place before its first case.
-pub fn open<R: Files + Env + AllocGlobal>(rt: &R, i: usize) -> io::Result<(R::File, Place)> {
+// Opens the file that argument i names.
+fn open<R: Files + Env + AllocGlobal>(rt: &R, i: usize) -> io::Result<R::File> {
     let Some(path) = env::args(rt)?.nth(i) else {
         return Err(io::Error::new(ErrorKind::InvalidInput, "an argument is missing"));
     };
-    let mut file = fs::open(rt, path.as_str())?;
-    let begun = Place {
-        kind: 0,
-        count: 0,
-        words: 0,
-        run: 0,
-        agreed: 0,
-        groups: 0,
-        all: false,
-        turns: MOST_TURNS,
-    };
-    let at = next_group(&mut file, begun, true)?;
-    Ok((file, at))
+    fs::open(rt, path.as_str())
 }
 
-// The words of the next case: those of the group, or where these are 0 its own.
-fn case_words<F: Read>(file: &mut F, at: Place) -> io::Result<u32>
-    ensures words { IfOk result (λ words. 0 < at.words → words ≡ at.words) }
-    ensures bytes { IfOk result (λ words. 0 < words → ConsumesSome (own_length at.words) (F.remaining file.old) (F.remaining file.new)) }
+// The next group; none where the file ends before. One of kind 0 is the last, and counts those before it.
+fn next_group<F: Read>(file: &mut F) -> io::Result<Option<Group>> {
+    let mut head = [0u8; 12];
+    if !filled(file, &mut head)? {
+        return Ok(None);
+    }
+    let kind = word(&head, 0);
+    let count = word(&head, 1);
+    let words = word(&head, 2);
+    Ok(Some(Group { kind, count, words }))
+}
+
+// The words of the next case: those of the group, or where these are 0 its own; none where the file ends before.
+fn case_words<F: Read>(file: &mut F, group: Group) -> io::Result<Option<u32>>
+    ensures words { IfOk result (λ read. IfSome read (λ words. 0 < group.words → words ≡ group.words)) }
+    ensures bytes { IfOk result (λ read. IfSome read (λ _. ConsumesSome (own_length group.words) (F.remaining file.old) (F.remaining file.new))) }
 {
-    if at.words > 0 {
-        return Ok(at.words);
+    if group.words > 0 {
+        return Ok(Some(group.words));
     }
     let mut head = [0u8; 4];
     if filled(file, &mut head)? {
-        return Ok(word(&head, 0));
+        return Ok(Some(word(&head, 0)));
     }
-    Ok(0)
+    Ok(None)
 }
 
-// Reads the next case to the start of the buffer, and answers its bytes; 0 where the group has no further one, or it can't be read.
-pub fn read_case<F: Read>(file: &mut F, at: Place, buffer: &mut [u8]) -> io::Result<usize>
-    ensures bound { IfOk result (λ long. long ≤ length buffer.new) }
-    ensures words { IfOk result (λ long. 0 < long → 0 < at.words → long ≡ at.words * 4) }
-    ensures bytes { IfOk result (λ long. 0 < long →
-        GivesNext (own_length at.words) (F.remaining file.old) (F.remaining file.new) (take long buffer.new)) }
+// Reads the next case to the start of the buffer, and answers its bytes; none where it has no words or too many, or the file ends before.
+pub fn read_case<F: Read>(
+    file: &mut F,
+    group: Group,
+    buffer: &mut [u8],
+) -> io::Result<Option<usize>>
+    ensures bound { IfOk result (λ read. IfSome read (λ long. long ≤ length buffer.new)) }
+    ensures words { IfOk result (λ read. IfSome read (λ long. 0 < group.words → long ≡ group.words * 4)) }
+    ensures bytes { IfOk result (λ read. IfSome read (λ long.
+        GivesNext (own_length group.words) (F.remaining file.old) (F.remaining file.new) (take long buffer.new))) }
 {
-    if at.run >= at.count {
-        return Ok(0);
-    }
-    let length = case_words(file, at)? as usize * 4;
-    if length > buffer.len() {
-        return Ok(0);
+    let Some(words) = case_words(file, group)? else {
+        return Ok(None);
+    };
+    let length = words as usize * 4;
+    if length == 0 || length > buffer.len() {
+        return Ok(None);
     }
     if filled(file, &mut buffer[..length])? {
-        return Ok(length);
+        return Ok(Some(length));
     }
-    Ok(0)
+    Ok(None)
 }
 
-// Says which case of a group was the first to differ: all before it agreed.
-fn print_first(rt: &impl Print, agrees: bool, agreed: u32, i: u32) -> io::Result<()> {
-    if agrees {
-        return Ok(());
+// Runs the cases of a group, prints which was the first to differ, and the group's line, and answers whether all agreed.
+fn replay_group<R: Print, G: Read, F: FnMut(u32, &[u8]) -> io::Result<bool>>(
+    rt: &R,
+    file: &mut G,
+    group: Group,
+    buffer: &mut [u8],
+    agrees: &mut F,
+) -> io::Result<bool>
+    requires { (state : F) (kind case : _) → F.pre state kind case }
+{
+    let mut agreed = 0;
+    for i in 0..group.count {
+        let same = match read_case(file, group, buffer)? {
+            Some(length) => agrees(group.kind, &buffer[..length])?,
+            None => false,
+        };
+        if same {
+            agreed += 1;
+        } else if agreed == i {
+            println!(rt; "differs: case {i}")?;
+        }
     }
-    if agreed == i {
-        println!(rt; "differs: case {i}")?;
-    }
-    Ok(())
-}
-
-// Prints a group's line, and answers whether all of it agreed.
-fn print_group(rt: &impl Print, kind: u32, count: u32, agreed: u32) -> io::Result<bool> {
-    names::print_name(rt, kind)?;
+    let count = group.count;
+    names::print_name(rt, group.kind)?;
     println!(rt; ": compared {count}, agreed {agreed}")?;
     Ok(agreed == count)
 }
 
-// One more than a number below the most; the most else.
-fn one_more(x: u32, most: u32) -> u32 {
-    if x < most {
-        return x + 1;
-    }
-    most
-}
-
-// The place after the case that read_case answered `length` for. A case that could not be read agrees with nothing.
-fn compared<R: Print, F: Read>(
+// Runs each case of the file that argument i names by a test, which takes the kind and the bytes, and answers whether all agreed and the file is whole.
+pub fn replay<R: Files + Env + Print + AllocGlobal, F: FnMut(u32, &[u8]) -> io::Result<bool>>(
     rt: &R,
-    file: &mut F,
-    at: Place,
-    length: usize,
-    agrees: bool,
-) -> io::Result<Place>
-    ensures { IfOk result (λ next. next.turns ≤ at.turns) }
+    i: usize,
+    mut agrees: F,
+) -> io::Result<bool>
+    requires { (state : F) (kind case : _) → F.pre state kind case }
 {
-    if at.run >= at.count {
-        let all = print_group(rt, at.kind, at.count, at.agreed)?;
-        if at.all {
-            return next_group(file, at, all);
-        }
-        return next_group(file, at, false);
-    }
-    let run = one_more(at.run, at.count);
-    if length > 0 {
-        if agrees {
-            let agreed = one_more(at.agreed, at.count);
-            return Ok(Place { run, agreed, ..at });
+    let mut buffer = [0u8; CASE_BYTES];
+    let mut file = open(rt, i)?;
+    let mut all = true;
+    for groups in 0..=MOST_GROUPS {
+        match next_group(&mut file)? {
+            Some(group) if group.kind > 0 && groups < MOST_GROUPS => {
+                let same = replay_group(rt, &mut file, group, &mut buffer, &mut agrees)?;
+                all = all && same;
+            }
+            Some(last) => return Ok(all && last.kind == 0 && last.count == groups),
+            None => return Ok(false),
         }
     }
-    print_first(rt, false, at.agreed, at.run)?;
-    Ok(Place { run, ..at })
-}
-
-// The same, one turn on; a file that takes more turns does not agree.
-pub fn next<R: Print, F: Read>(
-    rt: &R,
-    file: &mut F,
-    at: Place,
-    length: usize,
-    agrees: bool,
-) -> io::Result<Place>
-    requires { 0 < at.turns }
-    ensures { IfOk result (λ next. next.turns < at.turns) }
-{
-    if at.turns == 1 {
-        return Ok(ended(at, false));
-    }
-    let turns = at.turns - 1;
-    let on = Place { turns, ..at };
-    compared(rt, file, on, length, agrees)
+    Ok(false)
 }
 
 // Prints the last line.

@@ -1,4 +1,4 @@
-// What each kind of case is about.
+// What each kind of case is about. Kinds are numbers in the files.
 use std::io;
 
 pub fn print_name(rt: &impl Print, kind: u32) -> io::Result<()> {

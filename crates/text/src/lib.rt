@@ -19,11 +19,9 @@ pub fn put_bytes(out: &mut [u8], at: usize, bytes: &[u8]) -> usize
     requires { at + length bytes.now ≤ length out.old }
     ensures { Put out.old at bytes.now result out.new }
 {
-    let mut p = at;
-    for i in 0..bytes.len() {
-        p = put_byte(out, p, bytes[i]);
-    }
-    p
+    let end = at + bytes.len();
+    out[at..end].copy_from_slice(bytes);
+    end
 }
 
 // Writes a word in decimal.
@@ -61,8 +59,8 @@ pub fn put_hex(out: &mut [u8], at: usize, bytes: &[u8]) -> usize
     ensures { Put out.old at (hex bytes.now) result out.new }
 {
     let mut p = at;
-    for i in 0..bytes.len() {
-        p = put_hex_byte(out, p, bytes[i]);
+    for &byte in bytes {
+        p = put_hex_byte(out, p, byte);
     }
     p
 }

@@ -1,4 +1,3 @@
-pub mod Tests
 pub mod Begun
 pub mod Reports
 pub mod Steps

@@ -10,6 +10,9 @@ use lib.Ieee.{Float}
 use borrow.Author.Tests.{ltb-false}
 use Rattle.ray.specs.Ray.{reaching, counts}
 use Rattle.lists.proofs.Tells.{tells_true, eqb_tells}
+use Rattle.std.specs.Prelude.{Result, Ok, Err}
+use Rattle.causes.specs.declared.Refusal.{Refusal}
+use Rattle.causes.specs.Refusal.{cause_in}
 use Rattle.causes.specs.Causes.{◌unless◌, first_cause}
 use Rattle.causes.specs.Sizes.{sizes_fit, record_conditions, record_cause}
 use Rattle.causes.proofs.Sizes.{Fit, sizes_tell}
@@ -37,13 +40,16 @@ module _ (w : WalkerWords WalkRay) (t : Float) where
     stack = w.stack;
   }
 
-  pub told_nearer : counts w.ray.ray t ≡ true → told true ≡ told_walker t w
-  told_nearer e = sym (ap told e)
-
   pub told_farther : counts w.ray.ray t ≡ false → told false ≡ told_walker t w
   told_farther e = sym (ap told e)
 
 -- ---- a step
+
+-- a call that gives no error has no cause
+pub no_error : {A : Type 0} (r : Result A Refusal) → ((refusal : Refusal) → r ≡ Err refusal → ⊥) → cause_in r ≡ 0
+no_error (Ok a) h = refl
+no_error (Err refusal) h = absurd (h refusal refl)
+
 module _ (bytes : List ℕ) (n : ℕ) (w : WalkerWords WalkRay) where
   abbrev m : ℕ
   m = node_count bytes

@@ -1,6 +1,9 @@
 -- The walker as the machine of words has it, and its calls on a record as bytes (01, "Walking"; "Causes of refusal").
 use Rattle.std.specs.Prelude.{Bool, true, false, not, ◌&&◌, ◌||◌, List, [], ℕ, ◌%◌, eqb, leb, ltb, length, replicate, Float}
+use Rattle.std.specs.Prelude.{Result, Ok, Err}
 use Rattle.float.specs.Compare.{plus_zero}
+use Rattle.causes.specs.declared.Refusal.{Refusal}
+use Rattle.causes.specs.Refusal.{cause_number}
 use Rattle.ray.specs.declared.Ray.{Ray}
 use Rattle.ray.specs.declared.Vec3.{Vec3}
 use Rattle.ray.specs.Ray.{accepted_ray}
@@ -14,7 +17,6 @@ use Rattle.walk_record.specs.Walk.{step_at}
 use Rattle.advance.specs.Turn.{step_answer, walker_of}
 use Rattle.traverse.specs.declared.Walker.{Walker}
 use Rattle.traverse.specs.declared.Stepped.{Stepped}
-use Rattle.traverse.specs.declared.Started.{Started}
 
 -- ---- the structs in the requirements' terms
 
@@ -29,9 +31,6 @@ stepped_of s = record { walker = walker_words s.walker; answer = step_answer s.a
 pub record Begun : Type 0 where
   pub walker : WalkerWords WalkRay
   pub refused : ℕ
-
-abbrev pub started_of : Started → Begun
-started_of s = record { walker = walker_words s.walker; refused = s.refused }
 
 -- ---- a walker just begun
 
@@ -58,6 +57,11 @@ started r = elim (accepted_ray r) [
   | false ↦
       record { walker = no_walker; refused = 9 }
 ]
+
+-- how beginning ends: with a walker, or with an error, which brings none
+abbrev pub started_of : Result Walker Refusal → Begun
+started_of (Ok w) = record { walker = walker_words w; refused = 0 }
+started_of (Err refusal) = record { walker = no_walker; refused = cause_number refusal }
 
 -- ---- telling
 

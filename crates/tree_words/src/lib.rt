@@ -38,10 +38,6 @@ pub fn copy_node(from: &[u32], u: usize, words: &mut [u32], v: usize, link: u32)
     ensures { words.new
         ≡ splice words.old (v * 7) (values (word_at from.now u) 6 ++ (link ∷ [])) }
 {
-    let mut i = 0;
-    while i < 6 {
-        words[v * 7 + i] = from[u * 7 + i];
-        i += 1;
-    }
+    words[v * 7..v * 7 + 6].copy_from_slice(&from[u * 7..u * 7 + 6]);
     words[v * 7 + 6] = link;
 }

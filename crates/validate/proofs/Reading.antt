@@ -1,7 +1,7 @@
 -- What the code reads of a node is what the record's shape says of it; the marks of a node, part by part.
-use mathlib.Core.Bool.{Bool, true, false, not}
+use mathlib.Core.Bool.{Bool, true, false}
 use mathlib.Core.List.{List}
-use mathlib.Core.Path.{◌≡◌, refl, sym, ap, ◌∙◌}
+use mathlib.Core.Path.{◌≡◌, refl, sym, ◌∙◌}
 use Prim.Native.Nat.{ℕ, zero, suc, ◌+◌, ◌%◌, ◌<◌, ◌≤◌}
 use native.Mathlib.Numerals.{add-one}
 use native.Mathlib.Omega.{arith}
@@ -10,6 +10,7 @@ use lib.ListN.{length, get_or}
 use Rattle.lists.proofs.Tells.{told, clash, eqb_tells}
 use Rattle.words.specs.Ones.{ones_below}
 use Rattle.soundness.specs.Shape.{RangesPlaced}
+use Rattle.node.specs.declared.Node.{Node}
 use Rattle.node.specs.Node.{node_at, inner_bit, code_count}
 use Rattle.record_shape.specs.Record.{node_count, nodes_at, meta_at, slot_positions, shape_in, shape_at}
 use Rattle.record_shape.proofs.Placed.{placed}
@@ -19,16 +20,16 @@ use Rattle.validate.proofs.Marking.{positions_none, positions_next, positions_bl
 
 -- ---- how many positions a slot has
 
-pub inner_none : (bit meta : ℕ) (b : Bool) → b ≡ eqb bit 0 → not b ≡ true → 0 ≡ slot_positions bit meta
+pub inner_none : (bit meta : ℕ) (b : Bool) → b ≡ eqb bit 0 → b ≡ false → 0 ≡ slot_positions bit meta
 unfolding slot_positions
-inner_none zero meta b e h = clash (ap not (sym e) ∙ h)
+inner_none zero meta b e h = clash (sym h ∙ e)
 inner_none (suc bit) meta b e h = refl
 
-pub leaf_code : (bit meta count : ℕ) (b : Bool) → b ≡ eqb bit 0 → not b ≡ false → count ≡ code_count meta → count ≡ slot_positions bit meta
+pub leaf_code : (bit meta count : ℕ) (b : Bool) → b ≡ eqb bit 0 → b ≡ true → count ≡ code_count meta → count ≡ slot_positions bit meta
 unfolding slot_positions
 leaf_code zero meta count b e h c = c
 leaf_code (suc bit) meta count true e h c = absurd (let z = told (eqb_tells (suc bit) 0) (sym e) in omega arith)
-leaf_code (suc bit) meta count false e h c = clash (sym h)
+leaf_code (suc bit) meta count false e h c = clash h
 
 -- ---- a slot
 
@@ -37,11 +38,11 @@ pub record SlotRead (bytes : List ℕ) (n i s a k : ℕ) : Type 0 where
   pub place : a ≡ (shape_at bytes n).nodes + (shape_at bytes n).start i s
   pub count : k ≡ (shape_at bytes n).count i s
 
-pub slot_read : (bytes : List ℕ) (n i m s imask base meta start k : ℕ) → m ≡ node_count bytes → imask ≡ (node_at bytes i).imask → base
-    ≡ (node_at bytes i).primitive_base_idx
-    → meta ≡ meta_at (node_at bytes i) s → start ≡ base + meta % 32 → k ≡ slot_positions (inner_bit imask s) meta → SlotRead bytes n i s (m + start) k
+pub slot_read : (bytes : List ℕ) (n i m s : ℕ) (v : Node) (imask base meta start k : ℕ) → m ≡ node_count bytes → v ≡ node_at bytes i
+    → imask ≡ v.imask → base ≡ v.primitive_base_idx → meta ≡ meta_at v s → start ≡ base + meta % 32
+    → k ≡ slot_positions (inner_bit imask s) meta → SlotRead bytes n i s (m + start) k
 unfolding shape_in
-slot_read bytes n i m s imask base meta start k em ei eb et es ek = record { place = rw (em, es, eb, et); count = rw (ek, ei, et) }
+slot_read bytes n i m s v imask base meta start k em ev ei eb et es ek = record { place = rw (em, es, eb, et, ev); count = rw (ek, ei, et, ev) }
 
 pub slot_marked : (bytes : List ℕ) (n i s a k : ℕ) (o q : List ℕ) (f : Bool) → SlotRead bytes n i s a k → Fill f o a k 1 q
     → MarksSlot f (shape_at bytes n) i s o q
@@ -51,24 +52,20 @@ slot_marked bytes n i s a k o q f t h = rw (← t.place, ← t.count) h
 
 -- the first s slots of node i are marked
 pub record Marking (bytes : List ℕ) (n i s : ℕ) (o q : List ℕ) : Type 0 where
-  pub most : s ≤ 8
   pub long : length q ≡ length o
   pub done : PositionsMarked (shape_at bytes n) i s o q
 
 pub marking_none : (bytes : List ℕ) (n i : ℕ) (o : List ℕ) → Marking bytes n i 0 o o
-marking_none bytes n i o = record { most = omega arith; long = refl; done = positions_none (shape_at bytes n) i o }
+marking_none bytes n i o = record { long = refl; done = positions_none (shape_at bytes n) i o }
 
-pub marking_done : (bytes : List ℕ) (n i s : ℕ) (o q : List ℕ) → 8 ≤ s → Marking bytes n i s o q → MarksPositions true (shape_at bytes n) i o q
+pub marking_done : (bytes : List ℕ) (n i s : ℕ) (o q : List ℕ) → s ≤ 8 → 8 ≤ s → Marking bytes n i s o q
+    → MarksPositions true (shape_at bytes n) i o q
 unfolding MarksPositions
-marking_done bytes n i s o q l d = let e : s ≡ 8 = (let u = d.most in omega arith) in rw (← e) d.done
+marking_done bytes n i s o q u l d = let e : s ≡ 8 = omega arith in rw (← e) d.done
 
 module _ (bytes : List ℕ) (n i m long : ℕ) (ready : Ruled bytes n i m long) where
   node-placed : RangesPlaced (shape_at bytes n) i
   node-placed = placed (nodes_at bytes) n i ready.rule
-
-  -- the working words may have been written meanwhile
-  pub still_ruled : (words : ℕ) → words ≡ long → Ruled bytes n i m words
-  still_ruled words e = rw e ready
 
   pub slot_room : (s a k : ℕ) → s < 8 → SlotRead bytes n i s a k → MarkRoom a k long
   unfolding shape_in
@@ -83,24 +80,32 @@ module _ (bytes : List ℕ) (n i m long : ℕ) (ready : Ruled bytes n i m long) 
   }
 
   module _ (s : ℕ) (o q r : List ℕ) (f : Bool) (l : s < 8) (d : Marking bytes n i s o q) (h : MarksSlot f (shape_at bytes n) i s q r) where
-    pub marking_next : length r ≡ length q → not f ≡ false → Marking bytes n i (s + 1) o r
+    pub marking_next : length r ≡ length q → f ≡ true → Marking bytes n i (s + 1) o r
     marking_next e z = record {
-      most = omega arith;
       long = e ∙ d.long;
       done = rw (add-one s) (positions_next (shape_at bytes n) i s o q r d.done (was_filled f q _ _ 1 r h z));
     }
 
-    pub marking_blocked : (z : List ℕ) → not f ≡ true → MarksPositions false (shape_at bytes n) i o z
+    pub marking_blocked : (z : List ℕ) → f ≡ false → MarksPositions false (shape_at bytes n) i o z
     unfolding MarksPositions
     marking_blocked z e = positions_blocked (shape_at bytes n) i s o q node-placed l d.done (was_blocked f q _ _ 1 r h e)
 
   -- ---- the whole node
 
-  module _ (base k : ℕ) (eb : base ≡ (node_at bytes i).child_base_idx) (ek : k ≡ ones_below 8 (node_at bytes i).imask) where
+  module _ (v : Node) (base imask k : ℕ) (ev : v ≡ node_at bytes i) (fb : base ≡ v.child_base_idx) (fi : imask ≡ v.imask)
+      (fk : k ≡ ones_below 8 imask) where
+    eb : base ≡ (node_at bytes i).child_base_idx
+    eb = rw (fb, ev)
+
+    ek : k ≡ ones_below 8 (node_at bytes i).imask
+    ek = rw (fk, fi, ev)
+
     pub children_room : MarkRoom base k long
     unfolding shape_in
     children_room = record {
       inside = λ h.
+          let b = eb in
+          let c = ek in
           let g = ready.sized.words in
           let u = ready.sized.nodes in
           let z = node-placed.exist (omega arith) in
@@ -108,11 +113,11 @@ module _ (bytes : List ℕ) (n i m long : ℕ) (ready : Ruled bytes n i m long) 
     }
 
     module _ (o p q : List ℕ) (f : Bool) (h : Fill f o base k (get_or o i 0 + 1) p) where
-      pub children_taken : not f ≡ true → MarksNode false (shape_at bytes n) i o q
+      pub children_taken : f ≡ false → MarksNode false (shape_at bytes n) i o q
       unfolding MarksNode shape_in
       children_taken e = children_blocked (shape_at bytes n) i o node-placed (rw (← eb, ← ek) (was_blocked f o base k (get_or o i 0 + 1) p h e))
 
-      pub node_ends : (t : Bool) → not f ≡ false → MarksPositions t (shape_at bytes n) i p q → MarksNode t (shape_at bytes n) i o q
+      pub node_ends : (t : Bool) → f ≡ true → MarksPositions t (shape_at bytes n) i p q → MarksNode t (shape_at bytes n) i o q
       unfolding MarksNode MarksPositions shape_in
       node_ends t e y = go t y (rw (← eb, ← ek, ← add-one (get_or o i 0)) (was_filled f o base k (get_or o i 0 + 1) p h e))
         where

@@ -1,4 +1,3 @@
-pub mod Answers
 pub mod Floats
 pub mod Left
 pub mod Runs

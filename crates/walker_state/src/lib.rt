@@ -4,12 +4,14 @@
 ghost use Rattle.std.specs.Prelude.{◌≡◌, not, List, ℕ, ◌<◌, ◌+◌, ◌%◌, ◌^◌, eqb};
 ghost use Rattle.std.specs.Float.Ieee.{of_bits};
 ghost use Rattle.std.specs.Float.{binary32};
-ghost use Rattle.ray.specs.Ray.{ray_of};
+ghost use Rattle.causes.specs.Refusal.{cause_in};
+ghost use Rattle.ray.specs.Ray.{ray_from};
 ghost use Rattle.advance.specs.Turn.{step_answer, walker_of};
 ghost use Rattle.traverse.specs.Walker.{walker_words, started, told_walker, step_bytes};
 ghost use Rattle.walker_state.specs.State.{half_in, float_in, vec_held, ray_held, group_in, walk_in, walker_in, held, is_refused, Leaves, Patterns};
 
-use ray::{Ray, Vec3};
+use causes::Refusal;
+use ray::{Beam, Ray, Vec3};
 use traverse::{Answer, Group, Walk, Walker};
 
 // ---- the walker that words hold
@@ -101,10 +103,10 @@ fn walker_in(s: &[u64; 18], t: &[u64; 32]) -> Walker
 fn pattern(x: f32) -> u64
     ensures { of_bits binary32 (result % 2 ^ 32) ≡ x }
 {
-    if x <= x {
-        return f32::to_bits(x) as u64;
+    if x.is_nan() {
+        return 0x7fc0_0000;
     }
-    0x7fc0_0000
+    u64::from(x.to_bits())
 }
 
 // The patterns of three floats.
@@ -122,12 +124,6 @@ fn patterns(v: Vec3) -> Triple
     let y = pattern(v.y);
     let z = pattern(v.z);
     Triple { x, y, z }
-}
-
-fn wide(x: u32) -> u64
-    ensures { result % 2 ^ 32 ≡ x }
-{
-    x as u64
 }
 
 // The words of all but the stack.
@@ -151,19 +147,20 @@ fn head_of(ray: Ray, octant: u32, walk: Walk) -> [u64; 18]
         inverse.z,
         tmin,
         tmax,
-        wide(octant),
-        wide(walk.tests),
-        wide(walk.positions.base),
-        wide(walk.positions.bits),
-        wide(walk.current.base),
-        wide(walk.current.bits),
-        wide(walk.depth),
+        u64::from(octant),
+        u64::from(walk.tests),
+        u64::from(walk.positions.base),
+        u64::from(walk.positions.bits),
+        u64::from(walk.current.base),
+        u64::from(walk.current.bits),
+        u64::from(walk.depth),
     ]
 }
 
 fn put_walker(s: &mut [u64; 18], t: &mut [u64; 32], w: Walker)
     ensures { walker_in s.new t.new ≡ walker_words w }
 {
+    // by a variable, since no proof is made of an array field that is stored straight
     let stack = w.stack;
     *s = head_of(w.ray, w.octant, w.walk);
     *t = stack;
@@ -171,40 +168,23 @@ fn put_walker(s: &mut [u64; 18], t: &mut [u64; 32], w: Walker)
 
 // ---- the calls
 
-// A walker that has the first node before it, in the words lent, for a ray that is accepted; else the number of the cause.
-pub fn begin(
-    origin: Vec3,
-    direction: Vec3,
-    tmin: f32,
-    tmax: f32,
-    s: &mut [u64; 18],
-    t: &mut [u64; 32],
-) -> u32
-    ensures value { result ≡ (started (ray_of origin direction tmin tmax)).refused }
-    ensures leaves { Leaves (not (eqb result 0)) (held s.old t.old) (held s.new t.new)
-        (started (ray_of origin direction tmin tmax)).walker }
+// A walker that has the first node before it, in the words lent, for a ray that is accepted.
+pub fn begin(beam: Beam, s: &mut [u64; 18], t: &mut [u64; 32]) -> Result<(), Refusal>
+    ensures value { cause_in result ≡ (started (ray_from beam)).refused }
+    ensures leaves { Leaves (not (eqb (cause_in result) 0)) (held s.old t.old) (held s.new t.new)
+        (started (ray_from beam)).walker }
 {
-    let started = Walker::new(origin, direction, tmin, tmax);
-    let number = started.refused;
-    let refused = number != 0;
-    if refused {
-        return number;
-    }
-    let walker = started.walker;
+    let walker = Walker::new(beam)?;
     put_walker(s, t, walker);
-    0
+    Ok(())
 }
 
 // Whether an answer is a refusal.
+#[tactic(auto, unfolding(advance::specs::Turn::step_answer))]
 fn is_refused(answer: Answer) -> bool
     ensures { result ≡ is_refused (step_answer answer) }
 {
-    match answer {
-        Answer::Tested(_) => return false,
-        Answer::Position(_) => return false,
-        Answer::Done => return false,
-        Answer::Refused(_) => return true,
-    }
+    matches!(answer, Answer::Refused(_))
 }
 
 // A step of the walker that the words hold, on a record taken to have n positions. A refused step leaves the words as they were.
@@ -219,8 +199,7 @@ pub fn step(s: &mut [u64; 18], t: &mut [u64; 32], record: &[u8], n: usize) -> An
     if refused {
         return answer;
     }
-    let walker = stepped.walker;
-    put_walker(s, t, walker);
+    put_walker(s, t, stepped.walker);
     answer
 }
 

@@ -27,14 +27,11 @@ fn added_levels(words: &[u32], decisions: &[u32], v: usize, entry: usize, depth:
     let left = cost::left_split(word);
     let right = cost::right_split(word);
     let first = words::below_kind(bvh2::link_word(words, v)) as usize;
-    let below = words::greater(
-        added_levels(words, decisions, first, left, depth - 1),
-        added_levels(words, decisions, first + 1, right, depth - 1),
-    );
-    if kind == 2 {
-        return below;
-    }
-    below + 1
+    let in_first = added_levels(words, decisions, first, left, depth - 1);
+    let in_second = added_levels(words, decisions, first + 1, right, depth - 1);
+    let below = in_first.max(in_second);
+    let opened = kind == 2;
+    if opened { below } else { below + 1 }
 }
 
 // The deepest level of the wide tree: how many levels lie below its first node. The root is opened whatever its own decision says.
@@ -49,10 +46,9 @@ pub fn deepest_level(words: &[u32], decisions: &[u32]) -> u32
         let word = decisions[0];
         let left = cost::left_split(word);
         let right = cost::right_split(word);
-        return words::greater(
-            added_levels(words, decisions, first, left, 126),
-            added_levels(words, decisions, first + 1, right, 126),
-        );
+        let in_first = added_levels(words, decisions, first, left, 126);
+        let in_second = added_levels(words, decisions, first + 1, right, 126);
+        return in_first.max(in_second);
     }
     0
 }

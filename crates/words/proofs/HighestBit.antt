@@ -11,9 +11,6 @@ use Rattle.words.specs.Top.{Top}
 use Rattle.words.proofs.Masks.{one_shl}
 
 -- `31 - leading_zeros(n)`, with 31 the w - 1
-pub leading_lt : (w n : ℕ) → zero < n → n < 2 ^ suc w → count_leading_zeros (suc w) n ≤ w
-leading_lt w n p h = let t = leading_top (suc w) n p h in omega (arith, t.1)
-
 pub top_is : (w n : ℕ) → zero < n → n < 2 ^ suc w → Top (suc w) n (w - count_leading_zeros (suc w) n)
 top_is w n p h =
     let t = leading_top (suc w) n p h in

@@ -1,16 +1,21 @@
 -- The laws of a number's fields as a sum, and of a number that lies in a list of bytes.
 use mathlib.Core.Path.{◌≡◌, refl, sym, ap, ap₂, ◌∙◌, subst}
 use mathlib.Core.Logic.{◌⊎◌, inl, inr}
-use mathlib.Core.List.{List}
-use Prim.Native.Nat.{ℕ, zero, suc, ◌+◌, ◌*◌, ◌/◌, ◌%◌, ◌^◌, ◌<◌}
-use native.Mathlib.Nat.{mod-eq_of_lt, mod-one, zero-mul, suc-mul, add_comm, mul_assoc, mul-add-mod_self_right, add-mul-div_right, add-zero}
+use mathlib.Core.List.{List, [], ◌∷◌, ◌++◌, append_assoc}
+use Prim.Native.Nat.{ℕ, zero, suc, ◌+◌, ◌*◌, ◌/◌, ◌%◌, ◌^◌, ◌≤◌, ◌<◌}
+use native.Mathlib.Nat.{mod-eq_of_lt, mod-one, zero-mul, suc-mul, add_comm, mul_assoc, mul-add-mod_self_right, add-mul-div_right}
 use native.Mathlib.Nat.{eq-or-lt_of_le, le_of_suc-le-suc, not-suc-le-zero}
+use native.Mathlib.Numerals.{unary_clauses}
 use native.Mathlib.Omega.{arith}
 use lib.Arith.{digits_lt}
-use lib.Pow.{pow_pos, pow-add, high, mod-pow-add}
-use lib.ListN.{get_or}
+use lib.Pow.{pow_pos, pow-add, high, mod-pow-add, shr-shr}
+use lib.ListN.{length, get_or, set, take, drop, length-set, take-append-drop}
+use lib.Seq.{drop-cons, drop-set-lt, take-suc-set}
+use Rattle.std.specs.Int.{byte_worth, sum_through, to_le_bytes, w32}
+use Rattle.std.proofs.lemmas.List.{get_or-take, get_or-drop}
 use Rattle.words.specs.Fields.{field}
-use Rattle.words.specs.Le.{sum_of, le_at}
+use Rattle.words.specs.Le.{sum_of, le_at, store_le}
+use Rattle.words.specs.Loaded.{Loaded}
 use Rattle.words.proofs.Fields.{field_is}
 
 -- ---- sums
@@ -82,15 +87,46 @@ pub le_byte : (n : ℕ) (s : List ℕ) (at : ℕ) → ((i : ℕ) → i < n → g
 unfolding le_at
 le_byte n s at h = field-sum 8 n (λ i. get_or s (at + i) 0) h
 
--- written out, as code adds them
-pub le4 : (s : List ℕ) (at : ℕ)
-    → le_at 4 s at ≡ get_or s at 0 + get_or s (at + 1) 0 * 0x100 + get_or s (at + 2) 0 * 0x1_0000 + get_or s (at + 3) 0 * 0x100_0000
-unfolding le_at sum_of
-le4 s at = let z : get_or s (at + 0) 0 ≡ get_or s at 0 = ap (λ (x : ℕ). get_or s x 0) (add-zero at) in omega arith
+-- the sum that `from_le_bytes` takes over n bytes
+pow_256 : (k : ℕ) → 256 ^ k ≡ 2 ^ (k * 8)
+pow_256 zero = refl
+pow_256 (suc k) = simp unary_clauses (rw (suc-mul k 8, pow-add 2 (k * 8) 8, pow_256 k))
 
-pub le8 : (s : List ℕ) (at : ℕ)
-    → le_at 8 s at
-    ≡ (get_or s (at + 4) 0 + get_or s (at + 5) 0 * 0x100 + get_or s (at + 6) 0 * 0x1_0000 + get_or s (at + 7) 0 * 0x100_0000) * 0x1_0000_0000
-    + (get_or s at 0 + get_or s (at + 1) 0 * 0x100 + get_or s (at + 2) 0 * 0x1_0000 + get_or s (at + 3) 0 * 0x100_0000)
-unfolding le_at sum_of
-le8 s at = let z : get_or s (at + 0) 0 ≡ get_or s at 0 = ap (λ (x : ℕ). get_or s x 0) (add-zero at) in omega arith
+worth_sum : (f : ℕ → ℕ) (k : ℕ) → sum_through (λ i. byte_worth i (f i)) k ≡ sum_of 8 (suc k) f
+unfolding sum_of
+worth_sum f zero = omega arith
+worth_sum f (suc k) = ap₂ (λ (x y : ℕ). x + f (suc k) * y) (worth_sum f k) (pow_256 (suc k))
+
+-- so the number of n bytes at a place is that sum, and each byte is a field of it
+pub loaded : (k : ℕ) (s bytes : List ℕ) (at r : ℕ) → bytes ≡ take (suc k) (drop at s) → ((i : ℕ) → get_or s i 0 < 256)
+    → r ≡ sum_through (λ i. byte_worth i (get_or bytes i 0)) k → Loaded (suc k) s at r
+unfolding le_at
+loaded k s bytes at r b small e =
+    let here : (i : ℕ) → i < suc k → get_or bytes i 0 ≡ get_or s (at + i) 0 = λ i l. rw (b, get_or-take, get_or-drop) in
+    let sum : r ≡ le_at (suc k) s at = e ∙ worth_sum (λ i. get_or bytes i 0) k ∙ sum_congr 8 (suc k) _ _ here in
+    record { value = sum; bytes = λ i l. ap (field 8 i) sum ∙ le_byte (suc k) s at (λ j m. small (at + j)) i l }
+
+-- ---- bytes written over those at a place, one after the other
+abbrev pub sets : List ℕ → ℕ → ℕ → List ℕ → List ℕ
+sets s at k [] = s
+sets s at k (b ∷ bs) = sets (set s (at + k) b) at (suc k) bs
+
+pub sets_is : (s : List ℕ) (at k : ℕ) (bs : List ℕ) → at + k + length bs ≤ length s
+    → take (at + k) s ++ (bs ++ drop (length bs) (drop (at + k) s)) ≡ sets s at k bs
+sets_is s at k [] h = take-append-drop (at + k) s
+sets_is s at k (b ∷ bs) h =
+    let i : ℕ = at + k in
+    let next : at + suc k ≡ suc i = omega arith in
+    let there : i < length s = omega arith in
+    let front : take (at + suc k) (set s i b) ≡ take i s ++ (b ∷ []) = rw next (take-suc-set s i b there) in
+    let back : drop (at + suc k) (set s i b) ≡ drop (suc i) s = rw next (drop-set-lt (suc i) s i b (omega arith)) in
+    let rest = rw (front, back) at (sets_is (set s i b) at (suc k) bs (simp length-set (omega arith))) in
+    rw (drop-cons s i 0 there) (sym (append_assoc (take i s) (b ∷ []) (bs ++ drop (length bs) (drop (suc i) s))) ∙ rest)
+
+-- the four bytes of a word
+pub stored : (s : List ℕ) (at v : ℕ) → sets s at 0 (to_le_bytes w32 v) ≡ store_le 4 s at v
+unfolding store_le field
+stored s at v =
+    let second : v / 0x100 / 0x100 ≡ v / 0x1_0000 = shr-shr v 8 8 in
+    let third : v / 0x1_0000 / 0x100 ≡ v / 0x100_0000 = shr-shr v 16 8 in
+    simp (second, third)

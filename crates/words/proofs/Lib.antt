@@ -1,5 +1,4 @@
 pub mod Fields
-pub mod Cleared
 pub mod HighestBit
 pub mod Le
 pub mod Masks

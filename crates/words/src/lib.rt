@@ -2,10 +2,10 @@
 // The laws that u32 and u64 share stand in proofs/, with the width as parameter.
 #![tactic(auto)]
 
-ghost use Rattle.std.specs.Prelude.{◌≡◌, ◌+◌, ◌-◌, ◌/◌, ◌^◌, ◌%◌, ◌<◌, ◌≤◌, max, length, replicate};
+ghost use Rattle.std.specs.Prelude.{◌≡◌, ◌+◌, ◌-◌, ◌/◌, ◌^◌, ◌%◌, ◌<◌, ◌≤◌, length, take, drop};
 ghost use Rattle.words.specs.Fields.{field};
 ghost use Rattle.words.specs.Le.{store_le};
-ghost use Rattle.words.specs.Loaded.{Joined, Loaded};
+ghost use Rattle.words.specs.Loaded.{Loaded};
 ghost use Rattle.words.specs.Ones.{ones_below};
 ghost use Rattle.words.specs.Top.{Top};
 
@@ -34,7 +34,7 @@ pub fn rank(imask: u32, slot: u32) -> u32
     requires { slot < 32 }
     ensures { result ≡ ones_below slot imask }
 {
-    u32::count_ones(imask & !(0xffff_ffff << slot))
+    (imask & !(u32::MAX << slot)).count_ones()
 }
 
 // The place of the highest set bit.
@@ -42,7 +42,7 @@ pub fn highest(bits: u32) -> u32
     requires { 0 < bits }
     ensures { Top 32 bits result }
 {
-    31 - u32::leading_zeros(bits)
+    bits.ilog2()
 }
 
 // The word without its highest set bit r.
@@ -50,35 +50,15 @@ pub fn clear_highest(bits: u32, r: u32) -> u32
     requires { Top 32 bits r }
     ensures { (result ≡ bits - 2 ^ r) × (result ≡ bits % 2 ^ r) }
 {
-    bits & !(1u32 << r)
+    bits & !(1 << r)
 }
 
-// The greater of two words.
-pub fn greater(a: u32, b: u32) -> u32
-    ensures { result ≡ max a b }
+// The N bytes at a place of a slice.
+fn bytes_at<const N: usize>(s: &[u8], at: usize) -> [u8; N]
+    requires { at + N ≤ length s.now }
+    ensures { result ≡ take N (drop at s.now) }
 {
-    if a < b {
-        return b;
-    }
-    a
-}
-
-// Sets all words of a slice to zero.
-pub fn clear(s: &mut [u32])
-    ensures { s.new ≡ replicate (length s.old) 0 }
-{
-    let mut i: usize = 0;
-    while i < s.len() {
-        s[i] = 0;
-        i += 1;
-    }
-}
-
-// Four bytes as a word, the lowest first.
-pub fn join4(a: u8, b: u8, c: u8, d: u8) -> u32
-    ensures { Joined a b c d result }
-{
-    a as u32 + b as u32 * 0x100 + c as u32 * 0x1_0000 + d as u32 * 0x100_0000
+    s[at..at + N].try_into().unwrap()
 }
 
 // The word at a place of a slice.
@@ -86,7 +66,7 @@ pub fn load_u32(s: &[u8], at: usize) -> u32
     requires { at + 4 ≤ length s.now }
     ensures { Loaded 4 s.now at result }
 {
-    join4(s[at], s[at + 1], s[at + 2], s[at + 3])
+    u32::from_le_bytes(bytes_at(s, at))
 }
 
 // The 64-bit word at a place of a slice.
@@ -94,9 +74,7 @@ pub fn load_u64(s: &[u8], at: usize) -> u64
     requires { at + 8 ≤ length s.now }
     ensures { Loaded 8 s.now at result }
 {
-    let low = join4(s[at], s[at + 1], s[at + 2], s[at + 3]);
-    let high = join4(s[at + 4], s[at + 5], s[at + 6], s[at + 7]);
-    high as u64 * UPPER + low as u64
+    u64::from_le_bytes(bytes_at(s, at))
 }
 
 // Writes a word at a place of a slice.
@@ -104,16 +82,11 @@ pub fn store_u32(s: &mut [u8], at: usize, v: u32)
     requires { at + 4 ≤ length s.old }
     ensures { s.new ≡ store_le 4 s.old at v }
 {
-    let v1 = v / 256;
-    let v2 = v1 / 256;
-    let v3 = v2 / 256;
-    s[at] = (v % 256) as u8;
-    s[at + 1] = (v1 % 256) as u8;
-    s[at + 2] = (v2 % 256) as u8;
-    s[at + 3] = (v3 % 256) as u8;
+    s[at..at + 4].copy_from_slice(&v.to_le_bytes());
 }
 
 // The lowest byte of a word.
+#[tactic(auto, unfolding(crate::specs::Fields::field))]
 pub fn low_byte(w: u64) -> u32
     ensures { result ≡ field 8 0 w }
 {

@@ -22,21 +22,21 @@ returns-then-is_past c =
     c.rest_of-rest.ensures c.first_child-child.ensures (sym c.lacks_room.ensures ∙ c.if-lacks_room.false)
     (sym c.is_past.ensures ∙ c.if-is_past.true)
 
-pub test_node-t-requires : goal.test_node-t-requires
-test_node-t-requires c =
+pub test_node-requires : goal.test_node-requires
+test_node-requires c =
     let h = not_past c.first_child-child.result c.args.walk.tests (node_count c.args.«record».now)
     (sym c.is_past.ensures ∙ c.if-is_past.false) in
     (omega (arith, h.0), c.requires.0.ends, c.requires.0.eight)
 
-pub returns-then-not-t : goal.returns-then-not-t
+pub returns-in_default : goal.returns-in_default
 unfolding step_answer
-returns-then-not-t c =
+returns-in_default c =
     let a = c.args in
     turn-broken a.«record».now a.n a.ray a.octant a.walk a.stack.now (group_of a.g.group) a.g.depth
     (group_of c.rest_of-rest.result) c.first_child-child.result
     c.rest_of-rest.ensures c.first_child-child.ensures (sym c.lacks_room.ensures ∙ c.if-lacks_room.false)
     (sym c.is_past.ensures ∙ c.if-is_past.false)
-    c.test_node-t.result c.test_node-t.ensures c.if-not-t.true
+    c.test_node.result c.test_node.ensures c.in_default.not-Some
 
 pub overflow_cast-result : goal.overflow_cast-result
 overflow_cast-result c =
@@ -58,5 +58,5 @@ returns c =
     (group_of c.rest_of-rest.result) c.first_child-child.result
     c.rest_of-rest.ensures c.first_child-child.ensures (sym c.lacks_room.ensures ∙ c.if-lacks_room.false)
     (sym c.is_past.ensures ∙ c.if-is_past.false)
-    c.test_node-t.result c.test_node-t.ensures c.if-not-t.false c.follow.result c.wait-depth.result _ c.follow.ensures
+    c.in-Some.ensures c.follow.result c.wait-depth.result _ c.follow.ensures
     c.wait-depth.ensures.value c.wait-depth.ensures.stack_after

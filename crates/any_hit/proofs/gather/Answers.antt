@@ -1,34 +1,24 @@
-use mathlib.Core.Logic.{inl, inr}
-use types.Run.{OneOf}
-use denote.Enum.Declared.{tag_of}
-use Rattle.std.proofs.Common.{◌≡◌, ℕ, [], ◌∷◌, refl, ap, subst, ◌∙◌, rules, arith}
+use Rattle.std.proofs.Common.{◌≡◌, ap, subst, ◌∙◌, arith}
+use Rattle.std.specs.Prelude.{Ok, false}
+use Rattle.causes.specs.declared.Refusal.{Refusal}
 use Rattle.record_shape.specs.Record.{node_count}
 use Rattle.walk.specs.WordStep.{WalkerWords, SteppedWords, seek_words}
 use Rattle.walk_record.specs.WalkRay.{WalkRay, by_boxes}
 use Rattle.walk_record.specs.Record.{FieldsFit, node_words_at}
 use Rattle.walk_record.proofs.Laws.{bytes_fit}
-use Rattle.advance.specs.contracts.Answer.{the_type}
 use Rattle.advance.specs.declared.Answer.{Answer}
-use Rattle.advance.specs.declared.Answer.TheVariants.{Tested, Position, Done, Refused}
+use Rattle.advance.specs.declared.Answer.TheVariants.{Done, Refused}
 use Rattle.advance.specs.declared.Walk.{Walk}
 use Rattle.advance.specs.Turn.{step_answer, group_of, walker_of}
 use Rattle.advance.proofs.Seeks.{seeking_from}
 use Rattle.query.specs.Walk.{RecordSized}
 use Rattle.query.proofs.Begins.{walkable}
-use Rattle.any_hit.specs.declared.State.TheVariants.{Paused}
-use Rattle.any_hit.specs.Gather.{pause_of}
+use Rattle.any_hit.specs.Gather.{done_by}
 use Rattle.any_hit.proofs.Walks.{walk_kept, walk_over, After, walk_seeks, walk_goes, walk_past, Noted, walk_notes}
 use Rattle.any_hit.proofs.gather.Goals as goal
 use Rattle.any_hit.proofs.gather.Goals.{After-walk_after-next, After-rest_of-positions}
 
 -- ---- from node to node
-
--- what goes on has tested a node or reports a position
-keys : (a : Answer) → (a ≡ Done → ⊥) → ((k : ℕ) → a ≡ Refused k → ⊥) → OneOf (0 ∷ 1 ∷ []) (tag_of the_type a)
-keys (Tested v) d r = inl refl
-keys (Position p) d r = inr refl
-keys Done d r = absurd (d refl)
-keys (Refused k) d r = absurd (r k refl)
 
 module _ (c : After-walk_after-next) where
   sized : RecordSized c.args.«record».now c.args.n
@@ -41,7 +31,7 @@ module _ (c : After-walk_after-next) where
   abbrev u : WalkerWords WalkRay
   u = walker_of c.args.ray c.args.octant c.walk_after-next.result c.seek-turn.new.stack
 
-  after : After sized fit c.loop-count.invariant.2 (pause_of c.seek-turn.result.answer) u
+  after : After sized fit c.loop-count.invariant.2 (done_by c.seek-turn.result.answer) u
   after =
       let a = c.args in
       let turned : Walk → SteppedWords WalkRay =
@@ -52,16 +42,13 @@ module _ (c : After-walk_after-next) where
       (seeking_from a.ray a.octant c.loop-count.stack c.loop-count.walk c.loop-count.invariant.0))
 
   -- by its answer
-  stated : (b : Answer) → c.seek-turn.result.answer ≡ b → After sized fit c.loop-count.invariant.2 (pause_of b) u
-  stated b e = subst (λ (x : Answer). After sized fit c.loop-count.invariant.2 (pause_of x) u) e after
+  stated : (b : Answer) → c.seek-turn.result.answer ≡ b → After sized fit c.loop-count.invariant.2 (done_by b) u
+  stated b e = subst (λ (x : Answer). After sized fit c.loop-count.invariant.2 (done_by x) u) e after
 
   -- it goes on
-  paused : (c.seek-turn.result.answer ≡ Done → ⊥) → ((k : ℕ) → c.seek-turn.result.answer ≡ Refused k → ⊥)
-      → After sized fit c.loop-count.invariant.2 Paused u
-  paused d r = walk_goes sized fit c.loop-count.invariant.2 c.seek-turn.result.answer u after (keys c.seek-turn.result.answer d r)
-
-pub loop-count-init : goal.loop-count-init
-loop-count-init c = (c.requires.e_value.1, c.requires.e_value.2, c.requires.record_sized.1)
+  goes : (c.seek-turn.result.answer ≡ Done → ⊥) → ((f : Refusal) → c.seek-turn.result.answer ≡ Refused f → ⊥)
+      → After sized fit c.loop-count.invariant.2 (Ok false) u
+  goes = walk_goes sized fit c.loop-count.invariant.2 c.seek-turn.result.answer u after
 
 pub seek-turn-requires : goal.seek-turn-requires
 seek-turn-requires c =
@@ -70,21 +57,21 @@ seek-turn-requires c =
     walkable _ _ c.requires.record_sized.0 (walker_of a.ray a.octant c.loop-count.walk c.loop-count.stack) w.leads.way _ c.requires.e_value.0
 
 pub returns-in-Done : goal.returns-in-Done
-unfolding pause_of
+unfolding done_by
 returns-in-Done c = (c.loop-count.invariant.1, stated (goal.at.returns-in-Done c).After-walk_after-next _ c.in-Done.is)
 
 pub returns-in-Refused : goal.returns-in-Refused
-unfolding pause_of
-returns-in-Refused c = (c.loop-count.invariant.1, stated (goal.at.returns-in-Refused c).After-walk_after-next _ c.in-Refused.is)
+unfolding done_by
+returns-in-Refused c = stated (goal.at.returns-in-Refused c).After-walk_after-next _ c.in-Refused.is
 
 pub loop-walk-init : goal.loop-walk-init
 loop-walk-init c =
-    let g = paused (goal.at.loop-walk-init c).After-walk_after-next c.in_default.not-Done c.in_default.not-Refused in
+    let g = goes (goal.at.loop-walk-init c).After-walk_after-next c.in_default.not-Done c.in_default.not-Refused in
     (omega arith, omega (arith, g.2), omega arith, walk_kept g.0)
 
 pub loop-count-smaller : goal.loop-count-smaller
 loop-count-smaller c =
-    let g = paused (goal.at.loop-count-smaller c).After-walk_after-next c.in_default.not-Done c.in_default.not-Refused in
+    let g = goes (goal.at.loop-count-smaller c).After-walk_after-next c.in_default.not-Done c.in_default.not-Refused in
     omega (arith, g.1, c.loop-walk.invariant.2)
 
 pub loop-count-preserved : goal.loop-count-preserved
@@ -113,19 +100,8 @@ module _ (c : After-rest_of-positions) where
 pub returns-then-p-n : goal.returns-then-p-n
 returns-then-p-n c =
     let p = c.first_position-p in
-    let fit = bytes_fit _ (λ i. (c.type_inv.record i).fits) in (
-      omega (arith, c.loop-walk.invariant.1),
-      walk_past c.requires.record_sized.0 fit c.loop-walk.invariant.3 c.loop-walk-test.true p.result p.ensures c.if-p-n.true,
-    )
-
-pub overflow_cast-p : goal.overflow_cast-p
-overflow_cast-p c = let h = c.requires.record_sized.0.positions in search rules
-
-pub overflow_add-count : goal.overflow_add-count
-overflow_add-count c =
-    let h = c.requires.record_sized.0.nodes in
-    let f = c.loop-walk.invariant.3.few in
-    search rules
+    let fit = bytes_fit _ (λ i. (c.type_inv.record i).fits) in
+    walk_past c.requires.record_sized.0 fit c.loop-walk.invariant.3 c.loop-walk-test.true p.result p.ensures c.if-p-n.true
 
 pub loop-walk-smaller : goal.loop-walk-smaller
 loop-walk-smaller c = let h = (noted (goal.at.loop-walk-smaller c).After-rest_of-positions).1 in omega (arith, h)

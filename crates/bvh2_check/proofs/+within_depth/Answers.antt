@@ -33,9 +33,9 @@ whole_both : (ws : List ℕ) (d v f : ℕ) → link_at ws v ≡ children f → 0
 whole_both ws d v f e h {a} {b} p t q = sym (ap (λ (x : Bool). x && b) t) ∙ (λ i. p i && q i) ∙ both_whole ws d v f e h
 
 whole_left : (ws : List ℕ) (d v f : ℕ) → link_at ws v ≡ children f → 0 < d → {a : Bool} → a ≡ is_whole ws (tree_at ws (d - 1) f) → a ≡ false
-    → false ≡ is_whole ws (tree_at ws d v)
+    → a ≡ is_whole ws (tree_at ws d v)
 whole_left ws d v f e h {a} p t =
-    ap (λ (x : Bool). x && is_whole ws (tree_at ws (d - 1) (f + 1))) (sym t ∙ p) ∙ both_whole ws d v f e h
+    t ∙ ap (λ (x : Bool). x && is_whole ws (tree_at ws (d - 1) (f + 1))) (sym t ∙ p) ∙ both_whole ws d v f e h
 
 -- what the code reads there: the link, its kind and its index
 module _ (ws : List ℕ) (v link kind : ℕ) (h : InTree ws v) (l : link ≡ word_at ws v 6) (k : kind ≡ link / 0x4000_0000) where

@@ -1,51 +1,42 @@
-use mathlib.Core.Path.{ap}
-use mathlib.Core.Bool.{not}
+use mathlib.Core.Bool.{true, false}
+use mathlib.Core.Path.{refl, sym}
 use native.Mathlib.Omega.{arith}
-use Rattle.bvh2_check.proofs.Tests.{was_false, was_true}
-use Rattle.bvh2_check.proofs.Verdict.{judge_5, judge_6, Begun, begun, ready, marks_enough, stopped, unmarked, complete}
+use Rattle.causes.specs.Causes.{first_cause}
+use Rattle.bvh2_check.specs.Marking.{mark_count}
+use Rattle.bvh2_check.proofs.Verdict.{judge_5, judge_6, Begun, ready, ended}
 use Rattle.bvh2_check.proofs.judge.Goals as goal
 use Rattle.bvh2_check.proofs.judge.Goals.{Else-not-boxes_accepted}
+use Rattle.bvh2_check.proofs.judge.Goals.{then-not-visit-via-then-not-visit, then-not-visit-via-else-not-visit+then-not-all_marked}
 
-begun_at : (c : Else-not-boxes_accepted) → Begun c.args.words.now c.args.n c.args.marks.now
-begun_at c =
-    begun _ _ _ _ _ c.requires
-    c.links_inside.ensures (ap not c.if-not-links_inside.false)
-    c.boxes_accepted.ensures (ap not c.if-not-boxes_accepted.false)
+begun : (c : Else-not-boxes_accepted) → Begun c.args.words.now c.args.n c.args.marks.now
+begun c = record {
+  sized = c.requires.0;
+  pos = c.requires.1;
+  zeros = c.requires.2;
+  links = sym c.if-not-links_inside.ensures;
+  boxes = sym c.if-not-boxes_accepted.ensures;
+}
 
 pub returns-then-not-links_inside : goal.returns-then-not-links_inside
-returns-then-not-links_inside c =
-    judge_5 _ _ c.requires.1 (was_false _ _ c.links_inside.ensures (ap not c.if-not-links_inside.true))
+returns-then-not-links_inside c = judge_5 _ _ c.requires.1 (sym c.if-not-links_inside.ensures)
 
 pub returns-then-not-boxes_accepted : goal.returns-then-not-boxes_accepted
-returns-then-not-boxes_accepted c =
-    judge_6 _ _ c.requires.1
-    (was_true _ _ c.links_inside.ensures (ap not c.if-not-links_inside.false))
-    (was_false _ _ c.boxes_accepted.ensures (ap not c.if-not-boxes_accepted.true))
+returns-then-not-boxes_accepted c = judge_6 _ _ c.requires.1 (sym c.if-not-links_inside.ensures) (sym c.if-not-boxes_accepted.ensures)
 
 pub visit-requires : goal.visit-requires
-visit-requires c = ready (begun_at (goal.at.visit-requires c).Else-not-boxes_accepted)
+visit-requires c = ready (begun (goal.at.visit-requires c).Else-not-boxes_accepted)
 
 pub returns-then-not-visit : goal.returns-then-not-visit
+unfolding first_cause
 returns-then-not-visit c =
-    stopped _ _ _ c.visit.new.marks c.visit.result
-    (begun_at (goal.at.returns-then-not-visit c).Else-not-boxes_accepted)
-    c.visit.ensures (ap not c.if-not-visit.true)
-
-pub all_marked-requires : goal.all_marked-requires
-all_marked-requires c =
-    let e = marks_enough c.visit.new.marks (begun_at (goal.at.all_marked-requires c).Else-not-boxes_accepted) c.visit.auto.marks in
-    omega arith
-
-pub returns-then-not-all_marked : goal.returns-then-not-all_marked
-returns-then-not-all_marked c =
-    unmarked _ _ _ c.visit.new.marks c.visit.result
-    (begun_at (goal.at.returns-then-not-all_marked c).Else-not-boxes_accepted)
-    c.visit.ensures _ _ (omega arith) (ap not c.if-not-visit.false)
-    c.all_marked.ensures (ap not c.if-not-all_marked.true)
+    let b = begun (goal.at.returns-then-not-visit c).Else-not-boxes_accepted in
+    elim c.then-not-visit.branch [
+      | then-not-visit-via-then-not-visit w ↦ ended b _ false w.if-not-visit.ensures (mark_count c.args.n) refl _ refl
+      | then-not-visit-via-else-not-visit+then-not-all_marked w ↦
+          ended b _ true w.if-not-visit.ensures _ (omega arith) false w.if-not-all_marked.ensures
+    ]
 
 pub returns : goal.returns
+unfolding first_cause
 returns c =
-    complete _ _ _ c.visit.new.marks c.visit.result
-    (begun_at (goal.at.returns c).Else-not-boxes_accepted)
-    c.visit.ensures _ _ (omega arith) (ap not c.if-not-visit.false)
-    c.all_marked.ensures (ap not c.if-not-all_marked.false)
+    ended (begun (goal.at.returns c).Else-not-boxes_accepted) _ true c.if-not-visit.ensures _ (omega arith) true c.if-not-all_marked.ensures

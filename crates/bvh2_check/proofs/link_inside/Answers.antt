@@ -1,13 +1,12 @@
+use native.Mathlib.Omega.{arith}
 use Rattle.bvh2_check.proofs.Tests.{inside_children, inside_position, inside_malformed}
 use Rattle.bvh2_check.proofs.link_inside.Goals as goal
 
-pub returns-then-kind-eq0 : goal.returns-then-kind-eq0
-returns-then-kind-eq0 c =
-    inside_children _ _ c.kind-kind.ensures c.below_kind-low.ensures c.if-kind-eq0.true
+pub returns-in-0 : goal.returns-in-0
+returns-in-0 c = inside_children _ _ c.kind.ensures c.below_kind-low.ensures c.in-0.is
 
-pub returns-then-kind-eq1 : goal.returns-then-kind-eq1
-returns-then-kind-eq1 c =
-    inside_position _ _ c.kind-kind.ensures c.below_kind-low.ensures c.if-kind-eq1.true
+pub returns-in-1 : goal.returns-in-1
+returns-in-1 c = inside_position _ _ c.kind.ensures c.below_kind-low.ensures c.in-1.is
 
-pub returns : goal.returns
-returns c = inside_malformed _ _ c.kind-kind.ensures c.if-kind-eq0.false c.if-kind-eq1.false
+pub returns-in_default : goal.returns-in_default
+returns-in_default c = inside_malformed _ _ c.kind.ensures (λ e. omega arith) (λ e. omega arith)

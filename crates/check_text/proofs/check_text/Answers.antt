@@ -11,5 +11,5 @@ pub returns : goal.returns
 returns c =
     let e = c.put_answer.ensures in
     let n = c.load_u32-n.ensures.value in
-    let w = wrote_checked _ _ _ _ _ _ _ c.if-input-lt4.false n c.requires.0 c.validate-v.ensures.result_value (e.value, e.out_after) in
+    let w = wrote_checked _ _ _ _ _ _ _ c.if-input-lt4.false n c.requires.0 c.validate-verdict.ensures.result_value (e.value, e.out_after) in
     record { value = w.0; out_after = w.1 }

@@ -1,41 +1,46 @@
-use Rattle.std.proofs.Common.{ap, ◌∙◌}
+use Rattle.std.proofs.Common.{◌≡◌, ap, ◌∙◌, rules}
+use Rattle.causes.specs.Refusal.{cause_number, cause_in}
 use Rattle.walk.specs.Queries.{miss}
 use Rattle.walk_record.proofs.Laws.{bytes_fit}
+use Rattle.query.specs.Result.{unanswered}
 use Rattle.closest.specs.Panes.{pane_of, nearer, refused_miss, miss_found, miss_walk, miss_of, miss_answer, miss_result}
 use Rattle.closest.proofs.Queries.{Reacts}
 use Rattle.closest.proofs.Starts.{Starting, start_refused, start_walked, start_ready, start_empty}
 use Rattle.closest.proofs.miss.Goals as goal
-use Rattle.closest.proofs.miss.Goals.{After-entry_cause-cause}
+use Rattle.closest.proofs.miss.Goals.{After-check_entry}
 
-module _ (c : After-entry_cause-cause) where
+module _ (c : After-check_entry) where
   -- what is known once the cause on entry is found
   starting : let a = c.args in
-      Starting a.«record».now a.indices.now a.panes.now a.origin a.direction a.tmin a.tmax c.new-ray.result c.entry_cause-cause.result
-  starting = record { ray_is = c.new-ray.ensures; cause_is = c.entry_cause-cause.ensures }
+      Starting a.«record».now a.indices.now a.panes.now a.beam c.new-ray.result (cause_in c.check_entry.result)
+  starting = record { ray_is = c.new-ray.ensures; cause_is = c.check_entry.ensures }
 
   -- what it does at a position
   abbrev react : Reacts
   react = miss (pane_of c.args.indices.now c.args.panes.now) nearer
 
-pub returns-then-cause-gt0 : goal.returns-then-cause-gt0
-unfolding miss_of miss_answer miss_walk
-returns-then-cause-gt0 c =
-    let k = (goal.at.returns-then-cause-gt0 c).After-entry_cause-cause in
-    ap miss_result c.refused_miss.ensures ∙ start_refused (starting k) refused_miss miss_found (react k) c.if-cause-gt0.true
+pub returns-in_err-check_entry : goal.returns-in_err-check_entry
+unfolding miss_of miss_result miss_walk
+returns-in_err-check_entry c =
+    let k = (goal.at.returns-in_err-check_entry c).After-check_entry in
+    let f = c.in_err-check_entry.field-0.0 in
+    let own : miss_result c.from_residual.result ≡ unanswered (refused_miss (cause_number f)) = search rules in
+    own ∙ start_refused (starting k) refused_miss miss_found (react k) f (ap cause_in c.in_err-check_entry.was)
 
 pub returns-then-record-eq0 : goal.returns-then-record-eq0
-unfolding miss_of miss_answer miss_found miss_walk
+unfolding miss_of miss_result miss_answer miss_found miss_walk
 returns-then-record-eq0 c =
-    let k = (goal.at.returns-then-record-eq0 c).After-entry_cause-cause in
+    let k = (goal.at.returns-then-record-eq0 c).After-check_entry in
     let fit = bytes_fit _ (λ j. (c.type_inv.record j).fits) in
-    start_empty (starting k) refused_miss miss_found (react k) c.if-cause-gt0.false c.if-record-eq0.true fit
+    start_empty (starting k) refused_miss miss_found (react k) (ap cause_in c.in_ok-check_entry.was) c.if-record-eq0.true fit
 
 pub walk_miss-requires : goal.walk_miss-requires
 walk_miss-requires c =
-    start_ready (starting (goal.at.walk_miss-requires c).After-entry_cause-cause) c.if-cause-gt0.false c.if-record-eq0.false
+    let k = (goal.at.walk_miss-requires c).After-check_entry in
+    start_ready (starting k) (ap cause_in c.in_ok-check_entry.was) c.if-record-eq0.false
 
 pub returns : goal.returns
 unfolding miss_of miss_walk
 returns c =
-    let k = (goal.at.returns c).After-entry_cause-cause in
-    c.walk_miss.ensures ∙ start_walked (starting k) refused_miss miss_found (react k) c.if-cause-gt0.false
+    let k = (goal.at.returns c).After-check_entry in
+    c.walk_miss.ensures ∙ start_walked (starting k) refused_miss miss_found (react k) (ap cause_in c.in_ok-check_entry.was)

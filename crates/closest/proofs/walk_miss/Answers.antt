@@ -1,51 +1,42 @@
-use Rattle.std.proofs.Common.{length, refl, sym, ap, ◌∙◌, arith}
+use Rattle.std.proofs.Common.{◌≡◌, length, refl, sym, ap, ◌∙◌, arith, rules}
+use Rattle.causes.specs.Refusal.{cause_number}
 use Rattle.walk.specs.Queries.{none, miss}
 use Rattle.walk_record.proofs.Laws.{bytes_fit}
+use Rattle.query.specs.Result.{unanswered}
 use Rattle.query.proofs.Begins.{walkable, leads_begun}
 use Rattle.closest.specs.declared.Occlusion.{Occlusion}
 use Rattle.closest.specs.Panes.{pane_of, nearer, refused_miss, miss_found, miss_walk, miss_answer, miss_result}
-use Rattle.closest.proofs.Queries.{Setting, miss_in, AtPosition, AfterSearch, after_search}
+use Rattle.closest.proofs.Queries.{Setting, setting_of, miss_in, AtPosition, AfterSearch, after_search}
 use Rattle.closest.proofs.Queries.{ends_done, ends_refused, miss_fails, miss_blocks, miss_passes}
 use Rattle.closest.proofs.Queries.{search_tested, search_done, search_refused, search_no_position}
 use Rattle.closest.proofs.walk_miss.Goals as goal
-use Rattle.closest.proofs.walk_miss.Goals.{After-rest_of-positions, After-walk_after-next}
+use Rattle.closest.proofs.walk_miss.Goals.{After-position_met, After-walk_after-next}
 
 -- ---- once a position is met
 
-module _ (c : After-rest_of-positions) where
+module _ (c : After-position_met) where
   -- what the walk is over
   abbrev setting : Setting
-  setting = record {
-    bytes = c.args.bytes.now;
-    indices = c.args.indices.now;
-    panes = c.args.panes.now;
-    octant = c.octant-octant.result;
-    sized = c.requires.0;
-    fit = bytes_fit _ (λ j. (c.type_inv.bytes j).fits);
-  }
+  setting =
+      let a = c.args in
+      setting_of a.bytes.now a.indices.now a.panes.now c.octant-octant.result c.requires.0 (bytes_fit _ (λ j. (c.type_inv.bytes j).fits))
 
   at : AtPosition setting (miss_in setting) (miss_walk c.args.bytes.now c.args.indices.now c.args.panes.now c.args.ray) c.args.ray
-      c.loop-walk.walk c.walk.stack none c.first_position-p.result c.position_met-met.result c.rest_of-positions.result
+      c.loop-walk.walk c.walk.stack none c.first_position-p.result c.position_met.result
   at = record {
     leads = c.loop-walk.invariant.2;
     held = c.loop-walk-test.true;
     named = c.first_position-p.ensures;
-    pane = c.position_met-met.ensures;
-    rest = c.rest_of-positions.ensures;
+    pane = c.position_met.ensures;
   }
 
 -- ---- after a search
 
 module _ (c : After-walk_after-next) where
   abbrev setting_then : Setting
-  setting_then = record {
-    bytes = c.args.bytes.now;
-    indices = c.args.indices.now;
-    panes = c.args.panes.now;
-    octant = c.octant-octant.result;
-    sized = c.requires.0;
-    fit = bytes_fit _ (λ j. (c.type_inv.bytes j).fits);
-  }
+  setting_then =
+      let a = c.args in
+      setting_of a.bytes.now a.indices.now a.panes.now c.octant-octant.result c.requires.0 (bytes_fit _ (λ j. (c.type_inv.bytes j).fits))
 
   after : AfterSearch setting_then (miss_in setting_then) (miss_walk c.args.bytes.now c.args.indices.now c.args.panes.now c.args.ray) c.args.ray
       c.loop-walk.walk c.walk.stack none (record { answer = c.seek-turn.result.answer; walk = c.walk_after-next.result }) c.seek-turn.new.stack
@@ -61,26 +52,25 @@ walk-init c =
           a.ray c.requires.1 c.octant-octant.result c.octant-octant.ensures c.begin-walk.result c.begin-walk.ensures,
     )
 
-pub loop-walk-init : goal.loop-walk-init
-loop-walk-init c = let l = c.walk.invariant in (l.0, omega arith, l.1)
-
 pub loop-walk-smaller : goal.loop-walk-smaller
 loop-walk-smaller c =
-    let k = (goal.at.loop-walk-smaller c).After-rest_of-positions in
-    (miss_passes (at k) c.in-At.distance c.in-At.is (sym c.counts.ensures ∙ c.if-counts.false)).less
+    let k = (goal.at.loop-walk-smaller c).After-position_met in
+    (miss_passes (at k) _ c.rest_of-positions.ensures _ c.in_ok-distance.was (sym c.counts.ensures ∙ c.if-counts.false)).less
 
 pub loop-walk-preserved : goal.loop-walk-preserved
 loop-walk-preserved c =
-    let k = (goal.at.loop-walk-preserved c).After-rest_of-positions in
-    let g = miss_passes (at k) c.in-At.distance c.in-At.is (sym c.counts.ensures ∙ c.if-counts.false) in
+    let k = (goal.at.loop-walk-preserved c).After-position_met in
+    let g = miss_passes (at k) _ c.rest_of-positions.ensures _ c.in_ok-distance.was (sym c.counts.ensures ∙ c.if-counts.false) in
     let i = c.loop-walk.invariant in
     (i.0, omega (arith, g.less, i.1), g.leads)
 
-pub returns-in-Faulty : goal.returns-in-Faulty
-unfolding miss_answer
-returns-in-Faulty c =
-    let k = (goal.at.returns-in-Faulty c).After-rest_of-positions in
-    ap miss_result c.refused_miss.ensures ∙ miss_fails (at k) c.in-Faulty.cause c.in-Faulty.is
+pub returns-in_err-distance : goal.returns-in_err-distance
+unfolding miss_result
+returns-in_err-distance c =
+    let k = (goal.at.returns-in_err-distance c).After-position_met in
+    let f = c.in_err-distance.field-0.0 in
+    let own : miss_result c.from_residual.result ≡ unanswered (refused_miss (cause_number f)) = search rules in
+    own ∙ miss_fails (at k) f c.in_err-distance.was
 
 pub seek-turn-requires : goal.seek-turn-requires
 seek-turn-requires c = walkable _ _ c.requires.0 _ c.loop-walk.invariant.2.way c.near_ends-e.result c.near_ends-e.ensures
@@ -96,24 +86,23 @@ walk-preserved c =
     (c.loop-walk.invariant.0, (search_tested (after k) _ c.in-Tested.is).leads)
 
 pub returns-in-Refused : goal.returns-in-Refused
-unfolding miss_answer
+unfolding miss_result
 returns-in-Refused c =
     let k = (goal.at.returns-in-Refused c).After-walk_after-next in
-    ap miss_result c.refused_miss-in-Refused.ensures
-    ∙ ends_refused refused_miss miss_found (search_refused (after k) c.in-Refused.cause c.in-Refused.is)
+    ends_refused refused_miss miss_found (search_refused (after k) c.in-Refused.refusal c.in-Refused.is)
 
 pub returns-in-Position : goal.returns-in-Position
 returns-in-Position c =
     absurd (search_no_position (after (goal.at.returns-in-Position c).After-walk_after-next) _ c.in-Position.is)
 
 pub returns-then-counts : goal.returns-then-counts
-unfolding miss_answer
+unfolding miss_answer miss_result
 returns-then-counts c =
-    let k = (goal.at.returns-then-counts c).After-rest_of-positions in
-    miss_blocks (at k) c.in-At.distance c.in-At.is (sym c.counts.ensures ∙ c.if-counts.true)
+    let k = (goal.at.returns-then-counts c).After-position_met in
+    miss_blocks (at k) _ c.in_ok-distance.was (sym c.counts.ensures ∙ c.if-counts.true)
 
 pub returns-in-Done : goal.returns-in-Done
-unfolding miss_answer miss_found
+unfolding miss_answer miss_found miss_result
 returns-in-Done c =
     let k = (goal.at.returns-in-Done c).After-walk_after-next in
     ap (λ (a : Occlusion). record { answer = miss_answer a; tests = c.walk_after-next.result.tests }) c.loop-walk.invariant.0

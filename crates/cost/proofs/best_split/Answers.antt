@@ -1,5 +1,5 @@
 use mathlib.Core.Path.{◌≡◌, refl}
-use Prim.Native.Nat.{ℕ, suc, ◌+◌, ◌-◌, ◌≤◌, ◌<◌}
+use Prim.Native.Nat.{ℕ, suc, ◌+◌, ◌-◌}
 use native.Mathlib.Omega.{arith}
 use native.Mathlib.Numerals.{add-one}
 use lib.Ieee.{Float, binary32, add}
@@ -14,23 +14,16 @@ step : (l r : ℕ → Float) (n : ℕ) (start : Float) (k : ℕ) {s t : Split} �
 unfolding best_of
 step l r n start k e g = rw (add-one k, ← e) g
 
-all : (l r : ℕ → Float) (n : ℕ) (start : Float) (k : ℕ) {s : Split} → k ≤ suc n → n < k → s ≡ best_of l r n start k → s ≡ best_of l r n start (suc n)
-all l r n start k h g e = let q : k ≡ suc n = omega arith in rw q at e
-
 pub loop-k-init : goal.loop-k-init
 unfolding best_of
-loop-k-init c = (omega arith, refl)
+loop-k-init c = refl
 
 pub loop-k-preserved : goal.loop-k-preserved
 loop-k-preserved c =
-    let x = c.args in (
-      omega arith,
-      step (costs_at x.costs.now x.first) (costs_at x.costs.now (x.first + 1)) x.n x.start c.loop-k.k
-          c.loop-k.invariant.1 c.better-best.ensures,
-    )
+    let x = c.args in
+    step (costs_at x.costs.now x.first) (costs_at x.costs.now (x.first + 1)) x.n x.start c.loop-k.k c.loop-k.invariant c.better-best.ensures
 
 pub returns : goal.returns
 returns c =
-    let x = c.args in
-    all (costs_at x.costs.now x.first) (costs_at x.costs.now (x.first + 1)) x.n x.start c.loop-k.k
-    c.loop-k.invariant.0 c.loop-k-test.false c.loop-k.invariant.1
+    let e : c.loop-k.k ≡ suc c.args.n = omega arith in
+    rw e at c.loop-k.invariant

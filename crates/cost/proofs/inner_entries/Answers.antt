@@ -18,16 +18,10 @@ pub loop-i-init : goal.loop-i-init
 unfolding of_bits
 loop-i-init c =
     let x = c.args in record {
-      few = omega arith;
       entry = first_stored x.area x.count x.limit (costs_at x.costs.now x.first) (costs_at x.costs.now (x.first + 1))
           c.best_split-s.ensures c.first_entry-e.ensures;
       filled = filled_none (entry_from x.costs.now x.first x.area x.count x.limit) (x.v * 7) x.decisions.now x.costs.now;
     }
-
-pub best_split-s-requires-in-loop-i : goal.best_split-s-requires-in-loop-i
-best_split-s-requires-in-loop-i c =
-    let h = (turn_writes c.loop-i.invariant).costs_length in
-    (omega arith, omega arith)
 
 pub next_entry-e-requires : goal.next_entry-e-requires
 next_entry-e-requires c =
@@ -38,7 +32,6 @@ loop-i-preserved c =
     let x = c.args in
     let h = c.loop-i.invariant in
     let f = turn_writes h in record {
-      few = omega arith;
       entry =
           entry_next x.area x.count x.limit (costs_at x.costs.now x.first) (costs_at x.costs.now (x.first + 1)) _ _
           c.loop-i.i
@@ -50,5 +43,5 @@ loop-i-preserved c =
 
 pub returns : goal.returns
 returns c =
-    let f = last_writes c.loop-i-test.false c.loop-i.invariant in
+    let f = last_writes (omega arith) c.loop-i.invariant in
     record { decisions_after = f.words; costs_after = f.costs }

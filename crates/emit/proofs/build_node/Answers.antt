@@ -30,7 +30,7 @@ next c =
     let p = goal.at.After-own_slot-held c in
     let s = c.args in
     first_next s.indices.now (box_at s.words.now s.v) s.start (cells p.Start) s.out.now c.loop-i.i
-    (own c) c.loop-i.out _ _ c.loop-i.invariant.2
+    (own c) c.loop-i.out _ _ c.loop-i.invariant.1
     (c.own_slot-held.ensures.value (box_at s.words.now s.v) (c.grid_of-grid.ensures ∙ ap grid_of c.node_box-b.ensures))
     c.own_slot-held.ensures.out_after
 
@@ -43,7 +43,7 @@ few_next c =
 
 pub loop-i-init : goal.loop-i-init
 unfolding first_slots
-loop-i-init c = (omega arith, refl, refl)
+loop-i-init c = (refl, refl)
 
 pub overflow_add-imask : goal.overflow_add-imask
 overflow_add-imask c = omega (arith, (few_next (goal.at.overflow_add-imask c).After-own_slot-held).0)
@@ -53,7 +53,7 @@ overflow_add-inner c = omega (arith, (few_next (goal.at.overflow_add-inner c).Af
 
 pub loop-i-preserved : goal.loop-i-preserved
 loop-i-preserved c =
-    (omega arith, c.own_slot-held.auto.out ∙ c.loop-i.invariant.1, rw add-one (next (goal.at.loop-i-preserved c).After-own_slot-held))
+    (c.own_slot-held.auto.out ∙ c.loop-i.invariant.0, rw add-one (next (goal.at.loop-i-preserved c).After-own_slot-held))
 
 -- the box is an accepted one
 pub float_to_bits-node : goal.float_to_bits-node
@@ -68,14 +68,14 @@ float_to_bits-node-3 c = rw c.node_box-b.ensures (corner_numbers (box_at _ _) c.
 pub overflow_cast-node : goal.overflow_cast-node
 overflow_cast-node c =
     let p = goal.at.overflow_cast-node c in
-    omega (arith, (few p.Start c.loop-i.i (own_end p.After-loop-i) c.loop-i.invariant.0 (ap (λ (x : OwnState). x.own) c.loop-i.invariant.2)).0)
+    omega (arith, (few p.Start c.loop-i.i (own_end p.After-loop-i) c.loop-i.auto.i-end (ap (λ (x : OwnState). x.own) c.loop-i.invariant.1)).0)
 
 pub returns : goal.returns
 returns c =
     let p = goal.at.returns c in
     let s = c.args in
-    let e : c.loop-i.i ≡ 8 = let h = c.loop-i.invariant.0 in let k = c.loop-i-test.false in omega arith in
-    let a = c.loop-i.invariant.2 ∙ ap (slots_upto p.Start) e in
+    let e : c.loop-i.i ≡ 8 = let h = c.loop-i.auto.i-end in let k = c.loop-i-test.false in omega arith in
+    let a = c.loop-i.invariant.1 ∙ ap (slots_upto p.Start) e in
     record {
       node =
           (built s.words.now s.v s.count s.start c.node_box-b.result c.grid_of-grid.result (own_end p.After-loop-i) _ c.node_box-b.ensures

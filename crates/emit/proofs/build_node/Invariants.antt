@@ -1,5 +1,4 @@
 use mathlib.Core.Path.{◌≡◌}
-use Prim.Native.Nat.{◌-◌, ◌≤◌}
 use lib.ListN.{length, get_or}
 use Rattle.bvh2.specs.Words.{box_at}
 use Rattle.emit.specs.Own.{made, cell_of, first_slots}
@@ -7,9 +6,6 @@ use Rattle.emit.proofs.build_node.Given as goal
 
 abbrev pub invariant-loop-i : goal.invariant-loop-i
 invariant-loop-i l =
-    (l.i ≤ 8) × (length l.out ≡ length l.initial.out)
+    (length l.out ≡ length l.initial.out)
     × (made (record { metas = l.metas; boxes = l.boxes; imask = l.imask; inner = l.inner; at = l.at }) l.out
     ≡ first_slots l.indices (box_at l.words l.v) l.start (λ j. cell_of l.words l.decisions l.depth (get_or l.slots j 0)) l.i l.initial.out)
-
-abbrev pub decreases-loop-i : goal.decreases-loop-i
-decreases-loop-i l = 8 - l.i

@@ -28,9 +28,6 @@ returns-then-v-eq4294967295 c =
 pub node_box-b-requires : goal.node_box-b-requires
 node_box-b-requires c = let r = (node (c.requires.1.tree c.if-v-eq4294967295.false)).room in omega arith
 
-pub bounds-decisions-child : goal.bounds-decisions-child
-bounds-decisions-child c = c.requires.1.decided c.if-v-eq4294967295.false
-
 pub write_leaves-next-requires : goal.write_leaves-next-requires
 write_leaves-next-requires c =
     let s = c.args in

@@ -9,7 +9,7 @@ use Rattle.emit_tree.specs.Emission.{EmitNode, Emits, EmitRoom, is_inner, wide_s
 use Rattle.emit_tree.proofs.Entering.{own_ready, build_asks, free_nodes, node-entered, room_begun}
 use Rattle.emit_tree.proofs.Emitting.{Loop, loop_begun, loop_reads, loop_child, loop_inner, loop_other, loop_end, loop_as}
 use Rattle.emit_tree.proofs.+emit_node.Goals as goal
-use Rattle.emit_tree.proofs.+emit_node.Goals.{After-slots_of-slots, After-write_node, In-loop-i, then-is_inner, else-is_inner}
+use Rattle.emit_tree.proofs.+emit_node.Goals.{After-slots_of-slots, After-write_node, In-loop-w, then-is_inner, else-is_inner}
 
 one_less : (i : ℕ) → i < 8 → 8 - i ≡ suc (8 - (i + 1))
 one_less i h = omega arith
@@ -31,20 +31,20 @@ room_at t c h =
     c.build_node-built.ensures c.write_node.ensures c.write_node.auto.s c.build_node-built.auto.out
 
 -- the invariant with a slot to go
-turn : (t : ℕ) (c : In-loop-i t) → let s = c.args in
+turn : (t : ℕ) (c : In-loop-w t) → let s = c.args in
     Loop s.words.now s.decisions.now s.indices.now s.depth s.v s.number s.ordered c.write_node.new.s c.build_node-built.new.out
     (record { nodes = s.next.nodes + c.build_node-built.result.inner; positions = c.build_node-built.result.at }) s.next.nodes
-    c.loop-i.bytes c.loop-i.out c.loop-i.free c.loop-i.child (suc (8 - (c.loop-i.i + 1))) c.loop-i.i
-turn t c = rw (one_less c.loop-i.i c.loop-i-test.true) at c.loop-i.invariant.3
+    c.loop-w.bytes c.loop-w.out c.loop-w.free c.loop-w.child (suc (8 - (c.loop-w.w-index + 1))) c.loop-w.w-index
+turn t c = rw (one_less c.loop-w.w-index c.loop-w-test.true) at c.loop-w.invariant.2
 
 -- what the child's own emission asks
-child : (t : ℕ) (c : In-loop-i t) → let s = c.args in let w = get_or c.slots_of-slots.result c.loop-i.i 0 in is_inner s.decisions.now w ≡ true
+child : (t : ℕ) (c : In-loop-w t) → let s = c.args in let w = get_or c.slots_of-slots.result c.loop-w.w-index 0 in is_inner s.decisions.now w ≡ true
     → (0 < s.depth)
-    × Emits s.words.now s.decisions.now (length s.indices.now) (s.depth - 1) w s.ordered (length c.loop-i.bytes) (length c.loop-i.out)
-    c.loop-i.child c.loop-i.free
+    × Emits s.words.now s.decisions.now (length s.indices.now) (s.depth - 1) w s.ordered (length c.loop-w.bytes) (length c.loop-w.out)
+    c.loop-w.child c.loop-w.free
 child t c =
-    let p = goal.at.In-loop-i t c in
-    loop_child (turn t c) c.loop-i-test.true (λ h. words_are t p.After-slots_of-slots h) c.requires.at 0 (room_at t p.After-write_node c.requires)
+    let p = goal.at.In-loop-w t c in
+    loop_child (turn t c) c.loop-w-test.true (λ h. words_are t p.After-slots_of-slots h) c.requires.at 0 (room_at t p.After-write_node c.requires)
 
 pub build_node-built-requires : goal.build_node-built-requires
 build_node-built-requires t c =
@@ -69,48 +69,46 @@ overflow_add-free t c =
     let f = c.requires.room.few in
     omega arith
 
-pub loop-i-init : goal.loop-i-init
-loop-i-init t c = (omega arith, refl, refl, loop_begun _ _ _ _ _ _ _ _ _ _ _)
+pub loop-w-init : goal.loop-w-init
+loop-w-init t c = (refl, refl, loop_begun _ _ _ _ _ _ _ _ _ _ _)
 
 pub is_inner-requires : goal.is_inner-requires
 is_inner-requires t c =
     let p = goal.at.is_inner-requires t c in
-    loop_reads (turn t p.In-loop-i) c.loop-i-test.true (λ h. words_are t p.After-slots_of-slots h) c.requires.at
+    loop_reads (turn t p.In-loop-w) c.loop-w-test.true (λ h. words_are t p.After-slots_of-slots h) c.requires.at
 
 pub overflow_sub-depth : goal.overflow_sub-depth
 overflow_sub-depth t c =
-    let h = child t (goal.at.overflow_sub-depth t c).In-loop-i (sym c.is_inner.ensures ∙ c.if-is_inner.true) in
+    let h = child t (goal.at.overflow_sub-depth t c).In-loop-w (sym c.is_inner.ensures ∙ c.if-is_inner.true) in
     omega (arith, h.0)
 
 pub emit_node-free-requires : goal.emit_node-free-requires
 emit_node-free-requires t c =
-    let h = child t (goal.at.emit_node-free-requires t c).In-loop-i (sym c.is_inner.ensures ∙ c.if-is_inner.true) in
+    let h = child t (goal.at.emit_node-free-requires t c).In-loop-w (sym c.is_inner.ensures ∙ c.if-is_inner.true) in
     let z = h.0 in
     (omega arith, h.1)
 
 pub overflow_add-child : goal.overflow_add-child
 overflow_add-child t c =
-    let h = child t (goal.at.overflow_add-child t c).In-loop-i (sym c.is_inner.ensures ∙ c.if-is_inner.true) in
+    let h = child t (goal.at.overflow_add-child t c).In-loop-w (sym c.is_inner.ensures ∙ c.if-is_inner.true) in
     omega (arith, h.1.room.mine, h.1.room.few)
 
-pub loop-i-preserved : goal.loop-i-preserved
-loop-i-preserved t c =
-    let p = goal.at.loop-i-preserved t c in
-    let h = c.loop-i-test.true in
+pub loop-w-preserved : goal.loop-w-preserved
+loop-w-preserved t c =
+    let p = goal.at.loop-w-preserved t c in
+    let h = c.loop-w-test.true in
     elim c.if-is_inner.branch [
       | then-is_inner w ↦ (
-        omega arith,
-        ap length w.bytes-is ∙ w.emit_node-free.auto.bytes ∙ c.loop-i.invariant.1,
-        ap length w.out-is ∙ w.emit_node-free.auto.out ∙ c.loop-i.invariant.2,
-        loop_as w.bytes-is w.out-is w.free-is w.child-is (loop_inner (turn t p.In-loop-i) h (λ h. words_are t p.After-slots_of-slots h)
+        ap length w.bytes-is ∙ w.emit_node-free.auto.bytes ∙ c.loop-w.invariant.0,
+        ap length w.out-is ∙ w.emit_node-free.auto.out ∙ c.loop-w.invariant.1,
+        loop_as w.bytes-is w.out-is w.free-is w.child-is (loop_inner (turn t p.In-loop-w) h (λ h. words_are t p.After-slots_of-slots h)
             (sym c.is_inner.ensures ∙ w.if-is_inner.true) w.emit_node-free.new.bytes w.emit_node-free.new.out w.emit_node-free.result
             w.emit_node-free.auto.bytes w.emit_node-free.auto.out w.emit_node-free.ensures),
       )
       | else-is_inner w ↦ (
-        omega arith,
-        ap length w.bytes-is ∙ c.loop-i.invariant.1,
-        ap length w.out-is ∙ c.loop-i.invariant.2,
-        loop_as w.bytes-is w.out-is w.free-is w.child-is (loop_other (turn t p.In-loop-i) h (λ h. words_are t p.After-slots_of-slots h)
+        ap length w.bytes-is ∙ c.loop-w.invariant.0,
+        ap length w.out-is ∙ c.loop-w.invariant.1,
+        loop_as w.bytes-is w.out-is w.free-is w.child-is (loop_other (turn t p.In-loop-w) h (λ h. words_are t p.After-slots_of-slots h)
             (sym c.is_inner.ensures ∙ w.if-is_inner.false)),
       )
     ]
@@ -119,12 +117,12 @@ pub returns : goal.returns
 returns t c =
     let p = goal.at.returns t c in
     let s = c.args in
-    let z : 8 - c.loop-i.i ≡ 0 = let h = c.loop-i-test.false in omega arith in
+    let z : 8 - c.loop-w.w-index ≡ 0 = let h = c.loop-w-test.false in omega arith in
     λ h m q k.
     loop_end s.words.now s.decisions.now s.indices.now s.depth s.v s.number s.ordered c.write_node.new.s c.build_node-built.new.out
     (record { nodes = s.next.nodes + c.build_node-built.result.inner; positions = c.build_node-built.result.at }) s.next.nodes
-    c.loop-i.bytes c.loop-i.out c.loop-i.free c.loop-i.child c.loop-i.i
-    (rw z at c.loop-i.invariant.3) h.at (m + 1) (room_at t p.After-write_node h)
+    c.loop-w.bytes c.loop-w.out c.loop-w.free c.loop-w.child c.loop-w.w-index
+    (rw z at c.loop-w.invariant.2) h.at (m + 1) (room_at t p.After-write_node h)
     ∙ ap (convert (write_entry s.indices.now) (wide_slots_at s.words.now s.ordered h.at.limit s.depth s.v) (m + 1) s.number 0 s.next.nodes)
     (node-entered s.words.now s.decisions.now s.indices.now s.bytes.now s.out.now c.slots_of-slots.result s.depth s.v s.number s.ordered s.next h
     (words_are t p.After-slots_of-slots h.at) c.build_node-built.result c.write_node.new.s c.build_node-built.new.out c.build_node-built.ensures

@@ -1,6 +1,6 @@
 -- The measure is the depth; the loop's invariant: the slots that are left, converted from here, give what all eight give.
 use mathlib.Core.Path.{◌≡◌}
-use Prim.Native.Nat.{◌-◌, ◌≤◌}
+use Prim.Native.Nat.{◌-◌}
 use lib.ListN.{length}
 use Rattle.emit_tree.proofs.Emitting.{Loop}
 use Rattle.emit_tree.proofs.+emit_node.Given as goal
@@ -8,11 +8,8 @@ use Rattle.emit_tree.proofs.+emit_node.Given as goal
 abbrev pub decreases-emit_node : goal.decreases-emit_node
 decreases-emit_node l = l.depth
 
-abbrev pub invariant-loop-i : goal.invariant-loop-i
-invariant-loop-i l =
-    (l.i ≤ 8) × (length l.bytes ≡ length l.initial.bytes) × (length l.out ≡ length l.initial.out)
+abbrev pub invariant-loop-w : goal.invariant-loop-w
+invariant-loop-w l =
+    (length l.bytes ≡ length l.initial.bytes) × (length l.out ≡ length l.initial.out)
     × Loop l.words l.decisions l.indices l.depth l.v l.number l.ordered l.initial.bytes l.initial.out l.initial.free l.initial.child
-    l.bytes l.out l.free l.child (8 - l.i) l.i
-
-abbrev pub decreases-loop-i : goal.decreases-loop-i
-decreases-loop-i l = 8 - l.i
+    l.bytes l.out l.free l.child (8 - l.w-index) l.w-index

@@ -16,7 +16,7 @@ any_hit_number-requires c = subst AnyHitFits (sym c.any_hit.ensures.result_value
 pub returns : goal.returns
 returns c =
     let g = c.if-ray-ne-RAY.false in
-    let e = c.ray_at-r.ensures in
+    let e = c.beam_at-beam.ensures in
     record {
       value = any_hit_fit _ _ _ _ g e _ _ _ c.any_hit_number.ensures c.any_hit.ensures.result_value;
       list_after = list_fit _ _ _ _ g e _ _ c.any_hit.ensures.list_after;

@@ -15,7 +15,7 @@ pub returns-then-out-eq0 : goal.returns-then-out-eq0
 returns-then-out-eq0 c =
     let a = c.args in
     let s = closest_short a.ray.now a.record.now a.indices.now a.panes.now _ c.if-ray-ne-RAY.false c.ray_at-r.ensures _ _ _ a.out.now
-    c.if-out-eq0.true c.entry_cause-cause.ensures c.short_cause.ensures c.refusal_number-then-out-eq0.ensures in
+    c.if-out-eq0.true c.check_entry-entry.ensures c.short_refusal.ensures c.refusal_number-then-out-eq0.ensures in
     record { value = s.0; out_after = s.1 }
 
 pub closest_number-requires : goal.closest_number-requires
@@ -24,6 +24,6 @@ closest_number-requires c = (subst ClosestFits (sym c.closest.ensures) (closest_
 pub returns : goal.returns
 returns c =
     let a = c.args in
-    let s = closest_fit a.ray.now a.record.now a.indices.now a.panes.now _ c.if-ray-ne-RAY.false c.ray_at-r.ensures _ _ a.out.now _
+    let s = closest_fit a.ray.now a.record.now a.indices.now a.panes.now _ c.if-ray-ne-RAY.false c.beam_at-beam.ensures _ _ a.out.now _
     c.if-out-eq0.false c.closest.ensures c.closest_number.ensures.value c.closest_number.ensures.out_after in
     record { value = s.0; out_after = s.1 }

@@ -12,4 +12,4 @@ miss_number-requires c = subst MissFits (sym c.miss.ensures) (miss_fits _ _ _ _)
 
 pub returns : goal.returns
 returns c =
-    miss_fit _ _ _ _ _ c.if-ray-ne-RAY.false c.ray_at-r.ensures _ _ c.miss_number.ensures c.miss.ensures
+    miss_fit _ _ _ _ _ c.if-ray-ne-RAY.false c.beam_at-beam.ensures _ _ c.miss_number.ensures c.miss.ensures

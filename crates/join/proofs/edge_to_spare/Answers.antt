@@ -1,25 +1,22 @@
+use mathlib.Core.Path.{◌∙◌}
 use native.Mathlib.Omega.{arith}
-use Rattle.join.proofs.Depths.{root_in_tree, spare_second, spare_first, first_over, second_left}
+use Rattle.join.proofs.Depths.{root_in_tree, spare_empty, first_over, second_left}
 use Rattle.join.proofs.edge_to_spare.Goals as goal
 
 pub returns-then-n-eq0 : goal.returns-then-n-eq0
-returns-then-n-eq0 c = spare_second _ _ _ _ c.if-n-eq0.true
-
-pub returns-then-m-eq0 : goal.returns-then-m-eq0
-returns-then-m-eq0 c = spare_first _ _ _ _ c.if-n-eq0.false c.if-m-eq0.true
+returns-then-n-eq0 c = spare_empty _ _ _ _ c.then-n-eq0.either
 
 pub within_depth-requires : goal.within_depth-requires
 within_depth-requires c = root_in_tree _ _ c.requires.0 (omega (arith, c.if-n-eq0.false))
 
-pub returns-then-not-within_depth : goal.returns-then-not-within_depth
-returns-then-not-within_depth c =
-    first_over _ _ _ _ c.requires.0 c.requires.1 c.if-n-eq0.false c.if-m-eq0.false _ c.within_depth.ensures c.if-not-within_depth.true
+pub within_depth-requires-then-within_depth : goal.within_depth-requires-then-within_depth
+within_depth-requires-then-within_depth c = root_in_tree _ _ c.requires.1 (omega (arith, c.if-m-eq0.false))
 
-pub within_depth-requires-2 : goal.within_depth-requires-2
-within_depth-requires-2 c =
-    root_in_tree _ _ c.requires.1 (omega (arith, c.if-m-eq0.false))
-
-pub returns : goal.returns
-returns c =
+pub returns-then-within_depth : goal.returns-then-within_depth
+returns-then-within_depth c =
     second_left _ _ _ _ c.requires.0 c.requires.1 c.if-n-eq0.false c.if-m-eq0.false _ _ c.within_depth.ensures
-    c.if-not-within_depth.false c.within_depth-2.ensures
+    c.if-within_depth.true c.within_depth-then-within_depth.ensures
+
+pub returns-else-within_depth : goal.returns-else-within_depth
+returns-else-within_depth c = c.if-within_depth.false
+    ∙ first_over _ _ _ _ c.requires.0 c.requires.1 c.if-n-eq0.false c.if-m-eq0.false _ c.within_depth.ensures c.if-within_depth.false

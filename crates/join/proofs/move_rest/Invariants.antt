@@ -1,15 +1,9 @@
 use mathlib.Core.Path.{◌≡◌}
-use Prim.Native.Nat.{◌+◌, ◌*◌, ◌-◌, ◌≤◌}
+use Prim.Native.Nat.{◌+◌, ◌*◌, ◌-◌}
 use Rattle.lists.specs.Splice.{splice}
-use Rattle.bvh2.specs.Words.{tree_nodes}
 use Rattle.tree_words.specs.Nodes.{in_turn}
 use Rattle.join.specs.Join.{moved_node}
 use Rattle.join.proofs.move_rest.Given as goal
 
 abbrev pub invariant-loop-v : goal.invariant-loop-v
-invariant-loop-v l =
-    (1 ≤ l.v) × (l.v ≤ tree_nodes l.n)
-    × (l.words ≡ splice l.initial.words ((1 + l.nodes) * 7) (in_turn (λ u. moved_node l.from l.nodes l.positions (u + 1)) (l.v - 1)))
-
-abbrev pub decreases-loop-v : goal.decreases-loop-v
-decreases-loop-v l = tree_nodes l.n - l.v
+invariant-loop-v l = l.words ≡ splice l.initial.words ((1 + l.nodes) * 7) (in_turn (λ u. moved_node l.from l.nodes l.positions (u + 1)) (l.v - 1))

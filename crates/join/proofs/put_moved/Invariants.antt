@@ -1,7 +1,7 @@
 use mathlib.Core.List.{List}
 use mathlib.Core.Path.{◌≡◌}
-use Prim.Native.Nat.{ℕ, ◌+◌, ◌-◌, ◌≤◌}
-use lib.ListN.{length, get_or}
+use Prim.Native.Nat.{ℕ, ◌+◌}
+use lib.ListN.{get_or}
 use Rattle.lists.specs.Splice.{splice}
 use Rattle.lists.specs.Values.{values}
 use Rattle.join.proofs.put_moved.Given as goal
@@ -11,7 +11,4 @@ abbrev pub moved : List ℕ → ℕ → ℕ → ℕ
 moved list by i = get_or list i 0 + by
 
 abbrev pub invariant-loop-i : goal.invariant-loop-i
-invariant-loop-i l = (l.i ≤ length l.list) × (l.out ≡ splice l.initial.out l.at (values (moved l.list l.by) l.i))
-
-abbrev pub decreases-loop-i : goal.decreases-loop-i
-decreases-loop-i l = length l.list - l.i
+invariant-loop-i l = l.out ≡ splice l.initial.out l.at (values (moved l.list l.by) l.i)

@@ -1,4 +1,4 @@
-use Rattle.std.proofs.Common.{◌≡◌, ℕ, ◌-◌, ◌≤◌, Bool, true, List, length, get_or}
+use Rattle.std.proofs.Common.{◌≡◌, ℕ, Bool, true, List, get_or}
 use Rattle.std.proofs.Math.Dec.{leb}
 use Rattle.lists.specs.Below.{all_below}
 use Rattle.loss.proofs.losses_fit.Given as goal
@@ -7,8 +7,5 @@ use Rattle.loss.proofs.losses_fit.Given as goal
 abbrev pub fits : List ℕ → ℕ → Bool
 fits losses i = leb (get_or losses i 0) 1000000
 
-abbrev pub invariant-loop-k : goal.invariant-loop-k
-invariant-loop-k l = (l.k ≤ length l.losses) × (all_below (fits l.losses) l.k ≡ true)
-
-abbrev pub decreases-loop-k : goal.decreases-loop-k
-decreases-loop-k l = length l.losses - l.k
+abbrev pub invariant-loop-loss : goal.invariant-loop-loss
+invariant-loop-loss l = all_below (fits l.losses) l.loss-index ≡ true

@@ -3,13 +3,20 @@ use borrow.Author.Tests.{lt-ltb, le-ltb}
 use Rattle.loss.specs.Charged.{pane_at}
 use Rattle.loss.proofs.pane_at.Goals as goal
 
-pub overflow_cast-result : goal.overflow_cast-result
-overflow_cast-result c = omega (arith, c.type_inv.indices c.args.p)
-
-pub returns-then-p-indices : goal.returns-then-p-indices
+pub returns-then-there : goal.returns-then-there
 unfolding pane_at
-returns-then-p-indices c = let a = c.args in rw (lt-ltb a.p (length a.indices.now) c.if-p-indices.true) refl
+returns-then-there c =
+    let a = c.args in
+    (rw (lt-ltb a.p (length a.indices.now) c.if-p-indices.true) refl, c.if-there.true)
 
-pub returns : goal.returns
+pub returns-else-there : goal.returns-else-there
 unfolding pane_at
-returns c = let a = c.args in rw (le-ltb a.p (length a.indices.now) c.if-p-indices.false) refl
+returns-else-there c =
+    let a = c.args in
+    (refl, rw (lt-ltb a.p (length a.indices.now) c.if-p-indices.true) c.if-there.false)
+
+pub returns-else-p-indices : goal.returns-else-p-indices
+unfolding pane_at
+returns-else-p-indices c =
+    let a = c.args in
+    (refl, rw (le-ltb a.p (length a.indices.now) c.if-p-indices.false) (omega arith))

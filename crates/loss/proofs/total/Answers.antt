@@ -15,19 +15,19 @@ use Rattle.loss.proofs.total.Goals as goal
 use Rattle.loss.proofs.total.Goals.{At-loop-i}
 
 module _ (c : At-loop-i) where
-  cleared-length : length c.clear.new.totals ≡ c.args.panes
+  cleared-length : length c.fill.new.self ≡ c.args.panes
   cleared-length =
-      ap length c.clear.ensures ∙ length-replicate (length (take c.args.panes c.args.pane_totals.now)) 0
+      ap length (c.fill.ensures.after (λ y h. h)) ∙ length-replicate (length (take c.args.panes c.args.pane_totals.now)) 0
       ∙ length-take-le c.args.panes c.args.pane_totals.now c.requires.rays_in_bounds.1
 
   -- the pane totals as they were cleared have room
-  room : c.args.panes ≤ length (c.clear.new.totals ++ drop c.args.panes c.args.pane_totals.now)
+  room : c.args.panes ≤ length (c.fill.new.self ++ drop c.args.panes c.args.pane_totals.now)
   room =
       let d = drop c.args.panes c.args.pane_totals.now in
       omega (
         arith,
         cleared-length,
-        length-append c.clear.new.totals d,
+        length-append c.fill.new.self d,
         length-drop c.args.panes c.args.pane_totals.now,
         c.requires.rays_in_bounds.1,
       )
@@ -35,11 +35,11 @@ module _ (c : At-loop-i) where
 pub loop-i-init : goal.loop-i-init
 loop-i-init c =
     let a = c.args in
-    let e = c.clear.ensures ∙ ap (λ (j : ℕ). replicate j 0) (length-take-le a.panes a.pane_totals.now c.requires.rays_in_bounds.1) in (
-      omega arith,
+    let l = length-take-le a.panes a.pane_totals.now c.requires.rays_in_bounds.1 in
+    let e = c.fill.ensures.after (λ y h. h) ∙ ap (λ (j : ℕ). replicate j 0) l in (
       omega arith,
       totals_begin a.«record».now a.indices.now a.panes a.losses.now a.rays.now a.ray_totals.now a.pane_totals.now
-          c.clear.new.totals e c.requires.rays_in_bounds.1,
+          c.fill.new.self e c.requires.rays_in_bounds.1,
     )
 
 pub total_ray-made-requires : goal.total_ray-made-requires
@@ -48,7 +48,7 @@ total_ray-made-requires c =
     let a = c.args in
     let s = c.requires.entered in
     let b = c.requires.rays_in_bounds in
-    let t = c.loop-i.invariant.2 in
+    let t = c.loop-i.invariant.1 in
     let h = c.loop-i-test.true in
     let e = sym c.ray_at-ray.ensures in
     let r = room (goal.at.total_ray-made-requires c).At-loop-i in
@@ -61,10 +61,6 @@ total_ray-made-requires c =
       omega (arith, h, b.0, ray_words a.«record».now a.indices.now a.panes a.losses.now a.rays.now t r (omega (arith, h, b.0))),
     )
 
-pub overflow_add-tests : goal.overflow_add-tests
-overflow_add-tests c =
-    omega (arith, c.total_ray-made.type_inv, c.loop-i.invariant.1, c.loop-i.invariant.0, c.requires.entered.few)
-
 pub loop-i-preserved : goal.loop-i-preserved
 unfolding walks_by
 loop-i-preserved c =
@@ -76,9 +72,8 @@ loop-i-preserved c =
     let y = summed_faultless a.«record».now a.indices.now a.panes a.losses.now (ray_in a.rays.now c.loop-i.i) w in
     let m : Ray → List ℕ = λ r. positions_met a.«record».now (length a.indices.now) r in
     let g = c.total_ray-made in (
-      omega (arith, h),
-      omega (arith, g.type_inv, c.loop-i.invariant.1),
-      totals_next a.«record».now a.indices.now a.panes a.losses.now a.rays.now c.loop-i.invariant.2
+      omega (arith, g.type_inv, c.loop-i.invariant.0),
+      totals_next a.«record».now a.indices.now a.panes a.losses.now a.rays.now c.loop-i.invariant.1
           (room (goal.at.loop-i-preserved c).At-loop-i) (omega (arith, h, b.0)) y.there _ _ g.result
           (g.ensures.value ∙ ap (tests_made a.«record».now (length a.indices.now)) e)
           (g.ensures.ray_totals_after
@@ -90,5 +85,5 @@ pub returns : goal.returns
 returns c =
     let a = c.args in
     totals_end a.«record».now a.indices.now a.panes a.losses.now a.rays.now c.loop-i.tests a.ray_totals.now a.pane_totals.now
-    c.clear.new.totals c.loop-i.ray_totals c.loop-i.pane_totals (cleared-length (goal.at.returns c).At-loop-i) c.loop-i.i
-    (omega (arith, c.loop-i.invariant.0, c.loop-i-test.false)) c.loop-i.invariant.2
+    c.fill.new.self c.loop-i.ray_totals c.loop-i.pane_totals (cleared-length (goal.at.returns c).At-loop-i) c.loop-i.i
+    (omega (arith, c.loop-i.auto.i-end, c.loop-i-test.false)) c.loop-i.invariant.1

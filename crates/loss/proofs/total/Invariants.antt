@@ -1,12 +1,8 @@
-use Rattle.std.proofs.Common.{◌*◌, ◌-◌, ◌≤◌}
-use Rattle.packed.specs.Packed.{ray_count}
+use Rattle.std.proofs.Common.{◌*◌, ◌≤◌}
 use Rattle.loss.specs.Charged.{Totalling}
 use Rattle.loss.proofs.total.Given as goal
 
 abbrev pub invariant-loop-i : goal.invariant-loop-i
 invariant-loop-i l =
-    (l.i ≤ ray_count l.rays) × (l.tests ≤ l.i * 4294967296)
+    (l.tests ≤ l.i * 4294967296)
     × Totalling l.record l.indices l.panes l.losses l.rays l.i l.tests l.initial.ray_totals l.initial.pane_totals l.ray_totals l.pane_totals
-
-abbrev pub decreases-loop-i : goal.decreases-loop-i
-decreases-loop-i l = ray_count l.rays - l.i

@@ -1,4 +1,5 @@
 use Rattle.std.proofs.Common.{◌≡◌, ℕ, ◌+◌, ◌<◌, List, length, get_or, set, refl, ap, ◌∙◌, subst, rules, arith}
+use Rattle.causes.specs.Refusal.{cause_number}
 use Rattle.record_shape.specs.Record.{node_count}
 use Rattle.walk.specs.Words as W
 use Rattle.walk.specs.WordStep.{WalkerWords, SteppedWords, seek_words}
@@ -9,33 +10,32 @@ use Rattle.advance.specs.declared.Walk.{Walk}
 use Rattle.advance.specs.declared.Answer.{Answer}
 use Rattle.advance.specs.Turn.{group_of, walker_of, step_answer}
 use Rattle.advance.proofs.Seeks.{seeking_from}
+use Rattle.query.specs.Result.{unanswered}
 use Rattle.query.proofs.Begins.{walkable}
-use Rattle.loss.specs.Loss.{loss_result}
+use Rattle.loss.specs.Loss.{refused, loss_result}
 use Rattle.loss.proofs.Charged.{fit_length, fit_most}
 use Rattle.loss.proofs.Adding.{Added, adding_begins, sum_most, totals_most, adding_takes, adding_fault, After, adding_seeks}
 use Rattle.loss.proofs.walk_losses.Goals as goal
-use Rattle.loss.proofs.walk_losses.Goals.{After-pane_at-k, After-walk_after-next}
+use Rattle.loss.proofs.walk_losses.Goals.{In_ok-k, After-walk_after-next}
 
--- ---- at a position
+-- ---- at a position whose pane is there
 
-module _ (c : After-pane_at-k) where
+module _ (c : In_ok-k) where
   fit : FieldsFit c.args.bytes.now
   fit = bytes_fit _ (λ j. (c.type_inv.bytes j).fits)
 
-  module _ (there : c.pane_at-k.result < c.args.panes) where
-    -- its pane has a loss
-    has-loss : c.pane_at-k.result < length c.args.losses.now
-    has-loss = omega (arith, there, fit_length c.args.panes c.args.losses.now c.requires.1.fitting)
+  -- its pane has a loss
+  has-loss : c.in_ok-k.k < length c.args.losses.now
+  has-loss = omega (arith, c.in_ok-k.ensures.1, fit_length c.args.panes c.args.losses.now c.requires.1.fitting)
 
-    -- after it
-    next : (g : W.Group) → g ≡ W.rest_of (group_of c.loop-walk-2.walk.positions) → (totals : List ℕ)
-        → totals ≡ set c.loop-walk-2.totals c.pane_at-k.result
-        (get_or c.loop-walk-2.totals c.pane_at-k.result 0 + get_or c.args.losses.now c.pane_at-k.result 0)
-        → Added c.requires.0 fit c.loop-walk-2.invariant.1 c.loop-walk-2-test.true c.first_position-p.result c.first_position-p.ensures
-        g c.pane_at-k.result totals
-    next g q totals e =
-        adding_takes c.requires.0 fit c.loop-walk-2.invariant.1 c.loop-walk-2-test.true c.first_position-p.result c.first_position-p.ensures
-        c.pane_at-k.result c.pane_at-k.ensures there g q totals e
+  -- after it
+  next : (g : W.Group) → g ≡ W.rest_of (group_of c.loop-walk-2.walk.positions) → (totals : List ℕ)
+      → totals ≡ set c.loop-walk-2.totals c.in_ok-k.k (get_or c.loop-walk-2.totals c.in_ok-k.k 0 + get_or c.args.losses.now c.in_ok-k.k 0)
+      → Added c.requires.0 fit c.loop-walk-2.invariant.1 c.loop-walk-2-test.true c.first_position-p.result c.first_position-p.ensures
+      g c.in_ok-k.k totals
+  next g q totals e =
+      adding_takes c.requires.0 fit c.loop-walk-2.invariant.1 c.loop-walk-2-test.true c.first_position-p.result c.first_position-p.ensures
+      c.in_ok-k.k c.in_ok-k.ensures.0 c.in_ok-k.ensures.1 g q totals e
 
 -- ---- after a search
 
@@ -70,31 +70,27 @@ loop-walk-init c =
     adding_begins c.args.bytes.now c.args.indices.now c.args.panes c.args.losses.now c.args.ray (bytes_fit _ (λ j. (c.type_inv.bytes j).fits))
     c.requires.1.accepted c.octant-octant.result c.octant-octant.ensures c.begin-walk.result c.begin-walk.ensures c.args.totals.now
 
-pub loop-walk-2-init : goal.loop-walk-2-init
-loop-walk-2-init c = (omega arith, c.loop-walk.invariant)
-
-pub returns-then-absent : goal.returns-then-absent
+pub returns-in_err-k : goal.returns-in_err-k
 unfolding loss_result
-returns-then-absent c =
-    let k = (goal.at.returns-then-absent c).After-pane_at-k in
+returns-in_err-k c =
+    let f = c.in_err-k.field-0.0 in
+    let own : loss_result c.from_residual.result ≡ unanswered (refused (cause_number f)) = search rules in
+    let w = adding_fault c.requires.0 (bytes_fit _ (λ j. (c.type_inv.bytes j).fits)) c.loop-walk-2.invariant.1 c.loop-walk-2-test.true
+    c.first_position-p.result c.first_position-p.ensures _ refl c.in_err-k.ensures.1 in
     record {
-      result_value = adding_fault c.requires.0 (fit k) c.loop-walk-2.invariant.1 c.loop-walk-2-test.true c.first_position-p.result
-          c.first_position-p.ensures c.pane_at-k.result c.pane_at-k.ensures c.if-absent.true;
-      charges = tt;
+      result_value = own ∙ ap (λ (j : ℕ). unanswered (refused j)) c.in_err-k.ensures.0 ∙ w;
+      charges = search rules;
     }
 
 pub offset_bounds-losses-k : goal.offset_bounds-losses-k
-offset_bounds-losses-k c = let h = has-loss (goal.at.offset_bounds-losses-k c).After-pane_at-k c.if-absent.false in search rules
+offset_bounds-losses-k c = let h = has-loss (goal.at.offset_bounds-losses-k c).In_ok-k in search rules
 
 pub bounds-losses-k : goal.bounds-losses-k
-bounds-losses-k c = has-loss (goal.at.bounds-losses-k c).After-pane_at-k c.if-absent.false
-
-pub overflow_cast-taken : goal.overflow_cast-taken
-overflow_cast-taken c = omega (arith, c.type_inv.losses c.pane_at-k.result)
+bounds-losses-k c = has-loss (goal.at.bounds-losses-k c).In_ok-k
 
 pub overflow_add-sum : goal.overflow_add-sum
 overflow_add-sum c =
-    let h = (next (goal.at.overflow_add-sum c).After-pane_at-k c.if-absent.false _ refl _ refl).0 in
+    let h = (next (goal.at.overflow_add-sum c).In_ok-k _ refl _ refl).0 in
     let a = c.args in
     let m = sum_most a.bytes.now a.indices.now a.panes a.losses.now a.ray h c.requires.1.fitting in
     let z = c.requires.0.nodes in
@@ -104,19 +100,18 @@ pub charge-requires : goal.charge-requires
 charge-requires c =
     let a = c.args in
     let f = c.requires.1.fitting in
-    let t = totals_most a.bytes.now a.indices.now a.panes a.losses.now a.ray c.loop-walk-2.invariant.1 f c.pane_at-k.result in
-    let k = fit_most a.panes a.losses.now f c.pane_at-k.result in
+    let t = totals_most a.bytes.now a.indices.now a.panes a.losses.now a.ray c.loop-walk-2.invariant.1 f c.in_ok-k.k in
+    let k = fit_most a.panes a.losses.now f c.in_ok-k.k in
     let z = c.requires.0.nodes in
-    let y = c.requires.1.spare c.pane_at-k.result c.if-absent.false in
+    let y = c.requires.1.spare c.in_ok-k.k c.in_ok-k.ensures.1 in
     omega (arith, t, k, z, y)
 
 pub loop-walk-2-smaller : goal.loop-walk-2-smaller
-loop-walk-2-smaller c =
-    (next (goal.at.loop-walk-2-smaller c).After-pane_at-k c.if-absent.false _ c.rest_of-positions.ensures _ c.charge.ensures).1
+loop-walk-2-smaller c = (next (goal.at.loop-walk-2-smaller c).In_ok-k _ c.rest_of-positions.ensures _ c.charge.ensures).1
 
 pub loop-walk-2-preserved : goal.loop-walk-2-preserved
 loop-walk-2-preserved c =
-    let g = next (goal.at.loop-walk-2-preserved c).After-pane_at-k c.if-absent.false _ c.rest_of-positions.ensures _ c.charge.ensures in
+    let g = next (goal.at.loop-walk-2-preserved c).In_ok-k _ c.rest_of-positions.ensures _ c.charge.ensures in
     (omega (arith, g.1, c.loop-walk-2.invariant.0), g.0)
 
 pub seek-turn-requires : goal.seek-turn-requires

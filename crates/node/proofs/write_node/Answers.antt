@@ -1,11 +1,11 @@
-use Rattle.node.proofs.RoundTrip.{node_written}
-use mathlib.Core.Path.{ap, ◌∙◌}
-use Prim.Native.Nat.{◌*◌}
-use Rattle.node.specs.Node.{put_slots}
+use mathlib.Core.Path.{◌≡◌, ◌∙◌}
+use native.Mathlib.Omega.{arith}
+use Rattle.node.specs.Node.{node_bytes}
+use Rattle.node.proofs.RoundTrip.{length-node}
+use Rattle.node.proofs.Splice.{put-splice}
 use Rattle.node.proofs.write_node.Goals as goal
 
 pub returns : goal.returns
 returns c =
-    let a = c.args in
-    c.write_slots.ensures ∙ ap (λ s. put_slots 8 s (80 * a.i) a.n.slots) c.write_head.ensures ∙ node_written a.s.now (80 * a.i)
-    a.n c.requires
+    let e : c.copy_from_slice.new.self ≡ node_bytes c.args.n = c.copy_from_slice.ensures.after ∙ c.bytes_of.ensures in
+    rw e (put-splice _ _ _ _ (omega (arith, length-node c.args.n)))

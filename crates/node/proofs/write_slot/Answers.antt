@@ -1,3 +1,4 @@
+use native.Mathlib.Nat.{zero-add}
 use Rattle.node.specs.Node.{put_slot}
 use Rattle.node.proofs.write_slot.Goals as goal
 
@@ -5,10 +6,11 @@ pub returns : goal.returns
 unfolding put_slot
 returns c =
     rw (
-      c.set_corner-6.ensures,
-      c.set_corner-5.ensures,
-      c.set_corner-4.ensures,
-      c.set_corner-3.ensures,
-      c.set_corner-2.ensures,
-      c.set_corner.ensures,
+      c.slot_offset.ensures.0,
+      c.slot_offset-2.ensures.0,
+      c.slot_offset-3.ensures.0,
+      c.slot_offset-4.ensures.0,
+      c.slot_offset-5.ensures.0,
+      c.slot_offset-6.ensures.0,
     )
+    (simp zero-add)

@@ -1,8 +1,7 @@
-use Rattle.node_rule.proofs.RuleLaws.{exponent_low, exponent_high}
+use Rattle.std.proofs.Common.{rules}
+use Rattle.node_rule.specs.Rule.{exponent_ok}
 use Rattle.node_rule.proofs.exponent_ok.Goals as goal
 
-pub returns-then-e-lt53 : goal.returns-then-e-lt53
-returns-then-e-lt53 c = exponent_low _ c.if-e-lt53.true
-
 pub returns : goal.returns
-returns c = exponent_high _ c.if-e-lt53.false
+unfolding exponent_ok
+returns c = search rules

@@ -4,5 +4,4 @@ use Rattle.node_slot.proofs.ray_in_grid.Goals as goal
 
 pub returns : goal.returns
 unfolding ray_grid_of adjusted_inverse adjusted_origin
-returns c =
-    rw (c.point-p.ensures, c.compute_extent-extent.ensures, c.ez.ensures, c.ey.ensures, c.ex.ensures)
+returns c = rw (c.point-p.ensures, c.compute_extent-extent.ensures, c.exponents.ensures)

@@ -1,4 +1,5 @@
 use Rattle.node_slot.specs.Parts.{slot_passes}
+use native.Mathlib.Nat.{zero-add}
 use Rattle.node_slot.proofs.slot_passes.Goals as goal
 
 pub returns : goal.returns
@@ -13,3 +14,4 @@ returns c =
       c.corner-ny.ensures,
       c.corner-nx.ensures,
     )
+    (simp zero-add)

@@ -1,11 +1,7 @@
 -- The invariant: b is the least open pair of the children below c.
 use mathlib.Core.Path.{◌≡◌}
-use Prim.Native.Nat.{◌-◌, ◌≤◌}
 use Rattle.order.specs.Scan.{best_open}
 use Rattle.order.proofs.best_pair.Given as goal
 
 abbrev pub invariant-loop-c : goal.invariant-loop-c
-invariant-loop-c l = (l.c ≤ l.n) × (l.b ≡ best_open l.cost l.slot l.child l.c)
-
-abbrev pub decreases-loop-c : goal.decreases-loop-c
-decreases-loop-c l = l.n - l.c
+invariant-loop-c l = l.b ≡ best_open l.cost l.slot l.child l.c

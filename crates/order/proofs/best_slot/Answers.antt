@@ -1,5 +1,4 @@
 use mathlib.Core.Path.{refl, ◌∙◌}
-use native.Mathlib.Omega.{arith}
 use Rattle.order.specs.Lists.{keep}
 use Rattle.order.specs.Assign.{row_pairs, open_pairs, least_pair}
 use Rattle.order.specs.Scan.{best_slot}
@@ -8,19 +7,15 @@ use Rattle.order.proofs.best_slot.Goals as goal
 
 pub loop-s-init : goal.loop-s-init
 unfolding best_slot row_pairs open_pairs least_pair keep
-loop-s-init c = (omega arith, refl)
+loop-s-init c = refl
 
 pub loop-s-preserved : goal.loop-s-preserved
 loop-s-preserved c =
     let a = c.args in
     elim c.if-child-s-eq8.branch [
-      | goal.then-child-s-eq8 w ↦ (
-        omega arith,
-        slot_taken a.row a.child.now a.c c.loop-s.s c.loop-s.b c.if-child-s-eq8.b w.if-child-s-eq8.true c.loop-s.invariant.1
-            (w.b-is ∙ w.cheaper_of-b.ensures),
-      )
-      | goal.else-child-s-eq8 w ↦ (
-        omega arith,
-        slot_left a.row a.child.now a.c c.loop-s.s c.loop-s.b c.if-child-s-eq8.b w.if-child-s-eq8.false c.loop-s.invariant.1 w.b-is,
-      )
+      | goal.then-child-s-eq8 w ↦
+          slot_taken a.row a.child.now a.c c.loop-s.s c.loop-s.b c.if-child-s-eq8.b w.if-child-s-eq8.true c.loop-s.invariant
+          (w.b-is ∙ w.cheaper_of-b.ensures)
+      | goal.else-child-s-eq8 w ↦
+          slot_left a.row a.child.now a.c c.loop-s.s c.loop-s.b c.if-child-s-eq8.b w.if-child-s-eq8.false c.loop-s.invariant w.b-is
     ]

@@ -1,11 +1,7 @@
 -- The invariant: b is the least open pair of the slots below s.
 use mathlib.Core.Path.{◌≡◌}
-use Prim.Native.Nat.{◌-◌, ◌≤◌}
 use Rattle.order.specs.Scan.{best_slot}
 use Rattle.order.proofs.best_slot.Given as goal
 
 abbrev pub invariant-loop-s : goal.invariant-loop-s
-invariant-loop-s l = (l.s ≤ 8) × (l.b ≡ best_slot l.row l.child l.c l.s)
-
-abbrev pub decreases-loop-s : goal.decreases-loop-s
-decreases-loop-s l = 8 - l.s
+invariant-loop-s l = l.b ≡ best_slot l.row l.child l.c l.s

@@ -11,5 +11,5 @@ pub returns : goal.returns
 unfolding cost_table
 returns c =
     let a = c.args in
-    rw (c.cost_rows.ensures, c.at_most_eight-n.ensures, c.center-p.ensures)
+    rw (c.cost_rows.ensures, c.min.ensures, c.center.ensures)
     (ap (λ (l : List Aabb). padded no_row (cost_table a.parent l)) (take-eight a.count a.boxes (omega arith)))

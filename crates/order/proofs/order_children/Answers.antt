@@ -16,8 +16,8 @@ returns c =
     let a = c.args in
     let bs = take a.count a.boxes in
     let n : length bs ≡ min a.count 8 = omega (arith, length-take a.count a.boxes) in
-    let slots : c.assign-a.result ≡ arrays_of (slots_of true a.parent bs) =
-    rw (c.assign-a.ensures, c.direction_costs-cost.ensures) (ap arrays_of (ordered_slots a.parent bs (min a.count 8) n)) in
+    let slots : c.assign.result ≡ arrays_of (slots_of true a.parent bs) =
+    rw (c.assign.ensures, c.direction_costs-cost.ensures) (ap arrays_of (ordered_slots a.parent bs (min a.count 8) n)) in
     c.place.ensures
     ∙ ap (λ (r : Assignment). map (λ c. get_or a.children c 0xffff_ffff) r.child) slots
     ∙ place_taken 0xffff_ffff (slots_of true a.parent bs) a.children (length bs) a.count (omega arith)

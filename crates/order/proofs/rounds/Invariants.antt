@@ -1,10 +1,6 @@
--- The invariant: the arrays are those of the pairs after k rounds.
-use Prim.Native.Nat.{◌-◌, ◌≤◌}
+-- The invariant: the arrays are those of the pairs after so many rounds.
 use Rattle.order.proofs.Arrays.{Kept}
 use Rattle.order.proofs.rounds.Given as goal
 
-abbrev pub invariant-loop-k : goal.invariant-loop-k
-invariant-loop-k l = (l.k ≤ l.n) × Kept l.cost l.n l.k l.slot l.child
-
-abbrev pub decreases-loop-k : goal.decreases-loop-k
-decreases-loop-k l = l.n - l.k
+abbrev pub invariant-loop-round : goal.invariant-loop-round
+invariant-loop-round l = Kept l.cost l.n l._round l.slot l.child

@@ -7,6 +7,6 @@ pub returns-then-bit-eq0 : goal.returns-then-bit-eq0
 unfolding sign_of of_bits
 returns-then-bit-eq0 c = simp (eq-eqb _ _ c.if-bit-eq0.true)
 
-pub returns : goal.returns
+pub returns-else-bit-eq0 : goal.returns-else-bit-eq0
 unfolding sign_of of_bits neg
-returns c = simp (ne_eqb _ _ c.if-bit-eq0.false)
+returns-else-bit-eq0 c = simp (ne_eqb _ _ c.if-bit-eq0.false)

@@ -26,6 +26,6 @@ overflow_cast-result c =
 pub returns-then-x-2 : goal.returns-then-x-2
 returns-then-x-2 c = c.truncating_f32_to_u64.ensures ∙ (whole_part c.args.x (within (goal.at.returns-then-x-2 c).Then-x-2)).0
 
-pub returns : goal.returns
+pub returns-else-x-2 : goal.returns-else-x-2
 unfolding of_bits
-returns c = at_the_bottom c.args.x c.if-x-2.false
+returns-else-x-2 c = at_the_bottom c.args.x c.if-x-2.false

@@ -1,4 +1,3 @@
-use mathlib.Core.Path.{sym}
 use native.Mathlib.Omega.{arith}
 use lib.ListN.{take}
 use lib.Seq.{length-take-le}
@@ -12,9 +11,6 @@ pub put_nodes-p-requires : goal.put_nodes-p-requires
 put_nodes-p-requires c =
     let a = c.args in
     omega (arith, lines_most a.«record».now a.m 0 (omega arith))
-
-pub slice_bounds-put_indices-end : goal.slice_bounds-put_indices-end
-slice_bounds-put_indices-end c = sym (length-take-le _ _ (omega arith))
 
 pub put_indices-requires : goal.put_indices-requires
 put_indices-requires c =

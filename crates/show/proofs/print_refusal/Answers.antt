@@ -3,4 +3,4 @@ use Rattle.show.proofs.print_refusal.Goals as goal
 
 pub returns : goal.returns
 unfolding chars
-returns c = c.print_numbered.ensures
+returns c = rw c.from.ensures at c.print_numbered.ensures

@@ -3,14 +3,6 @@ use Rattle.text.specs.Text.{chars}
 use Rattle.text.proofs.Put.{put_next}
 use Rattle.show.proofs.put_index.Goals as goal
 
-pub put_byte-p-requires : goal.put_byte-p-requires
-unfolding chars
-put_byte-p-requires c = omega arith
-
-pub put_decimal-requires : goal.put_decimal-requires
-unfolding chars
-put_decimal-requires c = omega arith
-
 pub returns : goal.returns
 unfolding chars
 returns c =

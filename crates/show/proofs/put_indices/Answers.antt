@@ -4,24 +4,7 @@ use native.Mathlib.Omega.{arith}
 use Rattle.text.specs.Text.{chars}
 use Rattle.text.proofs.Put.{rest_all, rest_put, rest_none}
 use Rattle.show.specs.Show.{spaced, indices_line}
-use Rattle.show.proofs.Lines.{length_indices}
 use Rattle.show.proofs.put_indices.Goals as goal
-
-pub put_bytes-p-requires : goal.put_bytes-p-requires
-put_bytes-p-requires c =
-    omega (arith, length_indices c.args.indices.now)
-
-pub put_spaced-q-requires : goal.put_spaced-q-requires
-put_spaced-q-requires c =
-    omega (arith, length_indices c.args.indices.now)
-
-pub put_byte-requires : goal.put_byte-requires
-put_byte-requires c =
-    omega (
-      arith,
-      length_indices
-          c.args.indices.now,
-    )
 
 pub returns : goal.returns
 unfolding indices_line chars

@@ -5,33 +5,14 @@ use Rattle.text.specs.Text.{chars, decimal, hex}
 use Rattle.text.proofs.Hex.{length-hex}
 use Rattle.text.proofs.Put.{rest_all, rest_put, rest_none}
 use Rattle.show.specs.Show.{node_line}
-use Rattle.show.proofs.Lines.{length-node}
+use Rattle.show.proofs.Lines.{length_node}
 use Rattle.show.proofs.put_node.Goals as goal
-
-pub put_decimal-p-requires : goal.put_decimal-p-requires
-put_decimal-p-requires c = omega (arith, length-node c.args.i c.args.node.now)
-
-pub put_byte-q-requires : goal.put_byte-q-requires
-put_byte-q-requires c =
-    omega (
-      arith,
-      length-node c.args.i
-          c.args.node.now,
-    )
-
-pub put_hex-r-requires : goal.put_hex-r-requires
-put_hex-r-requires c =
-    omega (
-      arith,
-      length-node c.args.i
-          c.args.node.now,
-    )
 
 pub put_byte-requires : goal.put_byte-requires
 put_byte-requires c =
     omega (
       arith,
-      length-node
+      length_node
           c.args.i
           c.args.node.now,
       length-hex c.args.node.now,

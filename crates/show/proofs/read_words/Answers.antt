@@ -11,22 +11,20 @@ use Rattle.show.proofs.read_words.Goals as goal
 pub loop-k-init : goal.loop-k-init
 loop-k-init c =
     let a = c.args in
-    (omega arith, rw (add-zero, sub-zero) (rest_all _ _ _ (omega (arith, length_words a.input.now a.from a.count))))
+    rw (add-zero, sub-zero) (rest_all _ _ _ (omega (arith, length_words a.input.now a.from a.count)))
 
 pub loop-k-preserved : goal.loop-k-preserved
 loop-k-preserved c =
     let i = c.loop-k in
     let a = c.args in
     let l = a.input.now in
-    let rest = input_words l (a.from + 4 * (i.k + 1)) (a.count - (i.k + 1)) in (
-      omega arith,
-      rest_put
-          i.invariant.1
-          (c.load_u32.result ∷ [])
-          rest
-          (words_next l a.from a.count i.k (omega arith) ∙ ap (λ (v : ℕ). v ∷ rest) (sym c.load_u32.ensures.value))
-          (put_one _ _ _ (omega arith)),
-    )
+    let rest = input_words l (a.from + 4 * (i.k + 1)) (a.count - (i.k + 1)) in
+    rest_put
+    i.invariant
+    (c.load_u32.result ∷ [])
+    rest
+    (words_next l a.from a.count i.k (omega arith) ∙ ap (λ (v : ℕ). v ∷ rest) (sym c.load_u32.ensures.value))
+    (put_one _ _ _ (omega arith))
 
 pub returns : goal.returns
-returns c = (rest_none c.loop-k.invariant.1 (words_none _ _ _ _ (omega arith))).written
+returns c = (rest_none c.loop-k.invariant (words_none _ _ _ _ (omega arith))).written

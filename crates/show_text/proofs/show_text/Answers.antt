@@ -1,7 +1,5 @@
-use mathlib.Core.Path.{sym}
 use native.Mathlib.Omega.{arith}
-use lib.Seq.{length-take-le}
-use Rattle.show_text.proofs.Inputs.{take_most, text_short, text_many, text_unfit, text_disorder, text_tree}
+use Rattle.show_text.proofs.Inputs.{text_short, text_many, text_unfit, text_disorder, text_tree}
 use Rattle.show_text.proofs.show_text.Goals as goal
 
 pub returns-then-input-lt4 : goal.returns-then-input-lt4
@@ -22,15 +20,6 @@ returns-then-order-gt1 c =
     rw (← text_disorder c.args.input.now _ c.if-input-lt4.false c.load_u32-n.ensures.value c.if-n-gt256.false _ c.tree_size-k.ensures
     c.if-input-k.false _ _ c.load_u32-limit.ensures.value c.load_u32-order.ensures.value (omega (arith, c.if-order-gt1.true)))
     c.print_refusal-then-order-gt1.ensures
-
-pub slice_bounds-ws-end-2 : goal.slice_bounds-ws-end-2
-slice_bounds-ws-end-2 c = sym (length-take-le _ _ (omega arith))
-
-pub slice_bounds-is-end-2 : goal.slice_bounds-is-end-2
-slice_bounds-is-end-2 c = sym (length-take-le _ _ (omega arith))
-
-pub tree_text-requires : goal.tree_text-requires
-tree_text-requires c = record { indices_len_bound = take_most _ _ _ c.if-n-gt256.false; text_room = c.requires.text_room }
 
 pub returns : goal.returns
 returns c =

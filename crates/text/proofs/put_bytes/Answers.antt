@@ -1,31 +1,13 @@
-use Prim.Native.Nat.{◌≤◌, ◌+◌}
-use mathlib.Core.List.{[], ◌∷◌}
+use Prim.Native.Nat.{◌+◌, ◌-◌}
+use mathlib.Core.Path.{◌≡◌, refl}
 use native.Mathlib.Omega.{arith}
-use lib.ListN.{length, drop, get_or, drop_of_length-le}
-use Rattle.text.proofs.Put.{drop_next, rest_all, rest_room, rest_put, rest_none}
+use lib.ListN.{length}
+use lib.Seq.{drop-drop}
+use Rattle.lists.specs.Splice.{splice}
 use Rattle.text.proofs.put_bytes.Goals as goal
 
-pub loop-i-init : goal.loop-i-init
-loop-i-init c = (omega arith, rest_all _ _ _ c.requires)
-
-pub put_byte-p-requires : goal.put_byte-p-requires
-put_byte-p-requires c =
-    let i = c.loop-i in
-    let b = c.args.bytes.now in
-    let h = rest_room i.invariant.1 (get_or b i.i 0 ∷ []) (drop (i.i + 1) b) (drop_next b i.i (omega arith)) in
-    omega arith
-
-pub loop-i-preserved : goal.loop-i-preserved
-loop-i-preserved c =
-    let i = c.loop-i in
-    let b = c.args.bytes.now in (
-      omega arith,
-      rest_put i.invariant.1 (get_or b i.i 0 ∷ []) (drop (i.i + 1) b) (drop_next b i.i (omega arith))
-          c.put_byte-p.ensures,
-    )
-
 pub returns : goal.returns
+unfolding splice
 returns c =
-    let i = c.loop-i in
-    let h : length c.args.bytes.now ≤ i.i = omega arith in
-    rest_none i.invariant.1 (drop_of_length-le _ h)
+    let k : c.args.at + length c.args.bytes.now - c.args.at ≡ length c.args.bytes.now = omega arith in
+    record { behind = refl; written = rw (k, drop-drop, c.copy_from_slice.ensures.after) refl }

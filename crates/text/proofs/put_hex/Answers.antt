@@ -8,28 +8,25 @@ use Rattle.text.proofs.Hex.{length-hex, hex_next}
 use Rattle.text.proofs.Put.{rest_all, rest_room, rest_put, rest_none}
 use Rattle.text.proofs.put_hex.Goals as goal
 
-pub loop-i-init : goal.loop-i-init
-loop-i-init c = (omega arith, rest_all _ _ _ (omega (arith, length-hex c.args.bytes.now)))
+pub loop-byte-init : goal.loop-byte-init
+loop-byte-init c = rest_all _ _ _ (omega (arith, length-hex c.args.bytes.now))
 
 pub put_hex_byte-p-requires : goal.put_hex_byte-p-requires
 put_hex_byte-p-requires c =
-    let i = c.loop-i in
+    let l = c.loop-byte in
     let b = c.args.bytes.now in
-    let h = rest_room i.invariant.1 (hex (get_or b i.i 0 ∷ [])) (hex (drop (i.i + 1) b)) (hex_next b i.i (omega arith)) in
-    omega (arith, length-hex (get_or b i.i 0 ∷ []))
+    let h = rest_room l.invariant (hex (get_or b l.byte-index 0 ∷ [])) (hex (drop (l.byte-index + 1) b)) (hex_next b l.byte-index (omega arith)) in
+    omega (arith, length-hex (get_or b l.byte-index 0 ∷ []))
 
-pub loop-i-preserved : goal.loop-i-preserved
-loop-i-preserved c =
-    let i = c.loop-i in
-    let b = c.args.bytes.now in (
-      omega arith,
-      rest_put i.invariant.1 (hex (get_or b i.i 0 ∷ [])) (hex (drop (i.i + 1) b)) (hex_next b i.i (omega arith))
-          c.put_hex_byte-p.ensures,
-    )
+pub loop-byte-preserved : goal.loop-byte-preserved
+loop-byte-preserved c =
+    let l = c.loop-byte in
+    let b = c.args.bytes.now in
+    rest_put l.invariant (hex (get_or b l.byte-index 0 ∷ [])) (hex (drop (l.byte-index + 1) b)) (hex_next b l.byte-index (omega arith))
+    c.put_hex_byte-p.ensures
 
 pub returns : goal.returns
 unfolding hex
 returns c =
-    let i = c.loop-i in
-    let h : length c.args.bytes.now ≤ i.i = omega arith in
-    rest_none i.invariant.1 (ap hex (drop_of_length-le _ h))
+    let h : length c.args.bytes.now ≤ c.loop-byte.byte-index = omega arith in
+    rest_none c.loop-byte.invariant (ap hex (drop_of_length-le _ h))

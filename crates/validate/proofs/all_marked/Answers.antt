@@ -1,13 +1,12 @@
-use mathlib.Core.Path.{sym}
+use mathlib.Core.Bool.{not}
+use mathlib.Core.Path.{◌≡◌, ap, ◌∙◌}
+use Prim.Native.Nat.{◌+◌, ◌-◌}
 use native.Mathlib.Omega.{arith}
-use Rattle.validate.proofs.Filling.{marked_none, marked_next, marked_not}
+use Rattle.validate.proofs.Filling.{marked_is}
 use Rattle.validate.proofs.all_marked.Goals as goal
 
-pub loop-x-init : goal.loop-x-init
-loop-x-init c = (omega arith, marked_none _ _)
-
-pub returns-then-work-m-eq0 : goal.returns-then-work-m-eq0
-returns-then-work-m-eq0 c = sym (marked_not _ _ _ _ c.loop-x-test.true c.if-work-m-eq0.true)
-
-pub loop-x-preserved : goal.loop-x-preserved
-loop-x-preserved c = (omega arith, marked_next _ _ _ c.loop-x.invariant.1 c.if-work-m-eq0.false)
+pub returns : goal.returns
+returns c =
+    let a = c.args in
+    let e : a.m + a.n - a.m ≡ a.n = omega arith in
+    ap not (rw e at c.contains.ensures.value) ∙ marked_is a.work.now a.m a.n c.requires

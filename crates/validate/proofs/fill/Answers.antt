@@ -7,4 +7,4 @@ returns-then-marked c = filling_blocked _ _ _ _ _ _ c.loop-j.invariant _ c.loop-
     (λ e. omega (arith, c.if-marked.true))
 
 pub returns : goal.returns
-returns c = filling_done _ _ _ _ _ _ c.loop-j.invariant c.loop-j-test.false
+returns c = filling_done _ _ _ _ _ _ c.loop-j.invariant c.loop-j.auto.j-end c.loop-j-test.false

@@ -1,9 +1,5 @@
-use Prim.Native.Nat.{◌-◌}
 use Rattle.validate.proofs.Reading.{Marking}
 use Rattle.validate.proofs.mark_positions.Given as goal
 
 abbrev pub invariant-loop-slot : goal.invariant-loop-slot
 invariant-loop-slot l = Marking l.record l.n l.i l.slot l.initial.work l.work
-
-abbrev pub decreases-loop-slot : goal.decreases-loop-slot
-decreases-loop-slot l = 8 - l.slot

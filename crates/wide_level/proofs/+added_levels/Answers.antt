@@ -35,35 +35,35 @@ link_word-requires t c = let h = here c.requires.tabled in omega arith
 pub overflow_sub-depth : goal.overflow_sub-depth
 overflow_sub-depth t c = (below t (goal.at.overflow_sub-depth t c).After-below_kind-first).deep
 
-pub added_levels-requires : goal.added_levels-requires
-added_levels-requires t c =
-    let h = below t (goal.at.added_levels-requires t c).After-below_kind-first in
+pub added_levels-in_first-requires : goal.added_levels-in_first-requires
+added_levels-in_first-requires t c =
+    let h = below t (goal.at.added_levels-in_first-requires t c).After-below_kind-first in
     (omega arith, (h.left, h.left_entry))
 
 pub overflow_sub-depth-2 : goal.overflow_sub-depth-2
 overflow_sub-depth-2 t c = (below t (goal.at.overflow_sub-depth-2 t c).After-below_kind-first).deep
 
-pub added_levels-requires-2 : goal.added_levels-requires-2
-added_levels-requires-2 t c =
-    let h = below t (goal.at.added_levels-requires-2 t c).After-below_kind-first in
+pub added_levels-in_second-requires : goal.added_levels-in_second-requires
+added_levels-in_second-requires t c =
+    let h = below t (goal.at.added_levels-in_second-requires t c).After-below_kind-first in
     (omega arith, (h.right, h.right_entry))
 
-pub returns-then-kind-eq2-clause-by_index : goal.returns-then-kind-eq2-clause-by_index
-returns-then-kind-eq2-clause-by_index t c =
-    let h = below t (goal.at.returns-then-kind-eq2-clause-by_index t c).After-below_kind-first in
-    λ limit k. c.greater-below.ensures
-    ∙ as_opened c.requires.tabled c.requires.bound c.kind-kind.ensures h c.added_levels.ensures.by_index c.added_levels-2.ensures.by_index
-    c.if-kind-eq2.true limit k
+pub returns-then-opened-clause-by_index : goal.returns-then-opened-clause-by_index
+returns-then-opened-clause-by_index t c =
+    let h = below t (goal.at.returns-then-opened-clause-by_index t c).After-below_kind-first in
+    λ limit k. c.max-below.ensures
+    ∙ as_opened c.requires.tabled c.requires.bound c.kind-kind.ensures h c.added_levels-in_first.ensures.by_index
+    c.added_levels-in_second.ensures.by_index c.if-opened.true limit k
 
 -- both children have one edge less below them, and so fewer levels than v has edges
-pub returns-clause-upper_bound : goal.returns-clause-upper_bound
-returns-clause-upper_bound t c =
-    let h = (below t (goal.at.returns-clause-upper_bound t c).After-below_kind-first).deep in
+pub returns-else-opened-clause-upper_bound : goal.returns-else-opened-clause-upper_bound
+returns-else-opened-clause-upper_bound t c =
+    let h = (below t (goal.at.returns-else-opened-clause-upper_bound t c).After-below_kind-first).deep in
     omega arith
 
-pub returns-clause-by_index : goal.returns-clause-by_index
-returns-clause-by_index t c =
-    let h = below t (goal.at.returns-clause-by_index t c).After-below_kind-first in
-    λ limit k. ap (λ (m : ℕ). m + 1) c.greater-below.ensures
-    ∙ as_inner c.requires.tabled c.requires.bound c.kind-kind.ensures h c.added_levels.ensures.by_index c.added_levels-2.ensures.by_index
-    c.if-kind-eq0.false c.if-kind-eq2.false limit k
+pub returns-else-opened-clause-by_index : goal.returns-else-opened-clause-by_index
+returns-else-opened-clause-by_index t c =
+    let h = below t (goal.at.returns-else-opened-clause-by_index t c).After-below_kind-first in
+    λ limit k. ap (λ (m : ℕ). m + 1) c.max-below.ensures
+    ∙ as_inner c.requires.tabled c.requires.bound c.kind-kind.ensures h c.added_levels-in_first.ensures.by_index
+    c.added_levels-in_second.ensures.by_index c.if-kind-eq0.false c.if-opened.false limit k

@@ -17,21 +17,21 @@ link_word-link-requires c = let h = here c.requires in omega arith
 pub bounds-decisions-0 : goal.bounds-decisions-0
 bounds-decisions-0 c = let h = here c.requires in omega arith
 
-pub added_levels-requires : goal.added_levels-requires
-added_levels-requires c =
-    let h = below (goal.at.added_levels-requires c).After-right_split-right in
+pub added_levels-in_first-requires : goal.added_levels-in_first-requires
+added_levels-in_first-requires c =
+    let h = below (goal.at.added_levels-in_first-requires c).After-right_split-right in
     record { tabled = h.left; bound = h.left_entry }
 
-pub added_levels-requires-then-kind-eq0 : goal.added_levels-requires-then-kind-eq0
-added_levels-requires-then-kind-eq0 c =
-    let h = below (goal.at.added_levels-requires-then-kind-eq0 c).After-right_split-right in
+pub added_levels-in_second-requires : goal.added_levels-in_second-requires
+added_levels-in_second-requires c =
+    let h = below (goal.at.added_levels-in_second-requires c).After-right_split-right in
     record { tabled = h.right; bound = h.right_entry }
 
 pub returns-then-kind-eq0 : goal.returns-then-kind-eq0
 returns-then-kind-eq0 c =
     let h = below (goal.at.returns-then-kind-eq0 c).After-right_split-right in
-    λ limit ordered k. c.greater.ensures
-    ∙ root_joined c.requires h c.added_levels.ensures.by_index c.added_levels-then-kind-eq0.ensures.by_index limit ordered k
+    λ limit ordered k. c.max.ensures
+    ∙ root_joined c.requires h c.added_levels-in_first.ensures.by_index c.added_levels-in_second.ensures.by_index limit ordered k
 
 pub returns : goal.returns
 returns c = λ limit ordered h. root_leaf c.requires c.link_word-link.ensures c.kind.ensures c.if-kind-eq0.false limit ordered

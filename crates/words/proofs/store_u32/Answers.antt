@@ -1,19 +1,14 @@
+use mathlib.Core.Path.{◌≡◌, ◌∙◌}
+use Prim.Native.Nat.{◌+◌, ◌-◌}
 use native.Mathlib.Nat.{add-zero}
 use native.Mathlib.Omega.{arith}
-use lib.ListN.{length-set}
-use Rattle.words.specs.Fields.{field}
-use Rattle.words.specs.Le.{store_le}
+use Rattle.std.specs.Int.{to_le_bytes, w32}
+use Rattle.words.proofs.Le.{sets_is, stored}
 use Rattle.words.proofs.store_u32.Goals as goal
 
-pub bounds-s-at-2 : goal.bounds-s-at-2
-bounds-s-at-2 c = simp length-set (omega arith)
-
-pub bounds-s-at-3 : goal.bounds-s-at-3
-bounds-s-at-3 c = simp length-set (omega arith)
-
-pub bounds-s-at-4 : goal.bounds-s-at-4
-bounds-s-at-4 c = simp length-set (omega arith)
-
 pub returns : goal.returns
-unfolding store_le field
-returns c = rw add-zero
+returns c =
+    let a = c.args in
+    let four : a.at + 4 - a.at ≡ 4 = omega arith in
+    let e = rw add-zero at (sets_is a.s.now a.at 0 (to_le_bytes w32 a.v) (omega arith) ∙ stored a.s.now a.at a.v) in
+    rw (four, c.copy_from_slice.ensures.after, c.to_le_bytes.ensures) e

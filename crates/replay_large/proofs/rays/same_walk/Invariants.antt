@@ -1,6 +1,6 @@
-use Rattle.std.proofs.Common.{◌-◌}
+-- `same_walk`: no more positions were reported than steps made.
+use Rattle.std.proofs.Common.{◌≤◌}
 use Rattle.replay_large.proofs.rays.same_walk.Given as goal
 
--- what is left of the turns
-abbrev pub decreases-loop-turns : goal.decreases-loop-turns
-decreases-loop-turns l = 1000000 - l.turns
+abbrev pub invariant-loop-steps : goal.invariant-loop-steps
+invariant-loop-steps l = l.reports ≤ l.steps

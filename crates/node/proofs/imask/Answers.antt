@@ -1,7 +1,0 @@
-use Rattle.node.specs.Node.{node_from}
-use mathlib.Core.Path.{refl}
-use Rattle.node.proofs.imask.Goals as goal
-
-pub returns : goal.returns
-unfolding node_from
-returns c = refl

@@ -1,6 +1,0 @@
-use Rattle.std.proofs.Common.{length, ◌-◌}
-use Rattle.replay_losses.proofs.lent.all_are.Given as goal
-
--- the totals that are left
-abbrev pub decreases-loop-i : goal.decreases-loop-i
-decreases-loop-i l = length l.totals - l.i

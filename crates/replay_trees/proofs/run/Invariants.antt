@@ -1,5 +1,0 @@
-use Rattle.replay_trees.proofs.run.Given as goal
-
--- the turns left
-abbrev pub decreases-loop-at : goal.decreases-loop-at
-decreases-loop-at g l = l.at.turns

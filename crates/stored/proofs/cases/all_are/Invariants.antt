@@ -1,6 +1,0 @@
--- `all_are`: the measure is the words that are left.
-use Rattle.std.proofs.Common.{length, ◌-◌}
-use Rattle.stored.proofs.cases.all_are.Given as goal
-
-abbrev pub decreases-loop-i : goal.decreases-loop-i
-decreases-loop-i l = length l.words - l.i

@@ -1,6 +1,0 @@
--- `copy_reals`: the measure is what is left of the slice.
-use Rattle.std.proofs.Common.{length, ◌-◌}
-use Rattle.stored.proofs.cases.copy_reals.Given as goal
-
-abbrev pub decreases-loop-i : goal.decreases-loop-i
-decreases-loop-i l = length l.initial.into - l.i

@@ -1,7 +1,0 @@
-use mathlib.Core.Path.{refl}
-use Rattle.advance.specs.Turn.{step_answer}
-use Rattle.traverse.proofs.emptied.Goals as goal
-
-pub returns : goal.returns
-unfolding step_answer
-returns c = refl
