@@ -70,7 +70,7 @@ pub record Leaf (ws : List ℕ) (n d v p : ℕ) : Type 0 where
   pub link : link_at ws v ≡ position p
   pub tree : tree_at ws d v ≡ leaf v (box_at ws v) p
 
-leaf_link : {ws : List ℕ} {n d v p : ℕ} → Subtree ws n d v → link_at ws v ≡ position p → Leaf ws n d v p
+pub leaf_link : {ws : List ℕ} {n d v p : ℕ} → Subtree ws n d v → link_at ws v ≡ position p → Leaf ws n d v p
 unfolding LabelsWithin
 leaf_link {ws} {n} {d} {v} {p} s e =
     let t = tree_leaf ws d v p e in
@@ -78,7 +78,7 @@ leaf_link {ws} {n} {d} {v} {p} s e =
     record { held = w.1; link = e; tree = t }
 
 -- no link is malformed
-formed : (ws : List ℕ) (d v : ℕ) → link_at ws v ≡ malformed → AllRead ws (tree_at ws d v) → ⊥
+pub formed : (ws : List ℕ) (d v : ℕ) → link_at ws v ≡ malformed → AllRead ws (tree_at ws d v) → ⊥
 unfolding AllRead read_link
 formed ws zero v e w = position_malformed (rw e at w) e
 formed ws (suc d) v e w = position_malformed (rw e at w) e
@@ -119,7 +119,7 @@ apart_inner v b l r h =
     let j = below_inner v b l r v in
     record { not_left = omega arith; not_right = omega arith; not_both = λ x k. let m = h x in let o = below_inner v b l r x in omega arith }
 
-inner_link : (ws : List ℕ) (n d v f : ℕ) → Subtree ws n d v → link_at ws v ≡ children f → Inner ws n d v f
+pub inner_link : (ws : List ℕ) (n d v f : ℕ) → Subtree ws n d v → link_at ws v ≡ children f → Inner ws n d v f
 unfolding AllRead LabelsWithin BoxesAccepted
 inner_link ws n zero v f s e = let w : AllRead ws (leaf v (box_at ws v) 0) = rw (tree_cut ws v f e) at s.whole in children_position e w
 inner_link ws n (suc d) v f s e =

@@ -4,3 +4,4 @@ pub mod Causes
 pub mod FirstCause
 pub mod Decoded
 pub mod Encode
+pub mod Said

@@ -2,7 +2,8 @@
 #![tactic(auto)]
 
 ghost use Rattle.std.specs.Prelude.{◌≡◌, ◌+◌, ◌*◌, ◌<◌, length};
-ghost use Rattle.bvh2.specs.Words.{word_at, float_at, box_at};
+ghost use Rattle.bvh2.specs.Words.{word_at, float_at, box_at, link_of, link_at};
+ghost use Rattle.bvh2.specs.Said.{said};
 
 use aabb::Aabb;
 use ray::Vec3;
@@ -41,7 +42,37 @@ pub fn node_box(words: &[u32], v: usize) -> Aabb
     }
 }
 
-// The link word of node v: its kind is the quotient by 2^30, its index the remainder.
+// What a link word says, by the kind in its two high bits: where a pair of children begins, which position a leaf holds, or nothing that a tree says.
+#[derive(Clone, Copy, Debug, PartialEq, Eq)]
+pub enum Link {
+    Children(usize),
+    Position(usize),
+    Malformed,
+}
+
+impl From<u32> for Link {
+    ghost from_gives = { λ word link. said link ≡ link_of word };
+
+    // What a word says.
+    fn from(word: u32) -> Link {
+        let rest = words::below_kind(word) as usize;
+        match words::kind(word) {
+            0 => Link::Children(rest),
+            1 => Link::Position(rest),
+            _ => Link::Malformed,
+        }
+    }
+}
+
+// What node v's link word says.
+pub fn node_link(words: &[u32], v: usize) -> Link
+    requires { v * 7 + 6 < length words.now }
+    ensures { said result ≡ link_at words.now v }
+{
+    Link::from(link_word(words, v))
+}
+
+// The link word of node v.
 pub fn link_word(words: &[u32], v: usize) -> u32
     requires { v * 7 + 6 < length words.now }
     ensures { result ≡ word_at words.now v 6 }

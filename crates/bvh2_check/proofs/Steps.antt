@@ -1,18 +1,17 @@
 -- One step of the marking walk, as the code takes it: what it reads, and what it returns and leaves in each case.
-use mathlib.Core.Path.{◌≡◌, refl, sym, ◌∙◌}
+use mathlib.Core.Path.{◌≡◌, refl, sym}
 use mathlib.Core.Bool.{Bool, true, false}
 use mathlib.Core.List.{List}
-use Prim.Native.Nat.{ℕ, zero, suc, ◌+◌, ◌-◌, ◌/◌, ◌%◌, ◌<◌}
-use native.Mathlib.Decide.{ℕ_discrete}
+use Prim.Native.Nat.{ℕ, zero, suc, ◌+◌, ◌-◌, ◌<◌}
 use native.Mathlib.Omega.{arith}
 use lib.ListN.{get_or, set}
 use Rattle.lists.proofs.Tells.{tells_true, tells_false}
 use Rattle.aabb.specs.declared.Aabb.{Aabb}
 use Rattle.bvh2.specs.Tree.{Tree, leaf, inner, label_of}
-use Rattle.bvh2.specs.Words.{children, position, malformed, word_at, link_at, box_at, tree_at}
+use Rattle.bvh2.specs.Words.{children, position, malformed, link_at, box_at, tree_at}
 use Rattle.bvh2.specs.Causes.{LinkInside}
 use Rattle.bvh2.specs.FirstCause.{is_position}
-use Rattle.bvh2.proofs.Reading.{word-children, word_position, word_malformed, children_position, tree_leaf, tree_down, tree_cut, label_is}
+use Rattle.bvh2.proofs.Reading.{children_position, tree_leaf, tree_down, tree_cut, label_is}
 use Rattle.bvh2.proofs.Once.{position_tells}
 use Rattle.bvh2_check.specs.Marking.{Marking, stop, go, marking_if, mark, walk, MarkReady}
 
@@ -22,37 +21,27 @@ pub record Leaf (ws : List ℕ) (n v d p : ℕ) : Type 0 where
   pub tree : tree_at ws d v ≡ leaf v (box_at ws v) p
   pub ends : is_position p (link_at ws v) ≡ true
 
-pub at_leaf : {ws : List ℕ} {n marks v kind p : ℕ} (d w : ℕ) → MarkReady ws n marks v → w ≡ word_at ws v 6 → kind ≡ w / 0x4000_0000
-    → (kind ≡ 0 → ⊥) → p ≡ w % 0x4000_0000 → Leaf ws n v d p
+pub at_leaf : {ws : List ℕ} {n marks v : ℕ} (d p : ℕ) → MarkReady ws n marks v → position p ≡ link_at ws v → Leaf ws n v d p
 unfolding LinkInside
-at_leaf {ws} {n} {marks} {v} d w r e q h s = rw s (pick (ℕ_discrete (w / 0x4000_0000) 1))
-  where
-    inside : LinkInside n (link_at ws v)
-    inside = r.inside v r.node
+at_leaf {ws} {n} {marks} {v} d p r e =
+    let i : LinkInside n (position p) = rw (← e) at (r.inside v r.node) in
+    record { held = i; tree = tree_leaf ws d v p (sym e); ends = tells_true (position_tells p (link_at ws v)) (sym e) }
 
-    pick : Dec (w / 0x4000_0000 ≡ 1) → Leaf ws n v d (w % 0x4000_0000)
-    pick (yes k) =
-        let l : link_at ws v ≡ position (w % 0x4000_0000) = rw (← e) (word_position w k) in
-        let i : LinkInside n (position (w % 0x4000_0000)) = rw l at inside in
-        record { held = i; tree = tree_leaf ws d v (w % 0x4000_0000) l; ends = tells_true (position_tells (w % 0x4000_0000) (link_at ws v)) l }
-    pick (no k) =
-        let l : link_at ws v ≡ malformed = rw (← e) (word_malformed w (λ z. h (q ∙ z)) k) in
-        let i : LinkInside n malformed = rw l at inside in
-        absurd i
+-- no link is malformed
+pub formed : {ws : List ℕ} {n marks v : ℕ} → MarkReady ws n marks v → malformed ≡ link_at ws v → ⊥
+unfolding LinkInside
+formed {ws} {n} {marks} {v} r e = let i : LinkInside n malformed = rw (← e) at (r.inside v r.node) in i
 
 -- an inner node with no edge left below it
 pub record Cut (ws : List ℕ) (v d : ℕ) : Type 0 where
   pub tree : tree_at ws d v ≡ leaf v (box_at ws v) 0
   pub goes_on_lem : is_position 0 (link_at ws v) ≡ false
 
-pub at_cut : {kind : ℕ} (ws : List ℕ) (v d w : ℕ) → w ≡ word_at ws v 6 → kind ≡ w / 0x4000_0000 → kind ≡ 0 → d ≡ 0 → Cut ws v d
-at_cut ws v d w e q h z =
-    let l : link_at ws v ≡ children (w % 0x4000_0000) = rw (← e) (word-children w (sym q ∙ h)) in
-    record {
-      tree = rw z (tree_cut ws v (w % 0x4000_0000) l);
-      goes_on_lem =
-          tells_false (position_tells 0 (link_at ws v)) (λ e. children_position l e);
-    }
+pub at_cut : (ws : List ℕ) (v d f : ℕ) → children f ≡ link_at ws v → d ≡ 0 → Cut ws v d
+at_cut ws v d f e z = record {
+  tree = rw z (tree_cut ws v f (sym e));
+  goes_on_lem = tells_false (position_tells 0 (link_at ws v)) (λ h. children_position (sym e) h);
+}
 
 -- an inner node
 pub record Fork (ws : List ℕ) (n marks v d f : ℕ) : Type 0 where
@@ -60,17 +49,15 @@ pub record Fork (ws : List ℕ) (n marks v d f : ℕ) : Type 0 where
   pub right : MarkReady ws n marks (f + 1)
   pub tree : tree_at ws d v ≡ inner v (box_at ws v) (tree_at ws (d - 1) f) (tree_at ws (d - 1) (f + 1))
 
-pub at_fork : {ws : List ℕ} {n marks v kind f : ℕ} (d w : ℕ) → MarkReady ws n marks v → w ≡ word_at ws v 6 → kind ≡ w / 0x4000_0000 → kind ≡ 0
-    → (d ≡ 0 → ⊥) → f ≡ w % 0x4000_0000 → Fork ws n marks v d f
+pub at_fork : {ws : List ℕ} {n marks v : ℕ} (d f : ℕ) → MarkReady ws n marks v → children f ≡ link_at ws v → (d ≡ 0 → ⊥) → Fork ws n marks v d f
 unfolding LinkInside
-at_fork {ws} {n} {marks} {v} d w r e q h z s =
-    let l : link_at ws v ≡ children (w % 0x4000_0000) = rw (← e) (word-children w (sym q ∙ h)) in
-    let i : LinkInside n (children (w % 0x4000_0000)) = rw l at (r.inside v r.node) in
-    rw s (record {
+at_fork {ws} {n} {marks} {v} d f r e z =
+    let i : LinkInside n (children f) = rw (← e) at (r.inside v r.node) in
+    record {
       left = record { sized = r.sized; inside = r.inside; room = r.room; node = omega arith };
       right = record { sized = r.sized; inside = r.inside; room = r.room; node = i };
-      tree = tree_down ws d v (w % 0x4000_0000) l (omega arith);
-    })
+      tree = tree_down ws d v f (sym e) (omega arith);
+    }
 
 -- a mark
 mark_go : (o : List ℕ) (i : ℕ) → get_or o i 0 ≡ 0 → mark o i ≡ go (set o i 1)

@@ -1,14 +1,12 @@
 -- The tests before the walk, as the code makes them.
 use mathlib.Core.Path.{◌≡◌, sym, ◌∙◌}
-use mathlib.Core.Bool.{false}
-use Prim.Native.Nat.{ℕ, ◌+◌, ◌*◌, ◌-◌, ◌/◌, ◌%◌, ◌<◌, ◌≤◌}
+use Prim.Native.Nat.{ℕ, ◌+◌, ◌*◌, ◌-◌, ◌<◌, ◌≤◌}
 use native.Mathlib.Omega.{arith}
 use lib.Dec.{ltb}
-use Rattle.lists.proofs.Tells.{tells_true, tells_false, eqb_tells, leb_tells}
+use Rattle.lists.proofs.Tells.{tells_true, tells_false, tells_same, tells_as, eqb_tells, leb_tells, ltb_tells}
 use Rattle.causes.proofs.Causes.{first_here, first_later, passed_none}
-use Rattle.bvh2.specs.Words.{tree_nodes, link_of}
-use Rattle.bvh2.specs.FirstCause.{size_conditions, sizes_cause, is_inside}
-use Rattle.bvh2.proofs.Reading.{word-children, word_position, word_malformed}
+use Rattle.bvh2.specs.Words.{tree_nodes}
+use Rattle.bvh2.specs.FirstCause.{size_conditions, sizes_cause}
 
 -- causes 1 and 2
 pub sizes_1 : (words n : ℕ) → (words ≡ tree_nodes n * 7 → ⊥) → 1 ≡ sizes_cause words n
@@ -25,16 +23,6 @@ unfolding size_conditions
 sizes_0 words n h k =
     sym (passed_none (size_conditions words n) (tells_true (eqb_tells words (tree_nodes n * 7)) h, (tells_true (leb_tells n 65536) k, tt)))
 
--- a link by its kind
-pub inside_children : {kind low : ℕ} (n w : ℕ) → kind ≡ w / 0x4000_0000 → low ≡ w % 0x4000_0000 → kind ≡ 0 → ltb (low + 1) (2 * n - 1)
-    ≡ is_inside n (link_of w)
-unfolding is_inside
-inside_children n w q r e = rw (r, word-children w (sym q ∙ e))
-
-pub inside_position : {kind low : ℕ} (n w : ℕ) → kind ≡ w / 0x4000_0000 → low ≡ w % 0x4000_0000 → kind ≡ 1 → ltb low n ≡ is_inside n (link_of w)
-unfolding is_inside
-inside_position n w q r e = rw (r, word_position w (sym q ∙ e))
-
-pub inside_malformed : {kind : ℕ} (n w : ℕ) → kind ≡ w / 0x4000_0000 → (kind ≡ 0 → ⊥) → (kind ≡ 1 → ⊥) → false ≡ is_inside n (link_of w)
-unfolding is_inside
-inside_malformed n w q a b = rw (word_malformed w (λ z. a (q ∙ z)) (λ z. b (q ∙ z)))
+-- a pair of children inside
+pub inside_children : (n f : ℕ) → 0 < n → ltb f (2 * n - 2) ≡ ltb (f + 1) (2 * n - 1)
+inside_children n f h = tells_same (tells_as (ltb_tells f (2 * n - 2)) (λ i. omega arith) (λ i. omega arith)) (ltb_tells (f + 1) (2 * n - 1))

@@ -3,11 +3,13 @@
 
 ghost use Rattle.std.specs.Prelude.{◌≡◌, ◌++◌, ◌<◌, ◌≤◌, length, replicate, drop};
 ghost use Rattle.causes.specs.Refusal.{cause_in};
-ghost use Rattle.bvh2.specs.Words.{tree_nodes, link_of, tree_at};
+ghost use Rattle.bvh2.specs.Said.{said};
+ghost use Rattle.bvh2.specs.Words.{tree_nodes, tree_at};
 ghost use Rattle.bvh2.specs.Causes.{TreeSized};
 ghost use Rattle.bvh2.specs.FirstCause.{sizes_cause, is_inside, links_inside, boxes_accepted, is_whole, structure_cause};
 ghost use Rattle.bvh2_check.specs.Marking.{mark_count, marking_if, walk, marks_set, MarkReady, InTree};
 
+use bvh2::Link;
 use causes::Refusal;
 
 // Causes 1 and 2: the number of words, and the number of leaves.
@@ -25,15 +27,14 @@ pub fn sizes(words: &[u32], n: usize) -> Result<(), Refusal>
 }
 
 // Whether the link is to two nodes of the tree, or to a position of the list.
-fn link_inside(link: u32, n: usize) -> bool
+fn link_inside(link: Link, n: usize) -> bool
     requires { (0 < n) × (n ≤ 65536) }
-    ensures { result ≡ is_inside n (link_of link) }
+    ensures { result ≡ is_inside n (said link) }
 {
-    let low = words::below_kind(link) as usize;
-    match words::kind(link) {
-        0 => low + 1 < 2 * n - 1,
-        1 => low < n,
-        _ => false,
+    match link {
+        Link::Children(first) => first < 2 * n - 2,
+        Link::Position(position) => position < n,
+        Link::Malformed => false,
     }
 }
 
@@ -42,7 +43,7 @@ fn links_inside(words: &[u32], n: usize) -> bool
     requires { TreeSized words.now n × (0 < n) }
     ensures { result ≡ links_inside words.now n }
 {
-    (0..2 * n - 1).all(|v| link_inside(bvh2::link_word(words, v), n))
+    (0..2 * n - 1).all(|v| link_inside(bvh2::node_link(words, v), n))
 }
 
 // Whether every box is accepted.
@@ -64,21 +65,22 @@ fn visit(words: &[u32], marks: &mut [u32], n: usize, node: usize, depth: u32) ->
         return false;
     }
     marks[node] = 1;
-    let link = bvh2::link_word(words, node);
-    if words::kind(link) != 0 {
-        let place = 2 * n - 1 + words::below_kind(link) as usize;
-        let met = marks[place] != 0;
-        if met {
-            return false;
+    match bvh2::node_link(words, node) {
+        Link::Children(_) if depth == 0 => false,
+        Link::Children(first) => {
+            visit(words, marks, n, first, depth - 1) && visit(words, marks, n, first + 1, depth - 1)
         }
-        marks[place] = 1;
-        return true;
+        Link::Position(position) => {
+            let place = 2 * n - 1 + position;
+            let met = marks[place] != 0;
+            if met {
+                return false;
+            }
+            marks[place] = 1;
+            true
+        }
+        Link::Malformed => unreachable!(),
     }
-    if depth == 0 {
-        return false;
-    }
-    let first = words::below_kind(link) as usize;
-    visit(words, marks, n, first, depth - 1) && visit(words, marks, n, first + 1, depth - 1)
 }
 
 // Whether each of the first k is marked.
@@ -135,13 +137,12 @@ pub fn within_depth(words: &[u32], node: usize, depth: u32) -> bool
     requires { InTree words.now node }
     ensures { result ≡ is_whole words.now (tree_at words.now depth node) }
 {
-    let link = bvh2::link_word(words, node);
-    if words::kind(link) != 0 {
-        return true;
+    match bvh2::node_link(words, node) {
+        Link::Children(_) if depth == 0 => false,
+        Link::Children(first) => {
+            within_depth(words, first, depth - 1) && within_depth(words, first + 1, depth - 1)
+        }
+        Link::Position(_) => true,
+        Link::Malformed => unreachable!(),
     }
-    if depth == 0 {
-        return false;
-    }
-    let first = words::below_kind(link) as usize;
-    within_depth(words, first, depth - 1) && within_depth(words, first + 1, depth - 1)
 }

@@ -8,13 +8,21 @@ use lib.ListN.{length, get_or, set, length-append, length-map}
 use Rattle.lists.specs.Splice.{splice}
 use Rattle.lists.proofs.Splice.{splice_next, set-splice}
 use Rattle.bvh2.specs.Tree.{Tree, leaf, inner, label_of}
-use Rattle.bvh2.specs.Words.{word_at, box_at, tree_at}
+use Rattle.bvh2.specs.declared.Link.{Link as Read}
+use Rattle.bvh2.specs.declared.Link.TheVariants as V
+use Rattle.bvh2.specs.Said.{said}
+use Rattle.bvh2.specs.Words.{Link, children, position, malformed, word_at, link_at, box_at, tree_at}
+use Rattle.bvh2.specs.Decoded.{Subtree}
 use Rattle.bvh2.proofs.Decoded.{subtree_leaves}
-use Rattle.bvh2.proofs.Reading.{label_is}
-use Rattle.bvh2.proofs.Subtree.{node, at_leaf, Inner, at_inner}
+use Rattle.bvh2.proofs.Reading.{word-children, children_position, tree_leaf, label_is}
+use Rattle.bvh2.proofs.Subtree.{node, at_leaf, formed, Inner, inner_link}
+use Rattle.cost.specs.declared.Kind.{Kind as Told}
+use Rattle.cost.specs.declared.Kind.TheVariants as K
+use Rattle.cost.specs.Said.{kind_said, kind_in}
 use Rattle.cost.specs.Table.{Kind, LEAF, INTERNAL, DISTRIBUTE, Decision, code, table, word_of}
 use Rattle.cost.specs.Rows.{RowsHold}
-use Rattle.cost.proofs.Splits.{leaf_kind, splits_few, word_fields}
+use Rattle.cost.proofs.Splits.{leaf_distribute, internal_distribute, leaf_kind, splits_few, word_fields}
+use Rattle.cost.proofs.Decisions.{kind_coded}
 use Rattle.children.specs.Gather.{opened, gather, part}
 use Rattle.children.specs.Tabled.{Tabled, Opens, Divides, Gathered}
 use Rattle.children.proofs.Gather.{one_child, gather_width}
@@ -58,11 +66,23 @@ says {ws} {ds} {e} {v} h limit k i u =
       few = f;
     }
 
+-- and the kind that it says
+pub told : {ws ds : List ℕ} {e v : ℕ} → Tabled ws ds e v → (limit : ℕ) → RowsHold (word_of limit) 0 ds (tree_at ws e v) → (i : ℕ) → i ≤ 6
+    → kind_in (get_or ds (v * 7 + i) 0) ≡ (table limit (tree_at ws e v) i).kind
+told {ws} {ds} {e} {v} h limit k i u =
+    kind_coded (get_or ds (v * 7 + i) 0) (table limit (tree_at ws e v) i).kind (says h limit k i u).kind
+
 -- ---- a node that stays
-alone : (k : Kind) (t : Tree ℕ) (g : List (Tree ℕ)) → (code k ≡ 2 → ⊥) → opened k t g ≡ t ∷ []
+alone : (k : Kind) (t : Tree ℕ) (g : List (Tree ℕ)) → (k ≡ DISTRIBUTE → ⊥) → opened k t g ≡ t ∷ []
 alone LEAF t g h = refl
 alone INTERNAL t g h = refl
 alone DISTRIBUTE t g h = absurd (h refl)
+
+-- the code's kind is DISTRIBUTE only where it says so
+not_told : {k : Told} {x : Kind} → kind_said k ≡ x → (k ≡ K.Distribute → ⊥) → x ≡ DISTRIBUTE → ⊥
+not_told {k = K.Leaf} q z y = leaf_distribute (q ∙ y)
+not_told {k = K.Internal} q z y = internal_distribute (q ∙ y)
+not_told {k = K.Distribute} q z y = z refl
 
 -- it is one child
 one_written : (t : Tree ℕ) (v count : ℕ) (before : List ℕ) (g : List (Tree ℕ)) → label_of t ≡ v → g ≡ t ∷ [] → count < length before
@@ -74,24 +94,24 @@ one_written t v count before g q e u = rw e (record {
 })
 
 stays : {ws ds : List ℕ} {e v : ℕ} → Tabled ws ds e v → (limit : ℕ) → RowsHold (word_of limit) 0 ds (tree_at ws e v) → (i : ℕ) → i ≤ 6
-    → (get_or ds (v * 7 + i) 0 / 0x4000_0000 ≡ 2 → ⊥) → part limit (tree_at ws e v) i ≡ tree_at ws e v ∷ []
+    → (kind_in (get_or ds (v * 7 + i) 0) ≡ DISTRIBUTE → ⊥) → part limit (tree_at ws e v) i ≡ tree_at ws e v ∷ []
 stays {ws} {e = e} {v = v} h limit k i u z =
-    alone (table limit (tree_at ws e v) i).kind (tree_at ws e v) (gather limit (tree_at ws e v) i) (λ y. z ((says h limit k i u).kind ∙ y))
+    alone (table limit (tree_at ws e v) i).kind (tree_at ws e v) (gather limit (tree_at ws e v) i) (λ y. z (told h limit k i u ∙ y))
 
-pub slot_left : {ws ds : List ℕ} {e v i count kind : ℕ} → Opens ws ds e v i count → kind ≡ get_or ds (v * 7 + i) 0 / 0x4000_0000 → (kind ≡ 2 → ⊥)
-    → count < 8
+pub slot_left : {ws ds : List ℕ} {e v i count : ℕ} {kind : Told} → Opens ws ds e v i count → kind_said kind ≡ kind_in (get_or ds (v * 7 + i) 0)
+    → (kind ≡ K.Distribute → ⊥) → count < 8
 slot_left {i = i} o q z =
     let h = o.tabled in
-    omega (arith, o.slots, ap length (stays h h.limit h.holds i o.entry (λ y. z (q ∙ y))))
+    omega (arith, o.slots, ap length (stays h h.limit h.holds i o.entry (not_told q z)))
 
-pub stay : {ws ds : List ℕ} {e v i count kind : ℕ} → Opens ws ds e v i count → (before : List ℕ) → 8 ≤ length before
-    → kind ≡ get_or ds (v * 7 + i) 0 / 0x4000_0000 → (kind ≡ 2 → ⊥)
+pub stay : {ws ds : List ℕ} {e v i count : ℕ} {kind : Told} → Opens ws ds e v i count → (before : List ℕ) → 8 ≤ length before
+    → kind_said kind ≡ kind_in (get_or ds (v * 7 + i) 0) → (kind ≡ K.Distribute → ⊥)
     → (limit : ℕ) → RowsHold (word_of limit) 0 ds (tree_at ws e v)
     → Gathered (part limit (tree_at ws e v) i) count before (set before count v) (count + 1)
 stay {ws} {e = e} {v = v} {i = i} {count = count} o before l q z limit k =
     let u = slot_left o q z in
     one_written (tree_at ws e v) v count before (part limit (tree_at ws e v) i) (label_is ws e v)
-    (stays o.tabled limit k i o.entry (λ y. z (q ∙ y))) (omega arith)
+    (stays o.tabled limit k i o.entry (not_told q z)) (omega arith)
 
 -- ---- a node that is opened: what each call asks, and what they make together
 pub record Down (ws ds : List ℕ) (e v f l r count : ℕ) (g : ℕ → List (Tree ℕ)) : Type 0 where
@@ -169,20 +189,17 @@ module _ {ws ds : List ℕ} {e v : ℕ} (h : Tabled ws ds e v) (f : ℕ) (p : In
       }
 
 -- a node that distributes is an inner one
-kind_inner : {ws ds : List ℕ} {e v : ℕ} → Tabled ws ds e v → (i : ℕ) → i ≤ 6 → get_or ds (v * 7 + i) 0 / 0x4000_0000 ≡ 2
+kind_inner : {ws ds : List ℕ} {e v : ℕ} → Tabled ws ds e v → (i : ℕ) → i ≤ 6 → kind_in (get_or ds (v * 7 + i) 0) ≡ DISTRIBUTE
     → word_at ws v 6 / 0x4000_0000
     ≡ 0
 kind_inner {ws} {ds} {e} {v} h i u z = pick (ℕ_discrete (word_at ws v 6 / 0x4000_0000) 0)
   where
-    no_leaf : (t : Tree ℕ) (box : _) (p : ℕ) → t ≡ leaf v box p → get_or ds (v * 7 + i) 0 / 0x4000_0000 ≡ code (table h.limit t i).kind → ⊥
-    no_leaf t box p q s =
-        let l : (table h.limit t i).kind ≡ LEAF = rw q (leaf_kind h.limit v box p i) in
-        let k : ◌≡◌ {A = ℕ} 2 0 = sym z ∙ s ∙ ap code l in
-        omega arith
+    no_leaf : (t : Tree ℕ) (box : _) (p : ℕ) → t ≡ leaf v box p → kind_in (get_or ds (v * 7 + i) 0) ≡ (table h.limit t i).kind → ⊥
+    no_leaf t box p q s = leaf_distribute (sym (rw q (leaf_kind h.limit v box p i)) ∙ sym s ∙ z)
 
     pick : Dec (word_at ws v 6 / 0x4000_0000 ≡ 0) → word_at ws v 6 / 0x4000_0000 ≡ 0
     pick (yes q) = q
-    pick (no q) = absurd (no_leaf (tree_at ws e v) (box_at ws v) _ (at_leaf h.tree q).tree (says h h.limit h.holds i u).kind)
+    pick (no q) = absurd (no_leaf (tree_at ws e v) (box_at ws v) _ (at_leaf h.tree q).tree (told h h.limit h.holds i u))
 
 -- what an inner tree opens into
 gather_inner : (limit : ℕ) (t : Tree ℕ) (v : ℕ) (box : _) (a b : Tree ℕ) (i : ℕ) → t ≡ inner v box a b → gather limit t i
@@ -190,53 +207,75 @@ gather_inner : (limit : ℕ) (t : Tree ℕ) (v : ℕ) (box : _) (a b : Tree ℕ)
 unfolding gather
 gather_inner limit t v box a b i q = rw q
 
-distributed : (k : Kind) (t : Tree ℕ) (g : List (Tree ℕ)) → code k ≡ 2 → opened k t g ≡ g
-distributed LEAF t g h = absurd (omega arith)
-distributed INTERNAL t g h = absurd (omega arith)
-distributed DISTRIBUTE t g h = refl
+distributed : (k : Kind) (t : Tree ℕ) (g : List (Tree ℕ)) → k ≡ DISTRIBUTE → opened k t g ≡ g
+distributed k t g h = rw h
 
 -- a node that distributes is opened, and contributes what it opens into
-pub divides : {ws ds : List ℕ} {e v i count kind : ℕ} → Opens ws ds e v i count → kind ≡ get_or ds (v * 7 + i) 0 / 0x4000_0000 → kind ≡ 2
-    → Divides ws ds e v i count
+pub divides : {ws ds : List ℕ} {e v i count : ℕ} {kind : Told} → Opens ws ds e v i count → kind_said kind ≡ kind_in (get_or ds (v * 7 + i) 0)
+    → kind ≡ K.Distribute → Divides ws ds e v i count
 divides {ws} {ds} {e} {v} {i} {count} o q y =
     let h = o.tabled in
-    let z = sym q ∙ y in
+    let z = sym q ∙ ap kind_said y in
     let g = distributed (table h.limit (tree_at ws e v) i).kind (tree_at ws e v) (gather h.limit (tree_at ws e v) i)
-    (sym (says h h.limit h.holds i o.entry).kind ∙ z) in
+    (sym (told h h.limit h.holds i o.entry) ∙ z) in
     record { tabled = h; entry = o.entry; inner = kind_inner h i o.entry z; slots = omega (arith, o.slots, ap length g) }
 
-pub contributes : {ws ds : List ℕ} {e v i count kind : ℕ} → Opens ws ds e v i count → kind ≡ get_or ds (v * 7 + i) 0 / 0x4000_0000 → kind ≡ 2
+pub contributes : {ws ds : List ℕ} {e v i count : ℕ} {kind : Told} → Opens ws ds e v i count → kind_said kind ≡ kind_in (get_or ds (v * 7 + i) 0)
+    → kind ≡ K.Distribute
     → (before after : List ℕ) (r : ℕ)
     → ((limit : ℕ) → RowsHold (word_of limit) 0 ds (tree_at ws e v) → Gathered (gather limit (tree_at ws e v) i) count before after r)
     → (limit : ℕ) → RowsHold (word_of limit) 0 ds (tree_at ws e v) → Gathered (part limit (tree_at ws e v) i) count before after r
 contributes {ws} {e = e} {v = v} {i = i} o q z before after r G limit k =
     rw (distributed (table limit (tree_at ws e v) i).kind (tree_at ws e v) (gather limit (tree_at ws e v) i)
-    (sym (says o.tabled limit k i o.entry).kind ∙ sym q ∙ z)) (G limit k)
+    (sym (told o.tabled limit k i o.entry) ∙ sym q ∙ ap kind_said z)) (G limit k)
 
-pub down : {ws ds : List ℕ} {e v i count w f l r : ℕ} → Divides ws ds e v i count → w ≡ word_at ws v 6 → f ≡ w % 0x4000_0000
+-- an inner node's link is one to children
+children_malformed : {f : ℕ} → malformed ≡ children f → ⊥
+children_malformed q = let z : ◌≡◌ {A = ℕ} 0 1 = cc in omega arith
+
+has_children : (ws : List ℕ) (v : ℕ) {l : Link} → l ≡ link_at ws v → word_at ws v 6 / 0x4000_0000 ≡ 0 → l ≡ children (word_at ws v 6 % 0x4000_0000)
+has_children ws v q z = q ∙ word-children (word_at ws v 6) z
+
+pub not_childless : {ws ds : List ℕ} {e v i count : ℕ} {l : Read} → Divides ws ds e v i count → said l ≡ link_at ws v
+    → ((f : ℕ) → l ≡ V.Children f → ⊥) → ⊥
+not_childless {l = V.Children f} o q k = k f refl
+not_childless {ws} {v = v} {l = V.Position p} o q k = children_position (has_children ws v q o.inner) refl
+not_childless {ws} {v = v} {l = V.Malformed} o q k = children_malformed (has_children ws v q o.inner)
+
+pub down : {ws ds : List ℕ} {e v i count f l r : ℕ} → Divides ws ds e v i count → children f ≡ link_at ws v
     → l ≡ get_or ds (v * 7 + i) 0 / 256 % 256 → r ≡ get_or ds (v * 7 + i) 0 % 256
     → Down ws ds e v f l r count (λ limit. gather limit (tree_at ws e v) i)
-down {ws} {ds} {e} {v} {i} {count} o q x y z =
+down {ws} {ds} {e} {v} {i} {count} {f = f} o q y z =
     let h = o.tabled in
-    let p = at_inner h.tree o.inner in
-    rw (x, q, y, z) (halves h (word_at ws v 6 % 0x4000_0000) p i count o.entry (λ limit. gather limit (tree_at ws e v) i)
+    let p = inner_link ws h.n e v f h.tree (sym q) in
+    rw (y, z) (halves h f p i count o.entry (λ limit. gather limit (tree_at ws e v) i)
     (λ limit k. gather_inner limit (tree_at ws e v) v (box_at ws v) _ _ i p.tree) o.slots)
 
+-- and a link to children says so of its word
+inner_word : {ws : List ℕ} {n e v f : ℕ} → Subtree ws n e v → children f ≡ link_at ws v → word_at ws v 6 / 0x4000_0000 ≡ 0
+inner_word {ws} {v = v} h q = pick (ℕ_discrete (word_at ws v 6 / 0x4000_0000) 0)
+  where
+    pick : Dec (word_at ws v 6 / 0x4000_0000 ≡ 0) → word_at ws v 6 / 0x4000_0000 ≡ 0
+    pick (yes z) = z
+    pick (no z) = children_position (sym q) (at_leaf h z).link
+
 -- the node whose children are gathered
-pub root_divides : {ws ds : List ℕ} {e v w kind : ℕ} → Tabled ws ds e v → w ≡ word_at ws v 6 → kind ≡ w / 0x4000_0000 → kind ≡ 0
-    → Divides ws ds e v 0 0
-root_divides {ws} {ds} {e} {v} h q r z =
+pub root_divides : {ws ds : List ℕ} {e v f : ℕ} → Tabled ws ds e v → children f ≡ link_at ws v → Divides ws ds e v 0 0
+root_divides {ws} {ds} {e} {v} h q =
     let s : length (gather h.limit (tree_at ws e v) 0) ≤ 8 = gather_width h.limit (tree_at ws e v) h.tree.boxes
     (omega (arith, subtree_leaves h.tree, h.tree.few)) in
-    record { tabled = h; entry = omega arith; inner = rw (r, q) at z; slots = omega arith }
+    record { tabled = h; entry = omega arith; inner = inner_word h.tree q; slots = omega arith }
 
-pub root_leaf : {ws ds : List ℕ} {e v w kind : ℕ} → Tabled ws ds e v → w ≡ word_at ws v 6 → kind ≡ w / 0x4000_0000 → (kind ≡ 0 → ⊥)
+pub root_formed : {ws ds : List ℕ} {e v : ℕ} → Tabled ws ds e v → malformed ≡ link_at ws v → ⊥
+root_formed {ws} {e = e} {v = v} h q = formed ws e v (sym q) h.tree.whole
+
+pub root_leaf : {ws ds : List ℕ} {e v p : ℕ} → Tabled ws ds e v → position p ≡ link_at ws v
     → (before : List ℕ)
     → 8 ≤ length before
     → (limit : ℕ) → Gathered (gather limit (tree_at ws e v) 0) 0 before (set before 0 v) 1
-root_leaf {ws} {e = e} {v = v} h q r z before u limit =
+root_leaf {ws} {e = e} {v = v} {p = p} h q before u limit =
     one_written (tree_at ws e v) v 0 before (gather limit (tree_at ws e v) 0) (label_is ws e v)
-    (itself limit (tree_at ws e v) (at_leaf h.tree (λ y. z (r ∙ ap (λ (x : ℕ). x / 0x4000_0000) q ∙ y))).tree) (omega arith)
+    (itself limit (tree_at ws e v) (tree_leaf ws e v p (sym q))) (omega arith)
   where
     itself : (limit : ℕ) (t : Tree ℕ) {box : _} {p : ℕ} → t ≡ leaf v box p → gather limit t 0 ≡ t ∷ []
     itself limit t {box} {p} k = rw k (one_child limit v box p 0)

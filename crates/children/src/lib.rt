@@ -8,6 +8,9 @@ ghost use Rattle.cost.specs.Rows.{RowsHold};
 ghost use Rattle.children.specs.Gather.{gather, part};
 ghost use Rattle.children.specs.Tabled.{Tabled, Opens, Divides, Gathered};
 
+use bvh2::Link;
+use cost::Kind;
+
 // Writes what node v contributes at an entry behind `count` children: itself, or where its decision is DISTRIBUTE, what it opens into.
 // Returns the count after them.
 #[cycle(open_child_open_node)]
@@ -25,12 +28,13 @@ fn open_child(
     ensures { (limit : ℕ) → RowsHold (word_of limit) 0 decisions.now (tree_at words.now depth v)
         → Gathered (part limit (tree_at words.now depth v) entry) count children.old children.new result }
 {
-    let word = decisions[v * 7 + entry];
-    if words::kind(word) != 2 {
-        children[count] = v as u32;
-        return count + 1;
+    match cost::decision_at(decisions, v, entry).kind {
+        Kind::Distribute => open_node(words, decisions, v, entry, depth, children, count),
+        _ => {
+            children[count] = v as u32;
+            count + 1
+        }
     }
-    open_node(words, decisions, v, entry, depth, children, count)
 }
 
 // Writes what the inner node v opens into at an entry behind `count` children: what its two children contribute, each at the entry that the decision
@@ -50,16 +54,24 @@ fn open_node(
     ensures { (limit : ℕ) → RowsHold (word_of limit) 0 decisions.now (tree_at words.now depth v)
         → Gathered (gather limit (tree_at words.now depth v) entry) count children.old children.new result }
 {
-    let word = decisions[v * 7 + entry];
-    let left = cost::left_split(word);
-    let right = cost::right_split(word);
-    let first = words::below_kind(bvh2::link_word(words, v)) as usize;
-    let half = open_child(words, decisions, first, left, depth - 1, children, count);
+    let Link::Children(first) = bvh2::node_link(words, v) else {
+        unreachable!()
+    };
+    let decision = cost::decision_at(decisions, v, entry);
+    let half = open_child(
+        words,
+        decisions,
+        first,
+        decision.left,
+        depth - 1,
+        children,
+        count,
+    );
     open_child(
         words,
         decisions,
         first + 1,
-        right,
+        decision.right,
         depth - 1,
         children,
         half,
@@ -80,10 +92,12 @@ pub fn get_children(
     ensures { (limit : ℕ) → RowsHold (word_of limit) 0 decisions.now (tree_at words.now depth v)
         → Gathered (gather limit (tree_at words.now depth v) 0) 0 children.old children.new result }
 {
-    let link = bvh2::link_word(words, v);
-    if words::kind(link) != 0 {
-        children[0] = v as u32;
-        return 1;
+    match bvh2::node_link(words, v) {
+        Link::Children(_) => open_node(words, decisions, v, 0, depth, children, 0),
+        Link::Position(_) => {
+            children[0] = v as u32;
+            1
+        }
+        Link::Malformed => unreachable!(),
     }
-    open_node(words, decisions, v, 0, depth, children, 0)
 }

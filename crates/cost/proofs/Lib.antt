@@ -1,5 +1,6 @@
 pub mod Bound
 pub mod Splits
+pub mod Decisions
 pub mod Labels
 pub mod Rows
 pub mod Entries

@@ -56,10 +56,10 @@ decision_cases area count limit l r (suc i) =
 pub leaf_distribute : LEAF ≡ DISTRIBUTE → ⊥
 leaf_distribute e = let z : ◌≡◌ {A = ℕ} 0 2 = ap code e in omega arith
 
-internal_distribute : INTERNAL ≡ DISTRIBUTE → ⊥
+pub internal_distribute : INTERNAL ≡ DISTRIBUTE → ⊥
 internal_distribute e = let z : ◌≡◌ {A = ℕ} 1 2 = ap code e in omega arith
 
-internal_leaf : INTERNAL ≡ LEAF → ⊥
+pub internal_leaf : INTERNAL ≡ LEAF → ⊥
 internal_leaf e = let z : ◌≡◌ {A = ℕ} 1 0 = ap code e in omega arith
 
 module _ {A : Type 0} (limit : ℕ) where

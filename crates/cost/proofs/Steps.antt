@@ -1,8 +1,8 @@
 -- One step of the recursion over a tree's nodes: what the code needs at a node, what each call needs, and what the calls left makes the node's own.
-use mathlib.Core.Path.{◌≡◌, refl, ap, ◌∙◌}
+use mathlib.Core.Path.{◌≡◌, refl, sym, ap, ◌∙◌}
 use mathlib.Core.Logic.{◌⊎◌, inl, inr}
 use mathlib.Core.List.{List}
-use Prim.Native.Nat.{ℕ, ◌+◌, ◌*◌, ◌-◌, ◌/◌, ◌%◌, ◌<◌, ◌≤◌}
+use Prim.Native.Nat.{ℕ, ◌+◌, ◌*◌, ◌-◌, ◌<◌, ◌≤◌}
 use native.Mathlib.Decide.{dec_lt}
 use native.Mathlib.Omega.{arith}
 use lib.ListN.{length}
@@ -11,11 +11,15 @@ use Rattle.lists.specs.Counts.{count}
 use Rattle.lists.proofs.Counts.{same_self}
 use Rattle.aabb.specs.Aabb.{half_area}
 use Rattle.bvh2.specs.Tree.{Tree, leaf, inner, label_of, labels, leaves}
-use Rattle.bvh2.specs.Words.{word_at, box_at, tree_at}
+use Rattle.bvh2.specs.declared.Link.{Link as Told}
+use Rattle.bvh2.specs.declared.Link.TheVariants as L
+use Rattle.bvh2.specs.Said.{said}
+use Rattle.bvh2.specs.Words.{children, position, malformed, link_at, box_at, tree_at}
+use Rattle.bvh2.specs.Decoded.{Subtree}
 use Rattle.bvh2.proofs.Counts.{label_count, count-labels}
 use Rattle.bvh2.proofs.Decoded.{subtree_leaves}
 use Rattle.bvh2.proofs.Reading.{label_is}
-use Rattle.bvh2.proofs.Subtree.{node, at_leaf, Inner, at_inner}
+use Rattle.bvh2.proofs.Subtree.{node, Leaf, leaf_link, formed, Inner, inner_link}
 use Rattle.cost.specs.Table.{Decision, leaf_decision, table, word, word_of, cost_of}
 use Rattle.cost.specs.Rows.{row, fill, costs_at, entry_from, RowRoom, RowsReady}
 use Rattle.cost.proofs.Rows.{row_cong}
@@ -46,14 +50,23 @@ leaf_fills : (limit v : ℕ) (t : Tree ℕ) (box : _) (p : ℕ) {area : Float} {
 unfolding leaves fill table
 leaf_fills limit v t box p e q x y = rw e (record { counted = refl; decided = x; priced = rw q at y })
 
-pub leaf_done : {ws : List ℕ} {d c e v w kind : ℕ} → RowsReady ws d c e v → w ≡ word_at ws v 6 → kind ≡ w / 0x4000_0000 → (kind ≡ 0 → ⊥)
+-- a node whose link is none to children is a leaf
+pub no_children : {ws : List ℕ} {n e v : ℕ} {l : Told} → Subtree ws n e v → said l ≡ link_at ws v → ((f : ℕ) → l ≡ L.Children f → ⊥)
+    → (p : ℕ) × Leaf ws n e v p
+no_children {l = L.Children f} s q k = absurd (k f refl)
+no_children {l = L.Position p} s q k = (p, leaf_link s (sym q))
+no_children {ws} {e = e} {v = v} {l = L.Malformed} s q k = absurd (formed ws e v (sym q) s.whole)
+
+pub link_formed : {ws : List ℕ} {d c e v : ℕ} → RowsReady ws d c e v → malformed ≡ link_at ws v → ⊥
+link_formed {ws} {e = e} {v = v} h q = formed ws e v (sym q) h.tree.whole
+
+pub leaf_done : {ws : List ℕ} {d c e v p : ℕ} → RowsReady ws d c e v → position p ≡ link_at ws v
     → (limit : ℕ) {area : Float} {ds ds' : List ℕ} {cs cs' : List Float}
     → area ≡ half_area (box_at ws v) → ds' ≡ row (λ i. word (leaf_decision area)) (v * 7) 7 ds → cs'
     ≡ row (λ i. (leaf_decision area).cost) (v * 7) 7 cs
     → Done limit (tree_at ws e v) 1 ds cs ds' cs'
-leaf_done {ws} {e = e} {v = v} h q r k limit a x y =
-    let l = at_leaf h.tree (λ z. k (r ∙ ap (λ (u : ℕ). u / 0x4000_0000) q ∙ z)) in
-    leaf_fills limit v (tree_at ws e v) (box_at ws v) _ l.tree a x y
+leaf_done {ws} {e = e} {v = v} {p = p} h q limit a x y =
+    leaf_fills limit v (tree_at ws e v) (box_at ws v) p (leaf_link h.tree (sym q)).tree a x y
 
 -- ---- an inner node
 root_counts : (t : Tree ℕ) → 1 ≤ label_count (label_of t) t
@@ -73,6 +86,7 @@ pub record Down (ws : List ℕ) (d c depth v f : ℕ) : Type 0 where
   pub room : RowRoom d c v f
   pub other : count f (labels (tree_at ws (depth - 1) (f + 1))) ≡ 0
   pub few : leaves (tree_at ws (depth - 1) f) + leaves (tree_at ws (depth - 1) (f + 1)) ≤ 65536
+  pub second : f + 1 < 2 * 65536
 
 between : (v f : ℕ) → (v ≡ f → ⊥) → (v ≡ f + 1 → ⊥) → (v < f) ⊎ (f + 1 < v)
 between v f p q = pick (dec_lt v f)
@@ -108,14 +122,14 @@ from_inner {ws} {d} {c} {e} {v} {f} h i =
       };
       other = i.apart.not_both f a;
       few = omega arith;
+      second = omega (arith, i.second, s);
     }
   where
     differ : (x : ℕ) (l : List ℕ) → v ≡ x → 1 ≤ count x l → count v l ≡ 0 → ⊥
     differ x l z p q = let y : count v l ≡ count x l = ap (λ (u : ℕ). count u l) z in omega arith
 
-pub down : {ws : List ℕ} {d c e v w kind f : ℕ} → RowsReady ws d c e v → w ≡ word_at ws v 6 → kind ≡ w / 0x4000_0000 → kind ≡ 0
-    → f ≡ w % 0x4000_0000 → Down ws d c e v f
-down {ws} {e = e} {v = v} h q r k s = rw (s, q) (from_inner h (at_inner h.tree (rw (r, q) at k)))
+pub down : {ws : List ℕ} {d c e v f : ℕ} → RowsReady ws d c e v → children f ≡ link_at ws v → Down ws d c e v f
+down {ws} {e = e} {v = v} {f = f} h q = from_inner h (inner_link ws h.n e v f h.tree (sym q))
 
 -- after both calls the tables have the length that they had, and the children's costs stand in their rows
 pub record Both (limit f : ℕ) (l r : Tree ℕ) (d c a b : ℕ) (ds : List ℕ) (cs : List Float) : Type 0 where

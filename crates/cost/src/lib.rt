@@ -1,27 +1,65 @@
 // Internal: the cost tables of a binary tree (bvh2_to_cwbvh.rs, calculate_cost).
 #![tactic(auto)]
 
-ghost use Rattle.std.specs.Prelude.{◌≡◌, ◌+◌, ◌*◌, ◌/◌, ◌%◌, ◌^◌, ◌≤◌, ◌<◌, length};
+ghost use Rattle.std.specs.Prelude.{◌≡◌, ◌+◌, ◌*◌, ◌/◌, ◌%◌, ◌^◌, ◌≤◌, ◌<◌, length, get_or};
 ghost use Rattle.aabb.specs.Aabb.{half_area};
 ghost use Rattle.bvh2.specs.Tree.{leaves};
 ghost use Rattle.bvh2.specs.Words.{box_at, tree_at};
+ghost use Rattle.cost.specs.Said.{kind_said, kind_in};
 ghost use Rattle.cost.specs.Table.{better, best_split, first_decision, leaf_decision, word, word_of, cost_of};
 ghost use Rattle.cost.specs.Rows.{row, fill, costs_at, entry_from, stored, next_entry, Small, RowRoom, RowsReady};
+
+use bvh2::Link;
 
 // The decision word without its splits of a wide node, and of a node whose children stand in its place; a leaf child's is 0.
 const INTERNAL: u32 = words::KIND;
 
 const DISTRIBUTE: u32 = 2 * words::KIND;
 
+// What becomes of a node at an entry of its table: a leaf child, an inner child, or its own children in its place.
+#[derive(Clone, Copy, Debug, PartialEq, Eq)]
+pub enum Kind {
+    Leaf,
+    Internal,
+    Distribute,
+}
+
+// A decision word taken apart: the kind, and the entries at which the left and the right child are opened.
+#[derive(Clone, Copy, Debug, PartialEq, Eq)]
+pub struct Decision {
+    pub kind: Kind,
+    pub left: usize,
+    pub right: usize,
+}
+
+// Node v's decision at an entry.
+pub fn decision_at(decisions: &[u32], v: usize, entry: usize) -> Decision
+    requires { v * 7 + entry < length decisions.now }
+    ensures kind { kind_said result.kind ≡ kind_in (get_or decisions.now (v * 7 + entry) 0) }
+    ensures left { result.left ≡ get_or decisions.now (v * 7 + entry) 0 / 256 % 256 }
+    ensures right { result.right ≡ get_or decisions.now (v * 7 + entry) 0 % 256 }
+{
+    let word = decisions[v * 7 + entry];
+    Decision {
+        kind: match words::kind(word) {
+            0 => Kind::Leaf,
+            1 => Kind::Internal,
+            _ => Kind::Distribute,
+        },
+        left: left_split(word),
+        right: right_split(word),
+    }
+}
+
 // The left split of a decision word.
-pub fn left_split(word: u32) -> usize
+fn left_split(word: u32) -> usize
     ensures { result ≡ word / 256 % 256 }
 {
     (word / 256 % 256) as usize
 }
 
-// The right split.
-pub fn right_split(word: u32) -> usize
+// Its right split.
+fn right_split(word: u32) -> usize
     ensures { result ≡ word % 256 }
 {
     (word % 256) as usize
@@ -129,7 +167,7 @@ fn inner_entries(
     ensures costs_after { costs.new ≡ row (λ i. (entry_from costs.old first area count limit i).cost) (v * 7) 7 costs.old }
 {
     let base = v * 7;
-    let s = best_split(costs, first, 6, f32::from_bits(0x7f80_0000));
+    let s = best_split(costs, first, 6, f32::INFINITY);
     let mut e = first_entry(area, count, limit, s);
     for i in 0..6 {
         decisions[base + i] = e.word;
@@ -177,15 +215,18 @@ pub fn calculate_cost(
     ensures costs_after { costs.new ≡ fill (cost_of limit) (tree_at words.now depth v) costs.old }
 {
     let area = node_area(words, v);
-    let link = bvh2::link_word(words, v);
-    if words::kind(link) == 0 {
-        let first = words::below_kind(link) as usize;
-        let a = calculate_cost(words, first, depth - 1, limit, decisions, costs);
-        let b = calculate_cost(words, first + 1, depth - 1, limit, decisions, costs);
-        let count = a + b;
-        inner_entries(decisions, costs, v, first, area, count, limit);
-        return count;
+    match bvh2::node_link(words, v) {
+        Link::Children(first) => {
+            let a = calculate_cost(words, first, depth - 1, limit, decisions, costs);
+            let b = calculate_cost(words, first + 1, depth - 1, limit, decisions, costs);
+            let count = a + b;
+            inner_entries(decisions, costs, v, first, area, count, limit);
+            count
+        }
+        Link::Position(_) => {
+            leaf_entries(decisions, costs, v, area);
+            1
+        }
+        Link::Malformed => unreachable!(),
     }
-    leaf_entries(decisions, costs, v, area);
-    1
 }

@@ -1,14 +1,14 @@
 -- One step of writing a subtree's leaves: what each call asks, and what the two calls give together.
 use mathlib.Core.Path.{◌≡◌, refl, sym, ap, ◌∙◌}
 use mathlib.Core.List.{List, [], ◌∷◌, map-append}
-use Prim.Native.Nat.{ℕ, suc, ◌+◌, ◌-◌, ◌/◌, ◌%◌, ◌<◌, ◌≤◌}
+use Prim.Native.Nat.{ℕ, suc, ◌+◌, ◌-◌, ◌<◌, ◌≤◌}
 use native.Mathlib.Omega.{arith}
 use lib.ListN.{length, get_or, set, length-append}
 use Rattle.lists.specs.Splice.{splice}
 use Rattle.lists.proofs.Splice.{splice_next, set-splice}
 use Rattle.bvh2.specs.Tree.{Tree, leaf, inner, leaves, positions}
-use Rattle.bvh2.specs.Words.{tree_nodes, word_at, tree_at}
-use Rattle.bvh2.proofs.Subtree.{at_leaf, at_inner}
+use Rattle.bvh2.specs.Words.{tree_nodes, children, position, malformed, link_at, tree_at}
+use Rattle.bvh2.proofs.Subtree.{leaf_link, inner_link, formed}
 use Rattle.lists.specs.At.{words_at}
 use Rattle.emit.specs.Leaves.{LeavesReady, LeavesWritten}
 
@@ -32,12 +32,10 @@ pub record Down (ws : List ℕ) (n m at depth v f : ℕ) : Type 0 where
   pub tree : (b : _) × (tree_at ws depth v ≡ inner v b (tree_at ws (depth - 1) f) (tree_at ws (depth - 1) (f + 1)))
   pub both : at + (leaves (tree_at ws (depth - 1) f) + leaves (tree_at ws (depth - 1) (f + 1))) ≤ m
 
-down_word : {ws : List ℕ} {n m at depth v : ℕ} → LeavesReady ws n m at depth v → word_at ws v 6 / 0x4000_0000 ≡ 0
-    → Down ws n m at depth v (word_at ws v 6 % 0x4000_0000)
+pub down : {ws : List ℕ} {n m at depth v f : ℕ} → LeavesReady ws n m at depth v → children f ≡ link_at ws v → Down ws n m at depth v f
 unfolding leaves
-down_word {ws} {n} {m} {at} {depth} {v} h e =
-    let i = at_inner h.tree e in
-    let f = word_at ws v 6 % 0x4000_0000 in
+down {ws} {n} {m} {at} {depth} {v} {f} h e =
+    let i = inner_link ws n depth v f h.tree (sym e) in
     let room : at + (leaves (tree_at ws (depth - 1) f) + leaves (tree_at ws (depth - 1) (f + 1))) ≤ m = rw i.tree at h.room in record {
       deep = i.deep;
       second = i.second;
@@ -47,10 +45,6 @@ down_word {ws} {n} {m} {at} {depth} {v} h e =
       tree = (_, i.tree);
       both = room;
     }
-
-pub down : {ws : List ℕ} {n m at depth v w kind f : ℕ} → LeavesReady ws n m at depth v → w ≡ word_at ws v 6 → f ≡ w % 0x4000_0000
-    → kind ≡ w / 0x4000_0000 → kind ≡ 0 → Down ws n m at depth v f
-down h l i k e = rw (i, l) (down_word h (rw (k, l) at e))
 
 pub up : {indices : List ℕ} {ws : List ℕ} {n m at depth v f : ℕ} → Down ws n m at depth v f → {a b : ℕ} {o o₁ o₂ : List ℕ} → length o ≡ m
     → LeavesWritten indices (tree_at ws (depth - 1) f) at a o o₁ → LeavesWritten indices (tree_at ws (depth - 1) (f + 1)) a b o₁ o₂
@@ -75,21 +69,23 @@ up {indices} {ws} {n} {m} {at} {depth} {v} {f} h {a} {b} {o} {o₁} {o₂} z x y
 -- ---- a leaf
 pub record Last (ws indices : List ℕ) (at depth v p : ℕ) (o : List ℕ) : Type 0 where
   pub held : p < length indices
+  pub few : length indices ≤ 65536
   pub room : at < length o
   pub written : LeavesWritten indices (tree_at ws depth v) at (at + 1) o (set o at (get_or indices p 0))
 
-last_word : {ws indices : List ℕ} {at depth v : ℕ} {o : List ℕ} → LeavesReady ws (length indices) (length o) at depth v
-    → (word_at ws v 6 / 0x4000_0000 ≡ 0 → ⊥) → Last ws indices at depth v (word_at ws v 6 % 0x4000_0000) o
+pub last : {ws indices : List ℕ} {at depth v p : ℕ} {o : List ℕ} → LeavesReady ws (length indices) (length o) at depth v
+    → position p ≡ link_at ws v → Last ws indices at depth v p o
 unfolding leaves positions
-last_word {ws} {indices} {at} {depth} {v} {o} h e =
-    let i = at_leaf h.tree e in
+last {ws} {indices} {at} {depth} {v} {p} {o} h e =
+    let i = leaf_link h.tree (sym e) in
     let room : at + 1 ≤ length o = rw i.tree at h.room in
     let r : at < length o = omega arith in record {
       held = i.held;
+      few = h.tree.few;
       room = r;
-      written = rw i.tree (record { next = refl; list = set-splice o at (get_or indices (word_at ws v 6 % 0x4000_0000) 0) r });
+      written = rw i.tree (record { next = refl; list = set-splice o at (get_or indices p 0) r });
     }
 
-pub last : {ws indices : List ℕ} {at depth v w kind p : ℕ} {o : List ℕ} → LeavesReady ws (length indices) (length o) at depth v
-    → w ≡ word_at ws v 6 → p ≡ w % 0x4000_0000 → kind ≡ w / 0x4000_0000 → (kind ≡ 0 → ⊥) → Last ws indices at depth v p o
-last h l i k e = rw (i, l) (last_word h (rw (k, l) at e))
+-- ---- no link is malformed
+pub formed_link : {ws : List ℕ} {n m at depth v : ℕ} → LeavesReady ws n m at depth v → malformed ≡ link_at ws v → ⊥
+formed_link {ws} {depth = depth} {v = v} h e = formed ws depth v (sym e) h.tree.whole

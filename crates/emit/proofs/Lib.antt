@@ -1,3 +1,4 @@
+pub mod KindBits
 pub mod LeafSteps
 pub mod GridBox
 pub mod OwnSteps

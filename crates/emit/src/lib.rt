@@ -10,6 +10,8 @@ ghost use Rattle.emit.specs.Grid.{grid_of, box_on};
 ghost use Rattle.emit.specs.Own.{SlotReady, OwnReady, held_in, leaf_words_in, all_slots, BuiltAs, cell_of};
 
 use aabb::Aabb;
+use bvh2::Link;
+use cost::Kind;
 use node::{Node, Slot};
 use ray::Vec3;
 
@@ -25,14 +27,17 @@ pub fn write_leaves(
     requires { LeavesReady words.now (length indices.now) (length out.old) at depth v }
     ensures { LeavesWritten indices.now (tree_at words.now depth v) at result out.old out.new }
 {
-    let link = bvh2::link_word(words, v);
-    let index = words::below_kind(link) as usize;
-    if words::kind(link) == 0 {
-        let next = write_leaves(words, indices, out, index, at, depth - 1);
-        return write_leaves(words, indices, out, index + 1, next, depth - 1);
+    match bvh2::node_link(words, v) {
+        Link::Children(first) => {
+            let next = write_leaves(words, indices, out, first, at, depth - 1);
+            write_leaves(words, indices, out, first + 1, next, depth - 1)
+        }
+        Link::Position(position) => {
+            out[at] = indices[position];
+            at + 1
+        }
+        Link::Malformed => unreachable!(),
     }
-    out[at] = indices[index];
-    at + 1
 }
 
 // The bytes of an empty slot.
@@ -141,7 +146,7 @@ fn own_slot(
     let child = v as usize;
     let b = bvh2::node_box(words, child);
     let corners = grid_box(grid, b);
-    if words::kind(decisions[child * 7]) == 0 {
+    if cost::decision_at(decisions, child, 0).kind == Kind::Leaf {
         let next = write_leaves(words, indices, out, child, at, depth);
         return Held {
             meta: leaf_meta(next - at, at - start),
@@ -205,9 +210,9 @@ pub fn build_node(
         at = held.at;
     }
     let node = Node {
-        px: f32::to_bits(b.min.x),
-        py: f32::to_bits(b.min.y),
-        pz: f32::to_bits(b.min.z),
+        px: b.min.x.to_bits(),
+        py: b.min.y.to_bits(),
+        pz: b.min.z.to_bits(),
         ex: grid.ex,
         ey: grid.ey,
         ez: grid.ez,

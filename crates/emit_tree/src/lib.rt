@@ -12,6 +12,7 @@ ghost use Rattle.wide_tree.specs.Ordered.{wide_tree_of};
 ghost use Rattle.emit_tree.specs.Emission.{slot_words, is_inner, wide_slots_at, Emits, EmitTree, Emitted, write_entry, progress_of};
 
 use aabb::Aabb;
+use cost::Kind;
 
 // The next free node and position.
 #[derive(Clone, Copy)]
@@ -25,7 +26,7 @@ fn is_inner(decisions: &[u32], v: u32) -> bool
     requires { (v ≡ 0xffff_ffff → ⊥) → v * 7 < length decisions.now }
     ensures { result ≡ is_inner decisions.now v }
 {
-    v != 0xffff_ffff && words::kind(decisions[v as usize * 7]) != 0
+    v != 0xffff_ffff && cost::decision_at(decisions, v as usize, 0).kind != Kind::Leaf
 }
 
 // The boxes of the first `count` of the nodes found, and behind them the box of their parent.
@@ -94,15 +95,15 @@ fn emit_node(
         positions: built.at,
     };
     let mut child = next.nodes;
-    for w in &slots {
-        if is_inner(decisions, *w) {
+    for &w in &slots {
+        if is_inner(decisions, w) {
             free = emit_node(
                 words,
                 indices,
                 decisions,
                 bytes,
                 out,
-                *w as usize,
+                w as usize,
                 child,
                 free,
                 depth - 1,

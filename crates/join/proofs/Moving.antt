@@ -2,7 +2,7 @@
 use mathlib.Core.Bool.{Bool, true}
 use mathlib.Core.List.{List, [], ◌∷◌, ◌++◌, map}
 use mathlib.Core.Path.{◌≡◌, refl, sym, ap, ap₂, subst, ◌∙◌}
-use Prim.Native.Nat.{ℕ, suc, ◌+◌, ◌-◌, ◌*◌, ◌/◌, ◌%◌, ◌^◌, ◌<◌, ◌≤◌}
+use Prim.Native.Nat.{ℕ, suc, ◌+◌, ◌-◌, ◌*◌, ◌/◌, ◌^◌, ◌<◌, ◌≤◌}
 use native.Mathlib.Decide.{ℕ_discrete}
 use native.Mathlib.Omega.{arith}
 use lib.ListN.{length, get_or, length-append, length-map, get_or-map}
@@ -16,7 +16,7 @@ use Rattle.lists.proofs.Tells.{all_at}
 use Rattle.bvh2.specs.Words.{tree_nodes, Link, children, position, malformed, link_of, word_at, link_at}
 use Rattle.bvh2.specs.Causes.{LinkInside, Accepted}
 use Rattle.bvh2.proofs.First.{accepted_facts}
-use Rattle.bvh2.proofs.Reading.{word-children, word_position, word_malformed}
+use Rattle.bvh2.proofs.Reading.{word_malformed}
 use Rattle.tree_words.specs.Nodes.{in_turn}
 use Rattle.tree_words.proofs.Nodes.{turn_next}
 use Rattle.join.specs.Join.{moved_link, moved_node, sums_fit}
@@ -43,26 +43,28 @@ stays_word by l i e h =
     omega (arith, leb-true (get_or l i 0 + by) 0xffff_ffff (all_at f (length l) e i h))
 
 -- ---- links
-
-link_position : (w : ℕ) → (w / 0x4000_0000 ≡ 0 → ⊥) → LinkInside 65536 (link_of w) → (w / 0x4000_0000 ≡ 1) × (w % 0x4000_0000 < 65536)
-unfolding LinkInside
-link_position w h i = go (ℕ_discrete (w / 0x4000_0000) 1)
-  where
-    go : Dec (w / 0x4000_0000 ≡ 1) → (w / 0x4000_0000 ≡ 1) × (w % 0x4000_0000 < 65536)
-    go (yes e) = (e, rw (word_position w e) at i)
-    go (no e) = absurd (rw (word_malformed w h e) at i)
-
 module _ (nodes positions : ℕ) (w : ℕ) where
-  pub moved_children : w / 0x4000_0000 ≡ 0 → w + nodes ≡ moved_link nodes positions w
+  pub moved_children : (f : ℕ) → children f ≡ link_of w → w + nodes ≡ moved_link nodes positions w
   unfolding moved_link
-  moved_children e = rw (moved_link, word-children w e) refl
+  moved_children f e = rw (moved_link, ← e) refl
 
-  pub moved_position : (w / 0x4000_0000 ≡ 0 → ⊥) → LinkInside 65536 (link_of w) → w + positions ≡ moved_link nodes positions w
+  pub moved_position : (p : ℕ) → position p ≡ link_of w → w + positions ≡ moved_link nodes positions w
   unfolding moved_link
-  moved_position h i = rw (moved_link, word_position w (link_position w h i).0) refl
+  moved_position p e = rw (moved_link, ← e) refl
 
-  pub position_fits : (w / 0x4000_0000 ≡ 0 → ⊥) → LinkInside 65536 (link_of w) → w < 0x8000_0000
-  position_fits h i = omega (arith, (link_position w h i).0)
+-- the word of a link inside leaves room for what it is moved by, and says something
+pub link_fits : (w : ℕ) → LinkInside 65536 (link_of w) → w < 0x8000_0000
+unfolding LinkInside
+link_fits w i = go (ℕ_discrete (w / 0x4000_0000) 0) (ℕ_discrete (w / 0x4000_0000) 1)
+  where
+    go : Dec (w / 0x4000_0000 ≡ 0) → Dec (w / 0x4000_0000 ≡ 1) → w < 0x8000_0000
+    go (yes e) d = omega arith
+    go (no h) (yes e) = omega arith
+    go (no h) (no k) = absurd (rw (word_malformed w h k) at i)
+
+pub link_formed : (w : ℕ) → LinkInside 65536 (link_of w) → malformed ≡ link_of w → ⊥
+unfolding LinkInside
+link_formed w i e = let j : LinkInside 65536 malformed = rw (← e) at i in j
 
 -- a link inside a tree of at most 65,536 leaves
 pub inside_most : (ws : List ℕ) (n v : ℕ) → LinksInside ws n → v < tree_nodes n → LinkInside 65536 (link_at ws v)

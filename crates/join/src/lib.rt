@@ -15,6 +15,7 @@ ghost use Rattle.join.specs.Join.{moved_link, moved_node, first_node, second_nod
 ghost use Rattle.join.specs.Join.{room_for, size_tests, tree_tests, edge_to_spare, sums_fit, join_of, joining_answer};
 ghost use Rattle.join.specs.Steps.{lesser_cause, LinksInside};
 
+use bvh2::Link;
 use causes::Refusal;
 
 // The greatest index word.
@@ -147,10 +148,11 @@ fn moved_link(link: u32, nodes: u32, positions: u32) -> u32
     requires { LinkInside 65536 (link_of link) × (nodes ≤ 131072) × (positions ≤ 65536) }
     ensures { result ≡ moved_link nodes positions link }
 {
-    if words::kind(link) == 0 {
-        return link + nodes;
+    match Link::from(link) {
+        Link::Children(_) => link + nodes,
+        Link::Position(_) => link + positions,
+        Link::Malformed => unreachable!(),
     }
-    link + positions
 }
 
 // Node u of a tree of n leaves as node v, its link moved.

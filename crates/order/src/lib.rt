@@ -15,9 +15,6 @@ use aabb::Aabb;
 use ray::Vec3;
 use std::array;
 
-// The greatest finite f32: only a cost below it is taken.
-const GREATEST: f32 = 340282350000000000000000000000000000000.0;
-
 // A child, a slot and what the pair costs.
 #[derive(Clone, Copy)]
 struct Best {
@@ -26,9 +23,9 @@ struct Best {
     slot: usize,
 }
 
-// No pair: dearer than each that is taken, so that a comparison needs no case for it.
+// No pair: dearer than each that is taken, since only a cost below f32::MAX is, so that a comparison needs no case for it.
 const NO_BEST: Best = Best {
-    cost: GREATEST,
+    cost: f32::MAX,
     child: 8,
     slot: 8,
 };
@@ -172,7 +169,7 @@ fn cost_rows(p: Vec3, boxes: [Aabb; 8], n: usize) -> [[f32; 8]; 8]
     requires { n ≤ 8 }
     ensures { result ≡ padded no_row (map (λ b. eight_of (direction_cost p b)) (take n boxes)) }
 {
-    let mut cost = [[GREATEST; 8]; 8];
+    let mut cost = [[f32::MAX; 8]; 8];
     for c in 0..n {
         cost[c] = cost_row(offset(boxes[c], p));
     }

@@ -1,12 +1,12 @@
 -- Going down a tree whose decision words stand in a table.
-use mathlib.Core.Path.{◌≡◌}
+use mathlib.Core.Path.{◌≡◌, sym}
 use mathlib.Core.List.{List}
 use native.Mathlib.Omega.{arith}
-use Prim.Native.Nat.{ℕ, ◌+◌, ◌-◌, ◌*◌, ◌/◌, ◌%◌, ◌<◌, ◌≤◌}
+use Prim.Native.Nat.{ℕ, ◌+◌, ◌-◌, ◌*◌, ◌<◌, ◌≤◌}
 use lib.ListN.{length}
 use Rattle.bvh2.specs.Causes.{Accepted}
-use Rattle.bvh2.specs.Words.{word_at, tree_at}
-use Rattle.bvh2.proofs.Subtree.{node, at_inner}
+use Rattle.bvh2.specs.Words.{children, link_at, tree_at}
+use Rattle.bvh2.proofs.Subtree.{node, inner_link}
 use Rattle.cost.specs.Table.{word_of}
 use Rattle.cost.specs.Rows.{fill}
 use Rattle.children.specs.Tabled.{Tabled}
@@ -30,12 +30,11 @@ number h = let k = node h.tree in record { small = omega (arith, k.below, h.tree
 -- the two nodes below an inner one, the first of them f
 pub record Below (ws ds : List ℕ) (e f : ℕ) : Type 0 where
   pub deep : 0 < e
+  pub few : f < 131072
   pub left : Tabled ws ds (e - 1) f
   pub right : Tabled ws ds (e - 1) (f + 1)
 
-pub below : {ws ds : List ℕ} {e v w kind f : ℕ} → Tabled ws ds e v → w ≡ word_at ws v 6 → kind ≡ w / 0x4000_0000 → kind ≡ 0
-    → f ≡ w % 0x4000_0000 → Below ws ds e f
-below {ws} {v = v} h q k z i =
-    let f = word_at ws v 6 % 0x4000_0000 in
-    let p = at_inner h.tree (rw (k, q) at z) in
-    rw (i, q) (record { deep = p.deep; left = left_tabled h f p; right = right_tabled h f p })
+pub below : {ws ds : List ℕ} {e v f : ℕ} → Tabled ws ds e v → children f ≡ link_at ws v → Below ws ds e f
+below {ws} {e = e} {v = v} {f = f} h q =
+    let p = inner_link ws h.n e v f h.tree (sym q) in
+    record { deep = p.deep; few = omega (arith, p.second, h.tree.few); left = left_tabled h f p; right = right_tabled h f p }

@@ -5,6 +5,7 @@ ghost use Rattle.children.specs.Tabled.{Tabled};
 
 use crate::trees::{MOST_WORDS, is_accepted, node_count};
 use aabb::Aabb;
+use bvh2::Link;
 use stored::{copy_words, word};
 
 // A node number as the byte that stands for it in a case, 255 for none; a greater number has no byte.
@@ -87,11 +88,9 @@ fn same_below(
     if !same_children(case, from + v * 5, words, decisions, v, depth) {
         return false;
     }
-    let link = bvh2::link_word(words, v);
-    if words::kind(link) != 0 {
+    let Link::Children(first) = bvh2::node_link(words, v) else {
         return true;
-    }
-    let first = words::below_kind(link) as usize;
+    };
     same_below(case, from, words, decisions, first, depth - 1)
         && same_below(case, from, words, decisions, first + 1, depth - 1)
 }

@@ -17,9 +17,9 @@ fn put_corner(words: &mut [u32], at: usize, p: Vec3)
     requires { (at + 3 ≤ length words.old) × (bounded_vec p ≡ true) }
     ensures { words.new ≡ splice words.old at (corner_words p []) }
 {
-    words[at] = f32::to_bits(p.x);
-    words[at + 1] = f32::to_bits(p.y);
-    words[at + 2] = f32::to_bits(p.z);
+    words[at] = p.x.to_bits();
+    words[at + 1] = p.y.to_bits();
+    words[at + 2] = p.z.to_bits();
 }
 
 // Node v: an accepted box and the link word.

@@ -1,21 +1,28 @@
 -- One step of the level pass, as the code takes it.
-use mathlib.Core.Path.{◌≡◌, refl, sym, ap, ap₂, ◌∙◌}
+use mathlib.Core.Path.{◌≡◌, sym, ap, ap₂, ◌∙◌}
 use mathlib.Core.Bool.{Bool}
 use mathlib.Core.List.{List}
 use Prim.Native.Nat.{ℕ, ◌+◌, ◌*◌, ◌-◌, ◌/◌, ◌%◌, ◌≤◌, ◌<◌, max}
-use native.Mathlib.Decide.{ℕ_discrete}
 use native.Mathlib.Omega.{arith}
 use lib.ListN.{get_or}
 use Rattle.aabb.specs.declared.Aabb.{Aabb}
 use Rattle.bvh2.specs.Tree.{Tree, leaf, inner}
-use Rattle.bvh2.specs.Words.{word_at, box_at, tree_at}
+use Rattle.bvh2.specs.declared.Link.{Link as Read}
+use Rattle.bvh2.specs.declared.Link.TheVariants as V
+use Rattle.bvh2.specs.Said.{said}
+use Rattle.bvh2.specs.Words.{children, position, link_at, box_at, tree_at}
 use Rattle.bvh2.proofs.Decoded.{subtree_leaves}
-use Rattle.bvh2.proofs.Subtree.{at_leaf, Inner, at_inner}
-use Rattle.cost.specs.Table.{Kind, LEAF, INTERNAL, DISTRIBUTE, code, table, word_of}
+use Rattle.bvh2.proofs.Reading.{tree_leaf}
+use Rattle.bvh2.proofs.Subtree.{Inner, inner_link}
+use Rattle.cost.specs.declared.Kind.{Kind as Told}
+use Rattle.cost.specs.declared.Kind.TheVariants as K
+use Rattle.cost.specs.Said.{kind_said, kind_in}
+use Rattle.cost.specs.Table.{Kind, LEAF, table, word_of}
 use Rattle.cost.specs.Rows.{RowsHold}
-use Rattle.cost.proofs.Splits.{leaf_kind}
+use Rattle.cost.proofs.Splits.{leaf_distribute, internal_leaf, leaf_kind}
+use Rattle.cost.proofs.Steps.{no_children}
 use Rattle.children.specs.Tabled.{Tabled}
-use Rattle.children.proofs.Steps.{says, left_tabled, right_tabled}
+use Rattle.children.proofs.Steps.{says, told, left_tabled, right_tabled}
 use Rattle.wide_layout.specs.Layout.{level}
 use Rattle.wide_tree.specs.Ordered.{placing, wide_tree}
 use Rattle.wide_tree.proofs.WideTree.{Fine}
@@ -74,57 +81,48 @@ halves {ws} {ds} {e} {v} h f p i u =
           ∙ sym (levels_inner limit t v (box_at ws v) L R i p.tree));
     }
 
--- a node that is no leaf child is an inner one
-kind_inner : {ws ds : List ℕ} {e v : ℕ} → Tabled ws ds e v → (i : ℕ) → i ≤ 6 → (get_or ds (v * 7 + i) 0 / 0x4000_0000 ≡ 0 → ⊥)
-    → word_at ws v 6 / 0x4000_0000 ≡ 0
-kind_inner {ws} {ds} {e} {v} h i u z = pick (ℕ_discrete (word_at ws v 6 / 0x4000_0000) 0)
+-- a node whose link is none to children is a leaf child
+childless_leaf : {ws ds : List ℕ} {e v : ℕ} {l : Read} → Tabled ws ds e v → (i : ℕ) → i ≤ 6 → said l ≡ link_at ws v
+    → ((f : ℕ) → l ≡ V.Children f → ⊥) → kind_in (get_or ds (v * 7 + i) 0) ≡ LEAF
+childless_leaf {ws} {ds} {e} {v} h i u q k =
+    told h h.limit h.holds i u ∙ leaf_said (tree_at ws e v) (box_at ws v) _ (no_children h.tree q k).1.tree
   where
-    leaf_code : (t : Tree ℕ) (box : Aabb) (p : ℕ) → t ≡ leaf v box p → code (table h.limit t i).kind ≡ 0
-    leaf_code t box p q = rw q (ap code (leaf_kind h.limit v box p i))
+    leaf_said : (t : Tree ℕ) (box : Aabb) (p : ℕ) → t ≡ leaf v box p → (table h.limit t i).kind ≡ LEAF
+    leaf_said t box p q = rw q (leaf_kind h.limit v box p i)
 
-    pick : Dec (word_at ws v 6 / 0x4000_0000 ≡ 0) → word_at ws v 6 / 0x4000_0000 ≡ 0
-    pick (yes q) = q
-    pick (no q) = absurd (z ((says h h.limit h.holds i u).kind ∙ leaf_code (tree_at ws e v) (box_at ws v) _ (at_leaf h.tree q).tree))
+pub down : {ws ds : List ℕ} {e v i f l r : ℕ} → Tabled ws ds e v → i ≤ 6 → children f ≡ link_at ws v → l ≡ get_or ds (v * 7 + i) 0 / 256 % 256
+    → r ≡ get_or ds (v * 7 + i) 0 % 256 → Down ws ds e v i f l r
+down {ws} {e = e} {v = v} {i = i} {f = f} h u q b c = rw (b, c) (halves h f (inner_link ws h.n e v f h.tree (sym q)) i u)
 
-pub down : {ws ds : List ℕ} {e v i w kind f l r : ℕ} → Tabled ws ds e v → i ≤ 6 → kind ≡ get_or ds (v * 7 + i) 0 / 0x4000_0000 → (kind ≡ 0 → ⊥)
-    → w ≡ word_at ws v 6 → f ≡ w % 0x4000_0000 → l ≡ get_or ds (v * 7 + i) 0 / 256 % 256 → r ≡ get_or ds (v * 7 + i) 0 % 256 → Down ws ds e v i f l r
-down {ws} {v = v} {i = i} h u k z q a b c =
-    rw (a, q, b, c) (halves h (word_at ws v 6 % 0x4000_0000) (at_inner h.tree (kind_inner h i u (λ y. z (k ∙ y)))) i u)
+-- ---- what a node adds by its kind: the levels of its own
+pub record Own (kind : Told) (n : ℕ) : Type 0 where
+  pub few : n ≤ 1
+  pub no_leaf : kind_said kind ≡ LEAF → ⊥
+  pub adds : (m : ℕ) → m + n ≡ added_as (kind_said kind) m
 
--- ---- what a node adds by its kind
-leaf_adds : (k : Kind) (n : ℕ) → code k ≡ 0 → 0 ≡ added_as k n
-leaf_adds LEAF n h = refl
-leaf_adds INTERNAL n h = absurd (omega arith)
-leaf_adds DISTRIBUTE n h = absurd (omega arith)
+pub own_inner : {kind : Told} {n : ℕ} → kind ≡ K.Internal → n ≡ 1 → Own kind n
+own_inner q z = rw (q, z) (record { few = omega arith; no_leaf = internal_leaf; adds = λ m. omega arith })
 
-opened_adds : (k : Kind) (n : ℕ) → code k ≡ 2 → n ≡ added_as k n
-opened_adds LEAF n h = absurd (omega arith)
-opened_adds INTERNAL n h = absurd (omega arith)
-opened_adds DISTRIBUTE n h = refl
+pub own_opened : {kind : Told} {n : ℕ} → kind ≡ K.Distribute → n ≡ 0 → Own kind n
+own_opened q z = rw (q, z) (record { few = omega arith; no_leaf = λ y. leaf_distribute (sym y); adds = λ m. omega arith })
 
-inner_adds : (k : Kind) (n : ℕ) → (code k ≡ 0 → ⊥) → (code k ≡ 2 → ⊥) → n + 1 ≡ added_as k n
-inner_adds LEAF n h z = absurd (h refl)
-inner_adds INTERNAL n h z = omega arith
-inner_adds DISTRIBUTE n h z = absurd (z refl)
+table_kind : {ws ds : List ℕ} {e v i : ℕ} (kind : Told) → Tabled ws ds e v → i ≤ 6 → kind_said kind ≡ kind_in (get_or ds (v * 7 + i) 0)
+    → (limit : ℕ) → RowsHold (word_of limit) 0 ds (tree_at ws e v) → kind_said kind ≡ (table limit (tree_at ws e v) i).kind
+table_kind {i = i} kind h u read limit k = read ∙ told h limit k i u
 
-module _ {ws ds : List ℕ} {e v i kind : ℕ} (h : Tabled ws ds e v) (u : i ≤ 6) (read : kind ≡ get_or ds (v * 7 + i) 0 / 0x4000_0000) where
-  said : (limit : ℕ) → RowsHold (word_of limit) 0 ds (tree_at ws e v) → kind ≡ code (table limit (tree_at ws e v) i).kind
-  said limit k = read ∙ (says h limit k i u).kind
+module _ {ws ds : List ℕ} {e v i : ℕ} {kind : Told} (h : Tabled ws ds e v) (u : i ≤ 6)
+    (read : kind_said kind ≡ kind_in (get_or ds (v * 7 + i) 0)) where
+  pub as_leaf_lem : kind ≡ K.Leaf → Adds ws ds e v i 0
+  as_leaf_lem z limit k = ap (λ (x : Kind). added_as x (levels limit (tree_at ws e v) i)) (sym (ap kind_said z) ∙ table_kind kind h u read limit k)
 
-  pub as_leaf_lem : kind ≡ 0 → Adds ws ds e v i 0
-  as_leaf_lem z limit k = leaf_adds (table limit (tree_at ws e v) i).kind (levels limit (tree_at ws e v) i) (sym (said limit k) ∙ z)
+  pub has_children : {n : ℕ} {l : Read} → Own kind n → said l ≡ link_at ws v → ((f : ℕ) → l ≡ V.Children f → ⊥) → ⊥
+  has_children o q k = o.no_leaf (read ∙ childless_leaf h i u q k)
 
-  module _ {f l r x y : ℕ} (d : Down ws ds e v i f l r) (a : Adds ws ds (e - 1) f l x) (b : Adds ws ds (e - 1) (f + 1) r y) where
-    pub as_opened : kind ≡ 2 → Adds ws ds e v i (max x y)
-    as_opened z limit k =
-        d.joined x y a b limit k ∙ opened_adds (table limit (tree_at ws e v) i).kind (levels limit (tree_at ws e v) i)
-        (sym (said limit k) ∙ z)
-
-    pub as_inner : (kind ≡ 0 → ⊥) → (kind ≡ 2 → ⊥) → Adds ws ds e v i (max x y + 1)
-    as_inner z z₂ limit k =
-        let s = said limit k in
-        ap (λ (m : ℕ). m + 1) (d.joined x y a b limit k)
-        ∙ inner_adds (table limit (tree_at ws e v) i).kind (levels limit (tree_at ws e v) i) (λ q. z (s ∙ q)) (λ q. z₂ (s ∙ q))
+  pub as_own : {n f l r x y : ℕ} → Own kind n → Down ws ds e v i f l r → Adds ws ds (e - 1) f l x → Adds ws ds (e - 1) (f + 1) r y
+      → Adds ws ds e v i (max x y + n)
+  as_own {n} {x = x} {y = y} o d a b limit k =
+      let m = levels limit (tree_at ws e v) i in
+      ap (λ (z : ℕ). z + n) (d.joined x y a b limit k) ∙ o.adds m ∙ ap (λ (z : Kind). added_as z m) (table_kind kind h u read limit k)
 
 -- ---- the root, opened whatever its decision says
 root_fine : {ws ds : List ℕ} {e v : ℕ} → Tabled ws ds e v → Fine (tree_at ws e v)
@@ -134,16 +132,10 @@ pub root_level : {ws ds : List ℕ} {e v : ℕ} → Tabled ws ds e v → (limit 
     ≡ levels limit (tree_at ws e v) 0
 root_level {ws} {e = e} {v = v} h limit ordered = wide_level (placing ordered) limit (places ordered) (tree_at ws e v) (root_fine h)
 
-pub root_leaf : {ws ds : List ℕ} {e v w kind : ℕ} → Tabled ws ds e v → w ≡ word_at ws v 6 → kind ≡ w / 0x4000_0000 → (kind ≡ 0 → ⊥)
+pub root_leaf : {ws ds : List ℕ} {e v p : ℕ} → Tabled ws ds e v → position p ≡ link_at ws v
     → (limit : ℕ) (ordered : Bool) → 0 ≡ level (wide_tree ordered limit (tree_at ws e v))
-root_leaf {ws} {e = e} {v = v} h q k z limit ordered =
-    sym (root_level h limit ordered
-    ∙ levels_leaf limit (tree_at ws e v) v (box_at ws v) _ 0 (at_leaf h.tree (λ y. z (k ∙ ap (λ (x : ℕ). x / 0x4000_0000) q ∙ y))).tree)
-
-pub root_down : {ws ds : List ℕ} {e v w kind f l r : ℕ} → Tabled ws ds e v → w ≡ word_at ws v 6 → kind ≡ w / 0x4000_0000 → kind ≡ 0
-    → f ≡ w % 0x4000_0000 → l ≡ get_or ds (v * 7 + 0) 0 / 256 % 256 → r ≡ get_or ds (v * 7 + 0) 0 % 256 → Down ws ds e v 0 f l r
-root_down {ws} {v = v} h q k z a b c =
-    rw (a, q, b, c) (halves h (word_at ws v 6 % 0x4000_0000) (at_inner h.tree (rw (k, q) at z)) 0 (omega arith))
+root_leaf {ws} {e = e} {v = v} {p = p} h q limit ordered =
+    sym (root_level h limit ordered ∙ levels_leaf limit (tree_at ws e v) v (box_at ws v) p 0 (tree_leaf ws e v p (sym q)))
 
 pub root_joined : {ws ds : List ℕ} {e v f l r x y : ℕ} → Tabled ws ds e v → Down ws ds e v 0 f l r → Adds ws ds (e - 1) f l x
     → Adds ws ds (e - 1) (f + 1) r y

@@ -10,6 +10,9 @@ ghost use Rattle.wide_layout.specs.Layout.{level};
 ghost use Rattle.wide_tree.specs.Ordered.{wide_tree};
 ghost use Rattle.wide_level.specs.Levels.{added};
 
+use bvh2::Link;
+use cost::Kind;
+
 // How many levels node v adds at an entry below the wide node above it: none as a leaf child, and else those below its two children, with one more
 // where it is an inner child. `depth` is how many edges lie below v at most.
 fn added_levels(words: &[u32], decisions: &[u32], v: usize, entry: usize, depth: u32) -> u32
@@ -19,19 +22,19 @@ fn added_levels(words: &[u32], decisions: &[u32], v: usize, entry: usize, depth:
     ensures by_index { (limit : ℕ) → RowsHold (word_of limit) 0 decisions.now (tree_at words.now depth v) → result
         ≡ added limit (tree_at words.now depth v) entry }
 {
-    let word = decisions[v * 7 + entry];
-    let kind = words::kind(word);
-    if kind == 0 {
-        return 0;
-    }
-    let left = cost::left_split(word);
-    let right = cost::right_split(word);
-    let first = words::below_kind(bvh2::link_word(words, v)) as usize;
-    let in_first = added_levels(words, decisions, first, left, depth - 1);
-    let in_second = added_levels(words, decisions, first + 1, right, depth - 1);
+    let decision = cost::decision_at(decisions, v, entry);
+    let own = match decision.kind {
+        Kind::Leaf => return 0,
+        Kind::Internal => 1,
+        Kind::Distribute => 0,
+    };
+    let Link::Children(first) = bvh2::node_link(words, v) else {
+        unreachable!()
+    };
+    let in_first = added_levels(words, decisions, first, decision.left, depth - 1);
+    let in_second = added_levels(words, decisions, first + 1, decision.right, depth - 1);
     let below = in_first.max(in_second);
-    let opened = kind == 2;
-    if opened { below } else { below + 1 }
+    below + own
 }
 
 // The deepest level of the wide tree: how many levels lie below its first node. The root is opened whatever its own decision says.
@@ -40,15 +43,14 @@ pub fn deepest_level(words: &[u32], decisions: &[u32]) -> u32
     ensures { (limit : ℕ) (ordered : Bool) → RowsHold (word_of limit) 0 decisions.now (tree_of words.now) → result
         ≡ level (wide_tree ordered limit (tree_of words.now)) }
 {
-    let link = bvh2::link_word(words, 0);
-    if words::kind(link) == 0 {
-        let first = words::below_kind(link) as usize;
-        let word = decisions[0];
-        let left = cost::left_split(word);
-        let right = cost::right_split(word);
-        let in_first = added_levels(words, decisions, first, left, 126);
-        let in_second = added_levels(words, decisions, first + 1, right, 126);
-        return in_first.max(in_second);
+    match bvh2::node_link(words, 0) {
+        Link::Children(first) => {
+            let decision = cost::decision_at(decisions, 0, 0);
+            let in_first = added_levels(words, decisions, first, decision.left, 126);
+            let in_second = added_levels(words, decisions, first + 1, decision.right, 126);
+            in_first.max(in_second)
+        }
+        Link::Position(_) => 0,
+        Link::Malformed => unreachable!(),
     }
-    0
 }

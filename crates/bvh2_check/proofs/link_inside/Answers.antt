@@ -1,12 +1,16 @@
-use native.Mathlib.Omega.{arith}
-use Rattle.bvh2_check.proofs.Tests.{inside_children, inside_position, inside_malformed}
+use mathlib.Core.Path.{refl}
+use Rattle.bvh2.specs.FirstCause.{is_inside}
+use Rattle.bvh2_check.proofs.Tests.{inside_children}
 use Rattle.bvh2_check.proofs.link_inside.Goals as goal
 
-pub returns-in-0 : goal.returns-in-0
-returns-in-0 c = inside_children _ _ c.kind.ensures c.below_kind-low.ensures c.in-0.is
+pub returns-in-Children : goal.returns-in-Children
+unfolding is_inside
+returns-in-Children c = rw c.in-Children.is (inside_children _ _ c.requires.0)
 
-pub returns-in-1 : goal.returns-in-1
-returns-in-1 c = inside_position _ _ c.kind.ensures c.below_kind-low.ensures c.in-1.is
+pub returns-in-Position : goal.returns-in-Position
+unfolding is_inside
+returns-in-Position c = rw c.in-Position.is refl
 
-pub returns-in_default : goal.returns-in_default
-returns-in_default c = inside_malformed _ _ c.kind.ensures (λ e. omega arith) (λ e. omega arith)
+pub returns-in-Malformed : goal.returns-in-Malformed
+unfolding is_inside
+returns-in-Malformed c = rw c.in-Malformed.is refl

@@ -1,14 +1,10 @@
 use Prim.Native.Nat.{◌+◌, ◌*◌}
 use native.Mathlib.Omega.{arith}
 use lib.Dec.{lit≤}
-use lib.Ieee.{of_bits, nan_bits}
+use lib.Ieee.{of_bits}
 use Rattle.cost.specs.Rows.{costs_at, entry_from}
 use Rattle.cost.proofs.Entries.{small_split, first_stored, entry_next, filled_none, child_stays, turn_writes, last_writes}
 use Rattle.cost.proofs.inner_entries.Goals as goal
-
-pub float_from_bits-best_split : goal.float_from_bits-best_split
-unfolding nan_bits
-float_from_bits-best_split c = tt
 
 pub first_entry-e-requires : goal.first_entry-e-requires
 first_entry-e-requires c =

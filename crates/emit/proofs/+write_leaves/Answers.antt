@@ -3,49 +3,61 @@ use Prim.Native.Nat.{ℕ}
 use native.Mathlib.Omega.{arith}
 use lib.ListN.{length}
 use Rattle.bvh2.proofs.Subtree.{node}
-use Rattle.emit.proofs.LeafSteps.{Down, down, up, Last, last}
+use Rattle.emit.proofs.LeafSteps.{Down, down, up, Last, last, formed_link}
 use Rattle.emit.proofs.+write_leaves.Goals as goal
-use Rattle.emit.proofs.+write_leaves.Goals.{Then-kind-eq0, Else-kind-eq0}
+use Rattle.emit.proofs.+write_leaves.Goals.{In-Children, In-Position}
 
--- the two branches
-below : (t : ℕ) (c : Then-kind-eq0 t) → let s = c.args in
-    Down s.words.now (length s.indices.now) (length s.out.now) s.at s.depth s.v c.below_kind-index.result
-below t c = down c.requires c.link_word-link.ensures c.below_kind-index.ensures c.kind.ensures c.if-kind-eq0.true
+-- the two links
+below : (t : ℕ) (c : In-Children t) → let s = c.args in
+    Down s.words.now (length s.indices.now) (length s.out.now) s.at s.depth s.v c.in-Children.first
+below t c = down c.requires c.in-Children.ensures
 
-ended : (t : ℕ) (c : Else-kind-eq0 t) → let s = c.args in
-    Last s.words.now s.indices.now s.at s.depth s.v c.below_kind-index.result s.out.now
-ended t c = last c.requires c.link_word-link.ensures c.below_kind-index.ensures c.kind.ensures c.if-kind-eq0.false
+ended : (t : ℕ) (c : In-Position t) → let s = c.args in Last s.words.now s.indices.now s.at s.depth s.v c.in-Position.position s.out.now
+ended t c = last c.requires c.in-Position.ensures
 
-pub link_word-link-requires : goal.link_word-link-requires
-link_word-link-requires t c = let r = (node c.requires.tree).room in omega arith
+pub node_link-requires : goal.node_link-requires
+node_link-requires t c = let r = (node c.requires.tree).room in omega arith
 
 pub overflow_sub-depth : goal.overflow_sub-depth
-overflow_sub-depth t c = (below t (goal.at.overflow_sub-depth t c).Then-kind-eq0).deep
+overflow_sub-depth t c = (below t (goal.at.overflow_sub-depth t c).In-Children).deep
 
 pub write_leaves-next-requires : goal.write_leaves-next-requires
 write_leaves-next-requires t c =
-    let h = below t (goal.at.write_leaves-next-requires t c).Then-kind-eq0 in
+    let h = below t (goal.at.write_leaves-next-requires t c).In-Children in
     let d = h.deep in
     (omega arith, h.left)
 
-pub overflow_sub-depth-then-kind-eq0 : goal.overflow_sub-depth-then-kind-eq0
-overflow_sub-depth-then-kind-eq0 t c = (below t (goal.at.overflow_sub-depth-then-kind-eq0 t c).Then-kind-eq0).deep
+pub overflow_add-first : goal.overflow_add-first
+overflow_add-first t c =
+    let h = below t (goal.at.overflow_add-first t c).In-Children in
+    omega (arith, h.second, h.few)
+
+pub overflow_sub-depth-in-Children : goal.overflow_sub-depth-in-Children
+overflow_sub-depth-in-Children t c = (below t (goal.at.overflow_sub-depth-in-Children t c).In-Children).deep
 
 pub write_leaves-requires : goal.write_leaves-requires
 write_leaves-requires t c =
-    let h = below t (goal.at.write_leaves-requires t c).Then-kind-eq0 in
+    let h = below t (goal.at.write_leaves-requires t c).In-Children in
     let d = h.deep in
     (omega arith, rw (c.write_leaves-next.auto.out, c.write_leaves-next.ensures.next) h.right)
 
-pub returns-then-kind-eq0 : goal.returns-then-kind-eq0
-returns-then-kind-eq0 t c =
-    up (below t (goal.at.returns-then-kind-eq0 t c).Then-kind-eq0) refl c.write_leaves-next.ensures c.write_leaves.ensures
+pub returns-in-Children : goal.returns-in-Children
+returns-in-Children t c =
+    up (below t (goal.at.returns-in-Children t c).In-Children) refl c.write_leaves-next.ensures c.write_leaves.ensures
 
-pub bounds-indices-index : goal.bounds-indices-index
-bounds-indices-index t c = (ended t (goal.at.bounds-indices-index t c).Else-kind-eq0).held
+pub offset_bounds-indices-position : goal.offset_bounds-indices-position
+offset_bounds-indices-position t c =
+    let h = ended t (goal.at.offset_bounds-indices-position t c).In-Position in
+    omega (arith, h.held, h.few)
+
+pub bounds-indices-position : goal.bounds-indices-position
+bounds-indices-position t c = (ended t (goal.at.bounds-indices-position t c).In-Position).held
 
 pub bounds-out-at : goal.bounds-out-at
-bounds-out-at t c = (ended t (goal.at.bounds-out-at t c).Else-kind-eq0).room
+bounds-out-at t c = (ended t (goal.at.bounds-out-at t c).In-Position).room
 
-pub returns : goal.returns
-returns t c = (ended t (goal.at.returns t c).Else-kind-eq0).written
+pub returns-in-Position : goal.returns-in-Position
+returns-in-Position t c = (ended t (goal.at.returns-in-Position t c).In-Position).written
+
+pub unreachable-requires : goal.unreachable-requires
+unreachable-requires t c = formed_link c.requires c.in-Malformed.ensures

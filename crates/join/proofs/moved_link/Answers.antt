@@ -1,15 +1,18 @@
-use mathlib.Core.Path.{sym, ◌∙◌}
 use native.Mathlib.Omega.{arith}
-use Rattle.join.proofs.Moving.{moved_children, moved_position, position_fits}
+use Rattle.join.proofs.Moving.{moved_children, moved_position, link_fits, link_formed}
 use Rattle.join.proofs.moved_link.Goals as goal
 
-pub returns-then-kind-eq0 : goal.returns-then-kind-eq0
-returns-then-kind-eq0 c = moved_children _ _ _ (sym c.kind.ensures ∙ c.if-kind-eq0.true)
+pub overflow_add-result : goal.overflow_add-result
+overflow_add-result c = omega (arith, c.requires.1, link_fits c.args.link c.requires.0)
 
-pub overflow_add-result-2 : goal.overflow_add-result-2
-overflow_add-result-2 c =
-    let a = c.args in
-    omega (arith, c.requires.2, position_fits a.nodes a.positions a.link (λ e. c.if-kind-eq0.false (c.kind.ensures ∙ e)) c.requires.0)
+pub overflow_add-result-in-Position : goal.overflow_add-result-in-Position
+overflow_add-result-in-Position c = omega (arith, c.requires.2, link_fits c.args.link c.requires.0)
 
-pub returns : goal.returns
-returns c = moved_position _ _ _ (λ e. c.if-kind-eq0.false (c.kind.ensures ∙ e)) c.requires.0
+pub unreachable-requires : goal.unreachable-requires
+unreachable-requires c = link_formed _ c.requires.0 c.in-Malformed.ensures
+
+pub returns-in-Children : goal.returns-in-Children
+returns-in-Children c = moved_children _ _ _ _ c.in-Children.ensures
+
+pub returns-in-Position : goal.returns-in-Position
+returns-in-Position c = moved_position _ _ _ _ c.in-Position.ensures
