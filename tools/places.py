@@ -176,11 +176,12 @@ def uncited(texts, functions):
         if "/out/" in path or path.endswith(("DESIGN-PASS.md", "PORT.md", "PORT-NAMES.md")):
             continue
         text = open(path).read()
-        words.update(re.findall(r"[^\s(){}.;,`|\[\]]+", re.sub(r"^ *--[^\n]*", "", text, flags=re.M)))
+        words.update(re.findall(r"[^\s(){}.;,`|\[\]]+", re.sub(r"^ *--[^\n]*", "", text, flags=re.M).replace("::", " ")))
         if re.match(r"crates/\w+/proofs/\w+\.antt$", path):
-            for m in re.finditer(r"^ *pub ([\w'*◌≡≤<+\-]+) : ", text, re.M):
-                laws.append((path, m.group(1), text))
-    yield "laws of proofs/ that nothing else names", [f"{p}: {n}" for p, n, t in sorted(laws) if words[n] <= len(re.findall(rf"(?m)^ *(?:pub )?{re.escape(n)} ", t)) + 0]
+            for m in re.finditer(r"^( *)pub ([\w'*◌≡≤<+\-]+) : ", text, re.M):
+                own = re.findall(rf"(?m)^{m.group(1)}(?:pub )?{re.escape(m.group(2))} ", text)
+                laws.append((path, m.group(2), len(own)))
+    yield "laws of proofs/ that nothing else names", [f"{p}: {n}" for p, n, own in sorted(laws) if words[n] <= own]
 
 
 POINTS = {"1": kinds, "2": twins, "3": loops, "4": by_hand, "5": together, "6": buffers, "7": switches, "8": uncited}

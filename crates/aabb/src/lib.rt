@@ -95,7 +95,7 @@ impl Aabb {
         (near, far)
     }
 
-    // The distance at which the ray enters the box, a zero as +0.0; +infinity where it misses.
+    // The distance at which the ray enters the box, a zero as +0.0; +infinity where it misses, as the requirements ask, which counts for no ray.
     pub fn intersect_ray(self, ray: Ray) -> f32
         ensures { result ≡ entry_distance self ray }
     {

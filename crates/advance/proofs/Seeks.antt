@@ -1,19 +1,16 @@
 -- On from turn to turn until positions are in hand.
-use mathlib.Core.Path.{◌≡◌, refl, sym, ap, subst, ◌∙◌}
+use mathlib.Core.Path.{◌≡◌, refl, sym, ap, ◌∙◌}
 use mathlib.Core.Bool.{Bool, true, false, ◌&&◌, cond}
 use mathlib.Core.List.{List}
-use Prim.Native.Nat.{ℕ, zero, suc, ◌-◌, ◌≤◌, ◌<◌}
+use Prim.Native.Nat.{ℕ, zero, suc, ◌-◌, ◌<◌}
 use native.Mathlib.Omega.{arith}
 use lib.Dec.{ltb}
 use borrow.Author.Tests.{lt-ltb, ltb-true, eqb-true}
 use Rattle.lists.proofs.Tells.{both_pass}
 use Rattle.ray.specs.declared.Ray.{Ray}
-use Rattle.faststack.specs.Stack.{capacity}
-use Rattle.walk.specs.Step as S
 use Rattle.walk.specs.WordStep.{WalkerWords, SteppedWords, NodeWords, is_test, finds_none, advance_words, seek_words}
 use Rattle.advance.specs.declared.Walk.{Walk}
 use Rattle.advance.specs.Turn.{walker_of, seeking}
-use Rattle.advance.proofs.Shows.{Shows, turn_shows}
 
 -- A search from a walk without positions in hand, by its numbers, is one from the walk.
 pub seeking_from : (ray : Ray) (octant : ℕ) (stack : List ℕ) (v : Walk) → v.positions.bits ≡ 0
@@ -75,15 +72,3 @@ module _ {RayData Distance : Type 0} (m : ℕ) (N : NodeWords RayData Distance) 
   -- it was not the last test allowed
   pub seek_left : (finds_none r && ltb 0 left) ≡ true → 0 < left
   seek_left h = ltb-true 0 left (both_pass (finds_none r) (ltb 0 left) h).1
-
-  -- and no more groups wait than there is room for
-  pub seek_deep : w.depth ≤ capacity → (finds_none r && ltb 0 left) ≡ true → r.walker.depth ≤ capacity
-  seek_deep deep h =
-      tested_deep r.answer (both_pass (is_test r.answer) _ (both_pass (finds_none r) (ltb 0 left) h).0).0
-      (subst (λ (q : SteppedWords RayData). Shows m N n w q.answer q.walker) (sym turn) (turn_shows m N n w deep))
-    where
-      tested_deep : (b : S.Answer) → is_test b ≡ true → Shows m N n w b r.walker → r.walker.depth ≤ capacity
-      tested_deep (S.tested v) e k = k.2
-      tested_deep (S.position p) e k = absurd (let z : ◌≡◌ {A = ℕ} 0 1 = cc in omega arith)
-      tested_deep S.done e k = absurd (let z : ◌≡◌ {A = ℕ} 0 1 = cc in omega arith)
-      tested_deep (S.refused j) e k = absurd (let z : ◌≡◌ {A = ℕ} 0 1 = cc in omega arith)

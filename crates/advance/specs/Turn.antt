@@ -1,13 +1,10 @@
 -- Internal: all but `step_answer`, `group_of` and `walker_of`. What the core of a walk says of the walker whose numbers it takes (01, "Walking").
-use Rattle.std.specs.Prelude.{Bool, not, ◌&&◌, ◌||◌, cond, List, ◌≡◌, ℕ, zero, suc, ◌+◌, ◌*◌, ◌/◌, ◌%◌, ◌≤◌, ◌<◌, eqb, leb, ltb, length}
+use Rattle.std.specs.Prelude.{Bool, not, ◌&&◌, ◌||◌, cond, List, ℕ, zero, suc, ◌+◌, ◌*◌, ◌/◌, ◌%◌, eqb, leb, ltb}
 use Rattle.std.specs.Prelude.{Option, Some, None}
 use Rattle.ray.specs.declared.Ray.{Ray}
 use Rattle.causes.specs.Refusal.{cause_number}
-use Rattle.faststack.specs.Stack.{capacity, has_room, pushed, top_of}
-use Rattle.node_slot.specs.declared.Ends.{Ends}
-use Rattle.node_slot.specs.Parts.{ends_of}
+use Rattle.faststack.specs.Stack.{has_room, pushed, top_of}
 use Rattle.node_test.specs.declared.Tested.{Tested}
-use Rattle.record_shape.specs.Record.{node_count}
 use Rattle.walk.specs.Step as S
 use Rattle.walk.specs.Words as W
 use Rattle.walk.specs.WordStep.{WalkerWords, SteppedWords, is_test, no_group}
@@ -54,16 +51,6 @@ walker_of ray octant v stack =
 -- the walker after a turn, and the turn's answer
 abbrev pub turned : Ray → ℕ → Turn → List ℕ → SteppedWords WalkRay
 turned ray octant t stack = record { walker = walker_of ray octant t.walk stack; answer = step_answer t.answer }
-
--- what the core asks: a record of whole nodes within the bounds, the ends that the ray meets first, an octant, and a stack
-pub record Walkable (bytes : List ℕ) (n : ℕ) (ray : Ray) (e : Ends) (octant depth room : ℕ) : Type 0 where
-  pub whole : length bytes % 80 ≡ 0
-  pub nodes : node_count bytes ≤ 65535
-  pub positions : n ≤ 65536
-  pub ends : e ≡ ends_of ray.direction
-  pub eight : octant < 8
-  pub deep : depth ≤ capacity
-  pub stack : capacity ≤ room
 
 -- ---- what is due
 

@@ -2,22 +2,24 @@
 #![tactic(auto)]
 
 ghost use Rattle.std.specs.Prelude.{◌≡◌, false, ◌≤◌, ◌<◌, length, IfSome};
-ghost use Rattle.faststack.specs.Stack.{capacity};
+ghost use Rattle.causes.proofs.Sizes.{Fit};
 ghost use Rattle.record_shape.specs.Record.{node_count};
 ghost use Rattle.walk.specs.Words.{packed, unpacked, first_position, first_child, rest_of};
 ghost use Rattle.walk.specs.WordStep.{visit_words, advance_words, seek_words};
 ghost use Rattle.walk_record.specs.WalkRay.{by_boxes};
 ghost use Rattle.walk_record.specs.Record.{node_words_at};
-ghost use Rattle.advance.specs.Turn.{group_of, walker_of, begun, turned, seeking, Walkable, due_in, due_group, lacks_room, waits, stacked, is_past};
+ghost use Rattle.advance.specs.Turn.{group_of, walker_of, begun, turned, seeking, due_in, due_group, lacks_room, waits, stacked, is_past};
 ghost use Rattle.advance.specs.Turn.{followed, goes_on};
 
 use causes::Refusal;
-use node_slot::Ends;
+use node_slot::Aim;
 use node_test::Tested;
-use ray::Ray;
 
 // Bits 31 to 24 of a group are its children.
 pub const CHILDREN: u32 = 0x100_0000;
+
+// More tests than any walk makes, so that a search for positions goes on until it finds some or the walk ends.
+pub const ALL_TESTS: u32 = 0xffff_ffff;
 
 // Bits counted from a base: positions, or children in bits 31 to 24 by slot XOR octant over an imask.
 #[derive(Clone, Copy, Debug, PartialEq, Eq)]
@@ -56,8 +58,21 @@ pub struct Walk {
     pub depth: u32,
 }
 
-// What a step did: it tested a node, reported a position, found nothing left, or was refused.
+// A record of whole nodes, neither too many of them nor too many positions.
 #[derive(Clone, Copy)]
+pub struct CwBvh<'a> {
+    pub bytes: &'a [u8],
+    pub positions: usize,
+    pub ghost fit: { Fit (length bytes.now) positions },
+}
+
+// The groups that wait: of 32 words, those below the depth. It is lent beside the record, since it changes and the record does not; the depth goes in
+// a register, among the walk's numbers.
+pub type Stack = [u64; 32];
+
+// What a step did: it tested a node, reported a position, found nothing left, or was refused. These are the requirements' four answers, each with the
+// walk beside it: a refused step gives its walker back, so that this is no Result.
+#[derive(Clone, Copy, Debug, PartialEq, Eq)]
 pub enum Answer {
     Tested(u32),
     Position(u32),
@@ -118,6 +133,7 @@ pub fn rest_of(g: Group) -> Group
 }
 
 // The child of the highest bit of a group, for a ray of this octant.
+#[tactic(auto, using(crate::proofs::Groups::child_is))]
 pub fn first_child(g: Group, octant: u32) -> usize
     requires { (0x100_0000 ≤ g.bits) × (octant < 8) }
     ensures { result ≡ first_child octant (group_of g) }
@@ -127,8 +143,8 @@ pub fn first_child(g: Group, octant: u32) -> usize
 }
 
 // The group in hand is due, or else the last that waits and holds a child.
-pub fn due_group(current: Group, depth: u32, stack: &[u64]) -> Option<Due>
-    requires { (depth ≤ capacity) × (capacity ≤ length stack.now) }
+#[tactic(auto, using(crate::proofs::Dues::due_hand, crate::proofs::Dues::due_none))]
+pub fn due_group(current: Group, depth: u32, stack: &Stack) -> Option<Due>
     ensures value { due_in result ≡ due_group (group_of current) stack.now depth }
     ensures child { IfSome result (λ g. 0x100_0000 ≤ g.group.bits) }
 {
@@ -167,8 +183,8 @@ fn is_past(child: usize, tests: u32, m: usize) -> bool
 }
 
 // Lets what is left of a group wait above `depth` others, if it holds a child; how many wait then.
-fn wait(stack: &mut [u64], depth: u32, rest: Group) -> u32
-    requires { (lacks_room depth rest.bits ≡ false) × (depth ≤ capacity) × (capacity ≤ length stack.old) }
+fn wait(stack: &mut Stack, depth: u32, rest: Group) -> u32
+    requires { lacks_room depth rest.bits ≡ false }
     ensures value { result ≡ waits depth rest.bits }
     ensures stack_after { stack.new ≡ stacked stack.old depth (group_of rest) }
 {
@@ -199,26 +215,18 @@ fn follow(tests: u32, t: Tested, depth: u32) -> Walk
     }
 }
 
-// Tests the first child of a group; what is left of the group waits above those below it.
-fn visit(
-    walk: Walk,
-    g: Due,
-    ray: Ray,
-    e: Ends,
-    octant: u32,
-    stack: &mut [u64],
-    record: &[u8],
-    n: usize,
-) -> Turn
-    requires { Walkable «record».now n ray e octant g.depth (length stack.old) × (0x100_0000 ≤ g.group.bits) }
-    ensures { turned ray octant result stack.new
-        ≡ visit_words (node_count «record».now) (node_words_at «record».now by_boxes) n
-        (walker_of ray octant walk stack.old) (group_of g.group) g.depth }
+// Tests the first child of a group; what is left of the group waits above those below it. Aim, stack and record go by themselves here and below:
+// closest lowers an aim's reach, a walk changes the stack, and the record stays.
+fn visit(walk: Walk, g: Due, aim: &Aim, stack: &mut Stack, bvh: CwBvh) -> Turn
+    requires { 0x100_0000 ≤ g.group.bits }
+    ensures { let bytes = bvh.entry.bytes.now in turned aim.now.ray aim.now.octant result stack.new
+        ≡ visit_words (node_count bytes) (node_words_at bytes by_boxes) bvh.entry.positions
+        (walker_of aim.now.ray aim.now.octant walk stack.old) (group_of g.group) g.depth }
 {
     let group = g.group;
     let rest = rest_of(group);
-    let child = first_child(group, octant);
-    let m = record.len() / node::BYTES;
+    let child = first_child(group, aim.octant);
+    let m = bvh.bytes.len() / node::BYTES;
     if lacks_room(g.depth, rest.bits) {
         return Turn {
             answer: Answer::Refused(Refusal::Fault),
@@ -231,7 +239,7 @@ fn visit(
             walk,
         };
     }
-    let Some(t) = node_test::test_node(record, child, m, n, ray, e, octant) else {
+    let Some(t) = node_test::test_node(bvh.bytes, child, m, bvh.positions, aim) else {
         return Turn {
             answer: Answer::Refused(Refusal::Fault),
             walk,
@@ -245,19 +253,11 @@ fn visit(
 }
 
 // One turn without positions in hand: the node that is due is tested, or nothing is left.
-fn test_due(
-    walk: Walk,
-    ray: Ray,
-    e: Ends,
-    octant: u32,
-    stack: &mut [u64],
-    record: &[u8],
-    n: usize,
-) -> Turn
-    requires { Walkable «record».now n ray e octant walk.depth (length stack.old) × (walk.positions.bits ≡ 0) }
-    ensures { turned ray octant result stack.new
-        ≡ advance_words (node_count «record».now) (node_words_at «record».now by_boxes) n
-        (walker_of ray octant walk stack.old) }
+fn test_due(walk: Walk, aim: &Aim, stack: &mut Stack, bvh: CwBvh) -> Turn
+    requires { walk.positions.bits ≡ 0 }
+    ensures { let bytes = bvh.entry.bytes.now in turned aim.now.ray aim.now.octant result stack.new
+        ≡ advance_words (node_count bytes) (node_words_at bytes by_boxes) bvh.entry.positions
+        (walker_of aim.now.ray aim.now.octant walk stack.old) }
 {
     let Some(g) = due_group(walk.current, walk.depth, stack) else {
         return Turn {
@@ -265,7 +265,7 @@ fn test_due(
             walk,
         };
     };
-    visit(walk, g, ray, e, octant, stack, record, n)
+    visit(walk, g, aim, stack, bvh)
 }
 
 // Whether a search for positions goes on after a turn: it tested a node, none of whose positions is passed, and tests are left.
@@ -286,17 +286,13 @@ pub fn seek(
     bits: u32,
     depth: u32,
     most: u32,
-    ray: Ray,
-    e: Ends,
-    octant: u32,
-    stack: &mut [u64],
-    record: &[u8],
-    n: usize,
+    aim: &Aim,
+    stack: &mut Stack,
+    bvh: CwBvh,
 ) -> Turn
-    requires { Walkable «record».now n ray e octant depth (length stack.old) }
-    ensures { turned ray octant result stack.new
-        ≡ seek_words (node_count «record».now) (node_words_at «record».now by_boxes) most n
-        (walker_of ray octant (seeking tests held current bits depth) stack.old) }
+    ensures { let bytes = bvh.entry.bytes.now in turned aim.now.ray aim.now.octant result stack.new
+        ≡ seek_words (node_count bytes) (node_words_at bytes by_boxes) most bvh.entry.positions
+        (walker_of aim.now.ray aim.now.octant (seeking tests held current bits depth) stack.old) }
 {
     let mut walk = Walk {
         tests,
@@ -313,7 +309,7 @@ pub fn seek(
     // not a `for` over `left`: the loop gives what its last turn gave
     let mut left = most;
     loop {
-        let turn = test_due(walk, ray, e, octant, stack, record, n);
+        let turn = test_due(walk, aim, stack, bvh);
         if !goes_on(turn, left) {
             return turn;
         }

@@ -3,4 +3,3 @@ pub mod Few
 pub mod Walks
 pub mod Copies
 pub mod Answers
-pub mod Begins

@@ -133,15 +133,6 @@ module _ {bytes : List ℕ} {n : ℕ} {ray : Ray} (sized : RecordSized bytes n) 
       )
       go (A.Refused j) (g, l) = ap (λ (o : OutcomeWords WalkRay (List ℕ)). o.ended) (sym g)
 
-  -- with positions in hand it goes on
-  pub walk_goes : (a : Answer) (u : WalkerWords WalkRay) → After (done_by a) u → (a ≡ A.Done → ⊥) → ((f : Refusal) → a ≡ A.Refused f → ⊥)
-      → After (Ok false) u
-  unfolding done_by
-  walk_goes (A.Tested v) u h d r = h
-  walk_goes (A.Position p) u h d r = h
-  walk_goes A.Done u h d r = absurd (d refl)
-  walk_goes (A.Refused f) u h d r = absurd (r f refl)
-
   -- ---- a position in hand
 
   module _ (held : 0 < w.positions.bits) (p : ℕ) (named : p ≡ W.first_position w.positions) where

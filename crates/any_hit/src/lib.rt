@@ -1,23 +1,18 @@
 // Any-hit over a record (cwbvh/mod.rs, ray_traverse_anyhit): the positions that a ray passes, in the order of the walk.
 #![tactic(auto)]
 
-ghost use Rattle.std.specs.Prelude.{◌≡◌, false, ◌+◌, ◌≤◌, length, take, set};
-ghost use Rattle.ray.specs.Ray.{ray_from, octant_of};
-ghost use Rattle.node_slot.specs.Parts.{ends_of};
+ghost use Rattle.std.specs.Prelude.{◌≡◌, ◌+◌, ◌≤◌, length, take, set};
+ghost use Rattle.ray.specs.Ray.{ray_from};
 ghost use Rattle.advance.specs.Turn.{walker_of};
-ghost use Rattle.walk_record.specs.WalkRay.{walk_ray, forged_ray};
-ghost use Rattle.query.specs.Walk.{RecordSized};
+ghost use Rattle.walk_record.specs.WalkRay.{walk_ray};
 ghost use Rattle.any_hit.specs.AnyHit.{fitted, walk_of, list_walked, any_hit_of, list_after, result_of};
 ghost use Rattle.any_hit.specs.declared.AnyHitError.TheVariants.{Refused};
-ghost use Rattle.any_hit.specs.Gather.{Walking, Counted, Gathers, list_fitted};
+ghost use Rattle.any_hit.specs.Gather.{done_by, Walking, Counted, Gathers, list_fitted};
 
-use advance::{Answer, Walk};
+use advance::{Answer, Stack, Walk};
 use causes::Refusal;
-use node_slot::Ends;
-use ray::{Beam, Ray};
-
-// As many more tests as there may be nodes.
-const ALL: u32 = 0xffff_ffff;
+use query::Query;
+use ray::Beam;
 
 // Over any number of positions that a walk reports.
 const MANY: u32 = 0xffff_0000;
@@ -45,8 +40,8 @@ impl From<Refusal> for AnyHitError {
     }
 }
 
-// A walk with the number of positions that it has noted: it is done, or paused where those of another node may find no room;
-// both have a walk and a count.
+// A walk with the number of positions that it has noted, which stands beside an array, since there is no heap: it is done, or paused where those of
+// another node may find no room; both have a walk and a count.
 #[derive(Clone, Copy)]
 struct Gathered {
     done: bool,
@@ -63,65 +58,64 @@ fn note(list: &mut [u32], at: usize, p: u32)
     }
 }
 
+// Whether a walk is done after a search for positions with this answer, or why it is refused.
+#[tactic(auto, unfolding(crate::specs::Gather::done_by))]
+fn done_by(answer: Answer) -> Result<bool, Refusal>
+    ensures { result ≡ done_by answer }
+{
+    match answer {
+        Answer::Done => Ok(true),
+        Answer::Refused(refusal) => Err(refusal),
+        _ => Ok(false),
+    }
+}
+
 // Goes on with a walk that has noted so many positions in `found`, as long as there is room, until it ends or has noted over `most`.
+// Each query has the loop over a walk written out: miss leaves both loops by a labelled break, as the requirements ask, and a closure could not.
+#[inline(always)]
 fn gather(
-    record: &[u8],
-    n: usize,
-    ray: Ray,
-    e: Ends,
-    octant: u32,
+    query: Query,
     start: Walk,
     noted: u32,
     most: u32,
-    stack: &mut [u64],
+    stack: &mut Stack,
     found: &mut [u32],
 ) -> Result<Gathered, Refusal>
-    requires record_sized { RecordSized «record».now n × Walking «record».now n ray (walker_of ray octant start stack.old) noted found.old found.old }
-    requires e_value { (e ≡ ends_of ray.direction) × (start.positions.bits ≡ 0) × (noted ≤ most + 24) }
-    ensures { Gathers «record».now n ray octant most found.old result stack.new found.new }
+    requires { let bvh = query.bvh in let aim = query.aim in (start.positions.bits ≡ 0) × (noted ≤ most + 24)
+        × Walking bvh.bytes.now bvh.positions aim.ray (walker_of aim.ray aim.octant start stack.old) noted found.old found.old }
+    ensures { let bvh = query.entry.bvh in let aim = query.entry.aim in
+        Gathers bvh.bytes.now bvh.positions aim.ray aim.octant most found.old result stack.new found.new }
 {
     let mut walk = start;
     let mut count = noted;
+    // not a `for`: a turn notes as many positions as its node has
     while count <= most {
-        let tests = walk.tests;
         let held = walk.positions.base;
-        let current = walk.current;
-        let depth = walk.depth;
+        let hand = walk.current;
         let turn = advance::seek(
-            tests,
+            walk.tests,
             held,
-            current.base,
-            current.bits,
-            depth,
-            ALL,
-            ray,
-            e,
-            octant,
+            hand.base,
+            hand.bits,
+            walk.depth,
+            advance::ALL_TESTS,
+            &query.aim,
             stack,
-            record,
-            n,
+            query.bvh,
         );
-        let reply = turn.answer;
-        let next = advance::walk_after(turn);
-        walk = next;
-        match reply {
-            Answer::Done => {
-                let done = true;
-                return Ok(Gathered { done, walk, count });
-            }
-            Answer::Refused(refusal) => return Err(refusal),
-            _ => {}
+        walk = advance::walk_after(turn);
+        let done = done_by(turn.answer)?;
+        if done {
+            return Ok(Gathered { done, walk, count });
         }
         while walk.positions.bits > 0 {
-            let held = walk.positions;
-            let p = advance::first_position(held);
-            if p >= n {
+            let p = advance::first_position(walk.positions);
+            if p >= query.bvh.positions {
                 return Err(Refusal::Fault);
             }
             note(found, count as usize, p as u32);
             count += 1;
-            let positions = advance::rest_of(held);
-            walk = Walk { positions, ..walk };
+            walk.positions = advance::rest_of(walk.positions);
         }
     }
     let done = false;
@@ -144,27 +138,19 @@ fn deliver(found: &[u32], count: u32, tests: u32, list: &mut [u32]) -> Result<An
 }
 
 // After a walk without a fault: another one writes its positions into a list that is long enough for them.
-fn walk_again(
-    record: &[u8],
-    n: usize,
-    ray: Ray,
-    octant: u32,
-    count: u32,
-    tests: u32,
-    list: &mut [u32],
-) -> Result<AnyHit, AnyHitError>
-    requires record_sized { RecordSized «record».now n × (forged_ray (walk_ray ray) ≡ false) × (octant ≡ octant_of ray.direction) }
-    requires counted { Counted «record».now n ray count tests }
-    ensures result_value { result_of result ≡ walk_of «record».now n (walk_ray ray) (length list.old) }
-    ensures list_after { list.new ≡ list_walked «record».now n (walk_ray ray) list.old }
+fn walk_again(query: Query, count: u32, tests: u32, list: &mut [u32]) -> Result<AnyHit, AnyHitError>
+    requires { Counted query.bvh.bytes.now query.bvh.positions query.aim.ray count tests }
+    ensures result_value { let bvh = query.entry.bvh in
+        result_of result ≡ walk_of bvh.bytes.now bvh.positions (walk_ray query.entry.aim.ray) (length list.old) }
+    ensures list_after { let bvh = query.entry.bvh in
+        list.new ≡ list_walked bvh.bytes.now bvh.positions (walk_ray query.entry.aim.ray) list.old }
 {
     if list.len() < count as usize {
         return Err(AnyHitError::Short(count));
     }
     let start = advance::begin();
     let mut stack = [0u64; 32];
-    let e = node_slot::near_ends(ray.direction);
-    let again = gather(record, n, ray, e, octant, start, 0, MANY, &mut stack, list)?;
+    let again = gather(query, start, 0, MANY, &mut stack, list)?;
     Ok(AnyHit {
         count: again.count,
         tests: again.walk.tests,
@@ -173,62 +159,45 @@ fn walk_again(
 
 // Goes on with a walk whose positions so far lie in `found`. Up to 1,024 are kept aside until it has ended.
 fn walk_on(
-    record: &[u8],
-    n: usize,
-    ray: Ray,
-    octant: u32,
+    query: Query,
     first: Gathered,
     found: &[u32],
-    stack: &mut [u64],
+    stack: &mut Stack,
     list: &mut [u32],
 ) -> Result<AnyHit, AnyHitError>
-    requires record_sized { RecordSized «record».now n × (forged_ray (walk_ray ray) ≡ false) × (octant ≡ octant_of ray.direction) }
-    requires walking { Walking «record».now n ray (walker_of ray octant first.walk stack.old) first.count found.now found.now }
-    requires bits_value { (first.walk.positions.bits ≡ 0) × (first.count ≤ length found.now) × (first.count ≤ 1024) }
-    ensures result_value { result_of result ≡ walk_of «record».now n (walk_ray ray) (length list.old) }
-    ensures list_after { list.new ≡ list_walked «record».now n (walk_ray ray) list.old }
+    requires walking { let aim = query.aim in Walking query.bvh.bytes.now query.bvh.positions aim.ray
+        (walker_of aim.ray aim.octant first.walk stack.old) first.count found.now found.now }
+    requires between { (first.walk.positions.bits ≡ 0) × (first.count ≤ length found.now) × (first.count ≤ 1024) }
+    ensures result_value { let bvh = query.entry.bvh in
+        result_of result ≡ walk_of bvh.bytes.now bvh.positions (walk_ray query.entry.aim.ray) (length list.old) }
+    ensures list_after { let bvh = query.entry.bvh in
+        list.new ≡ list_walked bvh.bytes.now bvh.positions (walk_ray query.entry.aim.ray) list.old }
 {
     let mut more = [0u32; 1024];
     let kept = first.count as usize;
     more[..kept].copy_from_slice(&found[..kept]);
-    let start = first.walk;
-    let e = node_slot::near_ends(ray.direction);
-    let rest = gather(
-        record,
-        n,
-        ray,
-        e,
-        octant,
-        start,
-        first.count,
-        MANY,
-        stack,
-        &mut more,
-    )?;
+    let rest = gather(query, first.walk, first.count, MANY, stack, &mut more)?;
     if rest.count > 1024 {
-        return walk_again(record, n, ray, octant, rest.count, rest.walk.tests, list);
+        return walk_again(query, rest.count, rest.walk.tests, list);
     }
     deliver(&more, rest.count, rest.walk.tests, list)
 }
 
 // A whole walk over a record with nodes: most rays pass few positions, for which 64 words are set aside; it goes on with more where they may not do.
-fn walk_whole(record: &[u8], n: usize, ray: Ray, list: &mut [u32]) -> Result<AnyHit, AnyHitError>
-    requires { RecordSized «record».now n × (forged_ray (walk_ray ray) ≡ false) }
-    ensures result_value { result_of result ≡ walk_of «record».now n (walk_ray ray) (length list.old) }
-    ensures list_after { list.new ≡ list_walked «record».now n (walk_ray ray) list.old }
+fn walk_whole(query: Query, list: &mut [u32]) -> Result<AnyHit, AnyHitError>
+    ensures result_value { let bvh = query.entry.bvh in
+        result_of result ≡ walk_of bvh.bytes.now bvh.positions (walk_ray query.entry.aim.ray) (length list.old) }
+    ensures list_after { let bvh = query.entry.bvh in
+        list.new ≡ list_walked bvh.bytes.now bvh.positions (walk_ray query.entry.aim.ray) list.old }
 {
-    let octant = ray::octant(ray.direction);
     let start = advance::begin();
     let mut stack = [0u64; 32];
     let mut found = [0u32; 64];
-    let e = node_slot::near_ends(ray.direction);
-    let first = gather(
-        record, n, ray, e, octant, start, 0, 40, &mut stack, &mut found,
-    )?;
+    let first = gather(query, start, 0, 40, &mut stack, &mut found)?;
     if first.done {
         deliver(&found, first.count, first.walk.tests, list)
     } else {
-        walk_on(record, n, ray, octant, first, &found, &mut stack, list)
+        walk_on(query, first, &found, &mut stack, list)
     }
 }
 
@@ -238,10 +207,8 @@ pub fn any_hit(record: &[u8], n: usize, beam: Beam, list: &mut [u32]) -> Result<
     ensures result_value { result_of result ≡ any_hit_of «record».now n (ray_from beam) (length list.old) }
     ensures list_after { list.new ≡ list_after «record».now n (ray_from beam) list.old }
 {
-    let ray = Ray::new(beam);
-    query::check_entry(true, record.len(), n, Ok(()), ray)?;
-    if record.len() == 0 {
-        return Ok(AnyHit { count: 0, tests: 0 });
+    match Query::begin(true, record, n, beam)? {
+        Some(query) => walk_whole(query, list),
+        None => Ok(AnyHit { count: 0, tests: 0 }),
     }
-    walk_whole(record, n, ray, list)
 }

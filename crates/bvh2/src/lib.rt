@@ -2,7 +2,8 @@
 #![tactic(auto)]
 
 ghost use Rattle.std.specs.Prelude.{◌≡◌, ◌+◌, ◌*◌, ◌<◌, length};
-ghost use Rattle.bvh2.specs.Words.{word_at, float_at, box_at, link_of, link_at};
+ghost use Rattle.bvh2.specs.Words.{tree_nodes, float_at, box_at, link_of, link_at};
+ghost use Rattle.bvh2.specs.Causes.{TreeSized};
 ghost use Rattle.bvh2.specs.Said.{said};
 
 use aabb::Aabb;
@@ -10,6 +11,26 @@ use ray::Vec3;
 
 // The most leaves of a tree.
 pub const MAX_LEAVES: usize = 65536;
+
+// The words of a tree, and how many leaves it has: seven words to each node, and at most 65,536 leaves.
+#[derive(Clone, Copy, Debug)]
+pub struct Bvh2<'a> {
+    pub words: &'a [u32],
+    pub leaves: usize,
+    pub ghost sized: { TreeSized words.now leaves },
+}
+
+impl<'a> Bvh2<'a> {
+    // How many nodes it has.
+    pub fn nodes(self) -> usize
+        ensures { result ≡ tree_nodes self.entry.leaves }
+    {
+        (2 * self.leaves).saturating_sub(1)
+    }
+}
+
+// Nodes are words, and children are numbers of nodes, as the requirements give a tree: there is no heap. `words` and `v` stay two, which the
+// definitions' sums are made of.
 
 // Coordinate i of node v's box.
 fn coordinate(words: &[u32], v: usize, i: usize) -> f32
@@ -43,6 +64,7 @@ pub fn node_box(words: &[u32], v: usize) -> Aabb
 }
 
 // What a link word says, by the kind in its two high bits: where a pair of children begins, which position a leaf holds, or nothing that a tree says.
+// The three cases are the definition's: a malformed word is one of them, and no error of the one that reads it.
 #[derive(Clone, Copy, Debug, PartialEq, Eq)]
 pub enum Link {
     Children(usize),
@@ -69,13 +91,5 @@ pub fn node_link(words: &[u32], v: usize) -> Link
     requires { v * 7 + 6 < length words.now }
     ensures { said result ≡ link_at words.now v }
 {
-    Link::from(link_word(words, v))
-}
-
-// The link word of node v.
-pub fn link_word(words: &[u32], v: usize) -> u32
-    requires { v * 7 + 6 < length words.now }
-    ensures { result ≡ word_at words.now v 6 }
-{
-    words[v * 7 + 6]
+    Link::from(words[v * 7 + 6])
 }

@@ -54,8 +54,8 @@ unfolding LinkInside
 at_fork {ws} {n} {marks} {v} d f r e z =
     let i : LinkInside n (children f) = rw (← e) at (r.inside v r.node) in
     record {
-      left = record { sized = r.sized; inside = r.inside; room = r.room; node = omega arith };
-      right = record { sized = r.sized; inside = r.inside; room = r.room; node = i };
+      left = record { inside = r.inside; room = r.room; node = omega arith };
+      right = record { inside = r.inside; room = r.room; node = i };
       tree = tree_down ws d v f (sym e) (omega arith);
     }
 
@@ -80,15 +80,16 @@ pub marked_before : (ws : List ℕ) (m v d : ℕ) (o : List ℕ) → (get_or o v
 marked_before ws m v d o h = sym (stop_at ws m v (tree_at ws d v) o (label_is ws d v) h)
 
 module _ (ws : List ℕ) (m v : ℕ) (b : Aabb) (o : List ℕ) (z : get_or o v 0 ≡ 0) where
-  pub held_before : (p : ℕ) (t : Tree ℕ) → t ≡ leaf v b p → is_position p (link_at ws v) ≡ true → (get_or (set o v 1) (m + p) 0 ≡ 0 → ⊥)
-      → stop (set o v 1) ≡ walk ws m t o
-  unfolding walk
-  held_before p t e k g = rw (e, mark_go o v z, walk, k, mark_stop (set o v 1) (m + p) g)
+  module _ {j : ℕ} (i : j ≡ m) where
+    pub held_before : (p : ℕ) (t : Tree ℕ) → t ≡ leaf v b p → is_position p (link_at ws v) ≡ true → (get_or (set o v 1) (j + p) 0 ≡ 0 → ⊥)
+        → stop (set o v 1) ≡ walk ws m t o
+    unfolding walk
+    held_before p t e k g = rw (e, mark_go o v z, walk, k, ← i, mark_stop (set o v 1) (j + p) g)
 
-  pub held_now : (p : ℕ) (t : Tree ℕ) → t ≡ leaf v b p → is_position p (link_at ws v) ≡ true → get_or (set o v 1) (m + p) 0 ≡ 0
-      → go (set (set o v 1) (m + p) 1) ≡ walk ws m t o
-  unfolding walk
-  held_now p t e k g = rw (e, mark_go o v z, walk, k, mark_go (set o v 1) (m + p) g)
+    pub held_now : (p : ℕ) (t : Tree ℕ) → t ≡ leaf v b p → is_position p (link_at ws v) ≡ true → get_or (set o v 1) (j + p) 0 ≡ 0
+        → go (set (set o v 1) (j + p) 1) ≡ walk ws m t o
+    unfolding walk
+    held_now p t e k g = rw (e, mark_go o v z, walk, k, ← i, mark_go (set o v 1) (j + p) g)
 
   pub cut_off : (t : Tree ℕ) → t ≡ leaf v b 0 → is_position 0 (link_at ws v) ≡ false → stop (set o v 1) ≡ walk ws m t o
   unfolding walk

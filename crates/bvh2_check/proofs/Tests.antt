@@ -24,5 +24,5 @@ sizes_0 words n h k =
     sym (passed_none (size_conditions words n) (tells_true (eqb_tells words (tree_nodes n * 7)) h, (tells_true (leb_tells n 65536) k, tt)))
 
 -- a pair of children inside
-pub inside_children : (n f : ℕ) → 0 < n → ltb f (2 * n - 2) ≡ ltb (f + 1) (2 * n - 1)
-inside_children n f h = tells_same (tells_as (ltb_tells f (2 * n - 2)) (λ i. omega arith) (λ i. omega arith)) (ltb_tells (f + 1) (2 * n - 1))
+pub inside_children : (n f m : ℕ) → m ≡ tree_nodes n - 1 → ltb f m ≡ ltb (f + 1) (tree_nodes n)
+inside_children n f m e = tells_same (tells_as (ltb_tells f m) (λ i. omega arith) (λ i. omega arith)) (ltb_tells (f + 1) (tree_nodes n))

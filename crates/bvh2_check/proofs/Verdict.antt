@@ -9,7 +9,6 @@ use Rattle.lists.proofs.Tells.{told, tells_same}
 use Rattle.causes.specs.Causes.{◌unless◌, first_cause}
 use Rattle.causes.proofs.Causes.{first_here, first_later}
 use Rattle.bvh2.specs.Words.{tree_nodes, tree_at, tree_of}
-use Rattle.bvh2.specs.Causes.{TreeSized}
 use Rattle.bvh2.specs.FirstCause.{links_inside, boxes_accepted, is_tree, structure_conditions, structure_cause}
 use Rattle.bvh2.proofs.Paths.{AllInside, within_inside}
 use Rattle.bvh2.proofs.Once.{once_tells}
@@ -36,7 +35,6 @@ judge_rest ws (suc n) x p e f g = sym (first_later 5 _ e ∙ first_later 6 _ f �
 
 -- what is known when the walk begins
 pub record Begun (ws : List ℕ) (n : ℕ) (o : List ℕ) : Type 0 where
-  pub sized : TreeSized ws n
   pub pos : 0 < n
   pub zeros : o ≡ replicate (mark_count n) 0
   pub links : links_inside ws n ≡ true
@@ -49,7 +47,7 @@ inside : {ws : List ℕ} {n : ℕ} {o : List ℕ} → Begun ws n o → AllInside
 inside {ws} {n} {o} b = told (all_inside_tells ws n) b.links
 
 pub ready : {ws : List ℕ} {n : ℕ} {o : List ℕ} → Begun ws n o → MarkReady ws n (length o) 0
-ready b = let e = marks_length b in let p = b.pos in record { sized = b.sized; inside = inside b; room = omega arith; node = omega arith }
+ready b = let e = marks_length b in let p = b.pos in record { inside = inside b; room = omega arith; node = omega arith }
 
 -- where the walk has gone through or stopped, and all are marked or not
 pub ended : {ws : List ℕ} {n : ℕ} {o : List ℕ} → Begun ws n o → (o₁ : List ℕ) (went : Bool)

@@ -2,7 +2,7 @@
 use Rattle.std.specs.Prelude.{Bool, true, false, List, ℕ, zero, suc, ◌+◌, ◌<◌, ◌≤◌, get_or, set}
 use Rattle.bvh2.specs.Tree.{Tree, leaf, inner}
 use Rattle.bvh2.specs.Words.{tree_nodes, link_at}
-use Rattle.bvh2.specs.Causes.{LinkInside, TreeSized}
+use Rattle.bvh2.specs.Causes.{LinkInside}
 use Rattle.bvh2.specs.FirstCause.{is_position}
 use Rattle.bvh2.specs.Decoded.{Subtree}
 
@@ -53,7 +53,6 @@ marks_set (suc k) o = elim (get_or o k 0) [ zero ↦ false | suc j ↦ marks_set
 
 -- what a call at node v needs: links that stay inside, and room for all marks
 pub record MarkReady (ws : List ℕ) (n marks v : ℕ) : Type 0 where
-  pub sized : TreeSized ws n
   pub inside : (u : ℕ) → u < tree_nodes n → LinkInside n (link_at ws u)
   pub room : mark_count n ≤ marks
   pub node : v < tree_nodes n

@@ -19,9 +19,11 @@ use Rattle.bvh2.specs.Decoded.{Decoded}
 use Rattle.bvh2.proofs.Decoded.{accepted_decoded}
 use Rattle.cost.specs.Table.{word_of, cost_of}
 use Rattle.cost.specs.Rows.{RowsHold}
+use Rattle.children.specs.declared.branch.Branch.{Branch}
+use Rattle.children.specs.Branches.{subtree_of}
 use Rattle.children.specs.Tabled.{Tabled}
 use Rattle.wide_layout.specs.Layout as W
-use Rattle.wide_tree.specs.Ordered.{wide_tree_of}
+use Rattle.wide_tree.specs.Ordered.{wide_tree, wide_tree_of}
 use Rattle.record.specs.Record.{record_bytes}
 use Rattle.emit_tree.specs.declared.Next.{Next}
 use Rattle.emit_tree.specs.Emission.{EmitTree, Emitted}
@@ -33,7 +35,7 @@ use Rattle.bvh2_tables.proofs.Refilled.{work_refilled}
 use Rattle.bvh2_to_cwbvh.specs.Conversion.{record_of, nodes_of, level_of, output_positions, index_list_of, deepest_level, Convertible}
 use Rattle.bvh2_to_cwbvh.specs.Conversion.{conversion_conditions, conversion_cause, ConversionAnswer, converted, refused, answer_for, output_after}
 use Rattle.bvh2_to_cwbvh.specs.Conversion.{Outcome, outcome_for, conversion_of}
-use Rattle.bvh2_to_cwbvh.proofs.Ready.{holds, room, tabled, whole}
+use Rattle.bvh2_to_cwbvh.proofs.Ready.{IsRoot, root_tree, holds, room, tabled, whole}
 
 -- ---- the first cause, from the causes up to 7
 module _ (c : Call) where
@@ -140,7 +142,7 @@ module _ {c : Call} {ds₁ : List ℕ} {cs₁ : List Float} (p : Prepares c 0 ds
     pub level_ready : Tabled c.words ds₁ 127 0
     level_ready = tabled c ds₁ some parts p.decisions
 
-    pub emit_ready : EmitTree c.words ds₁ (leaf_count c) c.ordered (length c.bytes) (length c.list)
+    pub emit_ready : (b : Branch) → IsRoot b c.words ds₁ → EmitTree b (leaf_count c) c.ordered (length c.bytes) (length c.list)
     emit_ready = whole c ds₁ some parts p.decisions
 
     -- the tables have room to be cleared again
@@ -168,17 +170,22 @@ module _ {c : Call} {ds₁ : List ℕ} {cs₁ : List Float} (p : Prepares c 0 ds
           (work_refilled plus_zero (cost_of c.limit) c.words (leaf_count c) c.costs cs₁ cs₂ some tree p.costs g)
 
       -- what the emission ends with
-      abbrev pub Emits : List ℕ → List ℕ → Next → Type 0
-      Emits bytes₁ list₁ x =
-          (h : EmitTree c.words ds₁ (leaf_count c) c.ordered (length c.bytes) (length c.list))
-          → Emitted c.indices (wide_tree_of c.words c.ordered h.at.limit) c.bytes c.list bytes₁ list₁ x
+      abbrev pub Emits : Branch → List ℕ → List ℕ → Next → Type 0
+      Emits b bytes₁ list₁ x =
+          (h : EmitTree b (leaf_count c) c.ordered (length c.bytes) (length c.list))
+          → Emitted c.indices (wide_tree c.ordered h.at.limit (subtree_of b)) c.bytes c.list bytes₁ list₁ x
+
+      emits : (b : Branch) → IsRoot b c.words ds₁ → (bytes₁ list₁ : List ℕ) (x : Next) → Emits b bytes₁ list₁ x
+          → Emitted c.indices (wide_tree_of c.words c.ordered c.limit) c.bytes c.list bytes₁ list₁ x
+      unfolding whole
+      emits b r bytes₁ list₁ x emitted = rw (root_tree r) at (emitted (whole c ds₁ some parts p.decisions b r))
 
       -- converted
-      pub written_ends : deepest ≤ 31 → (bytes₁ list₁ : List ℕ) (x : Next) → Emits bytes₁ list₁ x
+      pub written_ends : deepest ≤ 31 → (b : Branch) → IsRoot b c.words ds₁ → (bytes₁ list₁ : List ℕ) (x : Next) → Emits b bytes₁ list₁ x
           → ended (converted x.nodes deepest) ds₁ cs₁ bytes₁ list₁ ≡ conversion_of c
-      unfolding whole outcome_for answer_for output_after index_list_of
-      written_ends h bytes₁ list₁ x emitted =
-          let r = emitted (whole c ds₁ some parts p.decisions) in
+      unfolding outcome_for answer_for output_after index_list_of
+      written_ends h b r bytes₁ list₁ x emitted =
+          let r = emits b r bytes₁ list₁ x emitted in
           let t = there c.words (leaf_count c) c.limit c.ordered some in
           let a : converted x.nodes deepest ≡ answer_for c 0 = ap₂ converted (r.nodes_are ∙ sym t.nodes) found in
           let b = r.bytes_are ∙ ap (splice c.bytes 0) (sym t.bytes) in
@@ -187,5 +194,5 @@ module _ {c : Call} {ds₁ : List ℕ} {cs₁ : List Float} (p : Prepares c 0 ds
           (λ i. ended (a i) (p.decisions i) (p.costs i) (b i) (l i))
 
       -- the node count fits a word
-      pub nodes_fit : (bytes₁ list₁ : List ℕ) (x : Next) → Emits bytes₁ list₁ x → x.nodes < 2 ^ 32
-      nodes_fit bytes₁ list₁ x emitted = omega (arith, (emitted emit_ready).nodes_are, emit_ready.few)
+      pub nodes_fit : (b : Branch) → IsRoot b c.words ds₁ → (bytes₁ list₁ : List ℕ) (x : Next) → Emits b bytes₁ list₁ x → x.nodes < 2 ^ 32
+      nodes_fit b r bytes₁ list₁ x emitted = rw (emitted (emit_ready b r)).nodes_are (emit_ready b r).few

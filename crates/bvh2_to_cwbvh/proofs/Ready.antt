@@ -1,15 +1,18 @@
 -- What the level pass and the emission ask holds where none of causes 1 to 7 does.
-use mathlib.Core.Path.{◌≡◌}
+use denote.Ref.{Bor}
+use mathlib.Core.Path.{◌≡◌, refl}
 use mathlib.Core.List.{List}
 use Prim.Native.Nat.{ℕ, ◌*◌, ◌≤◌, ◌<◌}
 use native.Mathlib.Omega.{arith}
 use lib.ListN.{length}
-use Rattle.bvh2.specs.Words.{tree_nodes, tree_of}
+use Rattle.bvh2.specs.Words.{tree_nodes, tree_at, tree_of}
 use Rattle.bvh2.specs.Decoded.{Decoded}
 use Rattle.bvh2.proofs.Decoded.{accepted_decoded}
 use Rattle.bvh2.proofs.Subtree.{root}
 use Rattle.cost.specs.Table.{word_of}
 use Rattle.cost.specs.Rows.{RowsHold}
+use Rattle.children.specs.declared.branch.Branch.{Branch}
+use Rattle.children.specs.Branches.{subtree_of}
 use Rattle.children.specs.Tabled.{Tabled}
 use Rattle.wide_tree.proofs.Ordered.{index_count_lem, node-count}
 use Rattle.emit_tree.specs.Emission.{EmitTree}
@@ -18,6 +21,20 @@ use Rattle.bvh2_tables.specs.Tables.{work_after}
 use Rattle.bvh2_tables.proofs.Room.{size_some}
 use Rattle.bvh2_tables.proofs.Prepared.{work_length, work_holds}
 use Rattle.bvh2_to_cwbvh.specs.Conversion.{Convertible}
+
+-- the branch of the whole tree
+pub record IsRoot (b : Branch) (ws ds : List ℕ) : Type 0 where
+  pub words : b.words.now ≡ ws
+  pub decisions : b.decisions.now ≡ ds
+  pub node : b.node ≡ 0
+  pub depth : b.depth ≡ 127
+
+pub is_root : {w d : Bor (List ℕ)} {t : ∥ Tabled w.now d.now 127 0 ∥₁}
+    → IsRoot (record { words = w; decisions = d; node = 0; depth = 127; tabled = t }) w.now d.now
+is_root = record { words = refl; decisions = refl; node = refl; depth = refl }
+
+pub root_tree : {b : Branch} {ws ds : List ℕ} → IsRoot b ws ds → subtree_of b ≡ tree_of ws
+root_tree r = λ i. tree_at (r.words i) (r.depth i) (r.node i)
 
 module _ (c : Call) (ds₁ : List ℕ) (some : 0 < leaf_count c) (parts : Convertible c)
     (filled : ds₁ ≡ work_after 0 (word_of c.limit) c.words (leaf_count c) 0 c.decisions) where
@@ -36,17 +53,23 @@ module _ (c : Call) (ds₁ : List ℕ) (some : 0 < leaf_count c) (parts : Conver
   tabled = record { n = leaf_count c; tree = root c.words (leaf_count c) tree; room = room; limit = c.limit; holds = holds }
 
   -- the emission
-  unfoldable pub whole : EmitTree c.words ds₁ (leaf_count c) c.ordered (length c.bytes) (length c.list)
-  whole =
+  unfoldable pub whole : (b : Branch) → IsRoot b c.words ds₁ → EmitTree b (leaf_count c) c.ordered (length c.bytes) (length c.list)
+  whole b r =
       let i = index_count_lem c.ordered c.limit c.words (leaf_count c) tree in
       let m = node-count c.ordered c.limit c.words (leaf_count c) tree parts.small in
       let f = tree.few in
-      let b = parts.bytes in
+      let e = parts.bytes in
       let s = size_some (leaf_count c) some in
       record {
-        at = record { tree = root c.words (leaf_count c) tree; room = room; limit = c.limit; small = parts.small; holds = holds };
-        record_room = omega arith;
-        list_room = omega (arith, parts.list);
-        few = omega arith;
-        short = omega arith;
+        at = record {
+          tree = rw (r.words, r.depth, r.node) (root c.words (leaf_count c) tree);
+          room = rw r.decisions room;
+          limit = c.limit;
+          small = parts.small;
+          holds = rw (r.words, r.decisions, r.depth, r.node) holds;
+        };
+        record_room = rw (root_tree r) (omega arith);
+        list_room = rw (root_tree r) (omega (arith, parts.list));
+        few = rw (root_tree r) (omega arith);
+        short = rw (root_tree r) (omega arith);
       }

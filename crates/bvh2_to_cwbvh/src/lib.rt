@@ -6,6 +6,7 @@ ghost use Rattle.bvh2_to_cwbvh.specs.Conversion.{conversion_of};
 ghost use Rattle.bvh2_to_cwbvh.specs.Answer.{outcome_of};
 
 use causes::Refusal;
+use children::Branch;
 
 // A record that was written: how many nodes it has, and its deepest level.
 #[derive(Clone, Copy, Debug, PartialEq, Eq)]
@@ -15,8 +16,8 @@ pub struct Converted {
 }
 
 // Converts the tree of `words`, whose leaves hold positions of `indices`, to a record and an index list. `limit` is the most leaves of a leaf child,
-// up to 3; `ordered` says whether children take the slots that suit the directions of rays. The tables of the tree's decisions and costs are left in
-// the working slices.
+// up to 3; `ordered` says whether children take the slots that suit the directions of rays, a `bool` as in the requirements' call. The tables of the
+// tree's decisions and costs are left in the working slices, two as the requirements have it.
 pub fn bvh2_to_cwbvh(
     words: &[u32],
     indices: &[u32],
@@ -44,13 +45,19 @@ pub fn bvh2_to_cwbvh(
     if empty {
         return Ok(Converted { nodes: 0, level: 0 });
     }
-    let deepest = wide_level::deepest_level(words, decisions);
+    let root = Branch {
+        words,
+        decisions,
+        node: 0,
+        depth: 127,
+    };
+    let deepest = wide_level::deepest_level(root);
     let deep = deepest > 31;
     if deep {
         bvh2_tables::clear_tables(n, decisions, costs);
         return Err(Refusal::TooDeep);
     }
-    let written = emit_tree::emit(words, indices, decisions, record, list, ordered);
+    let written = emit_tree::emit(root, indices, record, list, ordered);
     Ok(Converted {
         nodes: written.nodes as u32,
         level: deepest,

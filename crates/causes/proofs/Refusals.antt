@@ -1,8 +1,8 @@
 -- The numbers of refusals, and what a call's error says of its first cause.
-use mathlib.Core.Path.{◌≡◌, sym, ap, ◌∙◌}
+use mathlib.Core.Path.{◌≡◌, sym, ap, subst, ◌∙◌}
 use Prim.Native.Nat.{ℕ}
 use native.Mathlib.Omega.{arith}
-use Rattle.std.specs.Prelude.{Result, Ok, Err}
+use Rattle.std.specs.Prelude.{Result, Ok, Err, IfOk}
 use Rattle.causes.specs.declared.Refusal.{Refusal}
 use Rattle.causes.specs.declared.Refusal.TheVariants as R
 use Rattle.causes.specs.Refusal.{cause_number, cause_in}
@@ -30,3 +30,7 @@ module _ {A : Type 0} {r : Result A Refusal} {k : ℕ} where
   -- it gave an error: its number is k
   pub err_number : {f : Refusal} → r ≡ Err f → cause_in r ≡ k → cause_number f ≡ k
   err_number {f} w e = sym (ap (cause_in {A = A}) w) ∙ e
+
+-- what holds of each answer holds of the one that was given
+pub holds_of : {A : Type 0} (P : A → Type 0) {r : Result A Refusal} {a b : A} → IfOk r P → r ≡ Ok a → a ≡ b → P b
+holds_of {A} P {r} {a} {b} h e f = subst P f (subst (λ (x : Result A Refusal). IfOk {T = A} {E = Refusal} x P) e h)

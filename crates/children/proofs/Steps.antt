@@ -12,10 +12,9 @@ use Rattle.bvh2.specs.declared.Link.{Link as Read}
 use Rattle.bvh2.specs.declared.Link.TheVariants as V
 use Rattle.bvh2.specs.Said.{said}
 use Rattle.bvh2.specs.Words.{Link, children, position, malformed, word_at, link_at, box_at, tree_at}
-use Rattle.bvh2.specs.Decoded.{Subtree}
 use Rattle.bvh2.proofs.Decoded.{subtree_leaves}
 use Rattle.bvh2.proofs.Reading.{word-children, children_position, tree_leaf, label_is}
-use Rattle.bvh2.proofs.Subtree.{node, at_leaf, formed, Inner, inner_link}
+use Rattle.bvh2.proofs.Subtree.{node, at_leaf, Inner, inner_link}
 use Rattle.cost.specs.declared.Kind.{Kind as Told}
 use Rattle.cost.specs.declared.Kind.TheVariants as K
 use Rattle.cost.specs.Said.{kind_said, kind_in}
@@ -24,7 +23,7 @@ use Rattle.cost.specs.Rows.{RowsHold}
 use Rattle.cost.proofs.Splits.{leaf_distribute, internal_distribute, leaf_kind, splits_few, word_fields}
 use Rattle.cost.proofs.Decisions.{kind_coded}
 use Rattle.children.specs.Gather.{opened, gather, part}
-use Rattle.children.specs.Tabled.{Tabled, Opens, Divides, Gathered}
+use Rattle.children.specs.Tabled.{Tabled, Gathered}
 use Rattle.children.proofs.Gather.{one_child, gather_width}
 
 -- ---- at a node
@@ -33,8 +32,8 @@ pub record Here (n m v : ℕ) : Type 0 where
   pub decisions : v * 7 + 7 ≤ m
   pub number : v < 2 ^ 32
 
-pub here : {ws ds : List ℕ} {e v : ℕ} → Tabled ws ds e v → Here (length ws) (length ds) v
-here h =
+pub here_tabled : {ws ds : List ℕ} {e v : ℕ} → Tabled ws ds e v → Here (length ws) (length ds) v
+here_tabled h =
     let k = node h.tree in
     record { words = k.room; decisions = omega (arith, k.below, h.room); number = omega (arith, k.below, h.tree.few) }
 
@@ -71,6 +70,18 @@ pub told : {ws ds : List ℕ} {e v : ℕ} → Tabled ws ds e v → (limit : ℕ)
     → kind_in (get_or ds (v * 7 + i) 0) ≡ (table limit (tree_at ws e v) i).kind
 told {ws} {ds} {e} {v} h limit k i u =
     kind_coded (get_or ds (v * 7 + i) 0) (table limit (tree_at ws e v) i).kind (says h limit k i u).kind
+
+-- ---- what is known where a node is to contribute its part at an entry behind `count` children
+pub record Opens (ws ds : List ℕ) (e v i count : ℕ) : Type 0 where
+  pub tabled : Tabled ws ds e v
+  pub entry : i ≤ 6
+  pub slots : count + length (part tabled.limit (tree_at ws e v) i) ≤ 8
+
+-- and where it is opened
+pub record Divides (ws ds : List ℕ) (e v i count : ℕ) : Type 0 where
+  pub tabled : Tabled ws ds e v
+  pub entry : i ≤ 6
+  pub slots : count + length (gather tabled.limit (tree_at ws e v) i) ≤ 8
 
 -- ---- a node that stays
 alone : (k : Kind) (t : Tree ℕ) (g : List (Tree ℕ)) → (k ≡ DISTRIBUTE → ⊥) → opened k t g ≡ t ∷ []
@@ -218,7 +229,7 @@ divides {ws} {ds} {e} {v} {i} {count} o q y =
     let z = sym q ∙ ap kind_said y in
     let g = distributed (table h.limit (tree_at ws e v) i).kind (tree_at ws e v) (gather h.limit (tree_at ws e v) i)
     (sym (told h h.limit h.holds i o.entry) ∙ z) in
-    record { tabled = h; entry = o.entry; inner = kind_inner h i o.entry z; slots = omega (arith, o.slots, ap length g) }
+    record { tabled = h; entry = o.entry; slots = omega (arith, o.slots, ap length g) }
 
 pub contributes : {ws ds : List ℕ} {e v i count : ℕ} {kind : Told} → Opens ws ds e v i count → kind_said kind ≡ kind_in (get_or ds (v * 7 + i) 0)
     → kind ≡ K.Distribute
@@ -229,18 +240,21 @@ contributes {ws} {e = e} {v = v} {i = i} o q z before after r G limit k =
     rw (distributed (table limit (tree_at ws e v) i).kind (tree_at ws e v) (gather limit (tree_at ws e v) i)
     (sym (told o.tabled limit k i o.entry) ∙ sym q ∙ ap kind_said z)) (G limit k)
 
--- an inner node's link is one to children
+-- its link is one to children
 children_malformed : {f : ℕ} → malformed ≡ children f → ⊥
 children_malformed q = let z : ◌≡◌ {A = ℕ} 0 1 = cc in omega arith
 
 has_children : (ws : List ℕ) (v : ℕ) {l : Link} → l ≡ link_at ws v → word_at ws v 6 / 0x4000_0000 ≡ 0 → l ≡ children (word_at ws v 6 % 0x4000_0000)
 has_children ws v q z = q ∙ word-children (word_at ws v 6) z
 
-pub not_childless : {ws ds : List ℕ} {e v i count : ℕ} {l : Read} → Divides ws ds e v i count → said l ≡ link_at ws v
-    → ((f : ℕ) → l ≡ V.Children f → ⊥) → ⊥
-not_childless {l = V.Children f} o q k = k f refl
-not_childless {ws} {v = v} {l = V.Position p} o q k = children_position (has_children ws v q o.inner) refl
-not_childless {ws} {v = v} {l = V.Malformed} o q k = children_malformed (has_children ws v q o.inner)
+childless : (ws : List ℕ) (v : ℕ) {l : Read} → word_at ws v 6 / 0x4000_0000 ≡ 0 → said l ≡ link_at ws v → ((f : ℕ) → l ≡ V.Children f → ⊥) → ⊥
+childless ws v {l = V.Children f} z q k = k f refl
+childless ws v {l = V.Position p} z q k = children_position (has_children ws v q z) refl
+childless ws v {l = V.Malformed} z q k = children_malformed (has_children ws v q z)
+
+pub not_childless : {ws ds : List ℕ} {e v i : ℕ} {kind : Told} {l : Read} → Tabled ws ds e v → i ≤ 6
+    → kind_said kind ≡ kind_in (get_or ds (v * 7 + i) 0) → kind ≡ K.Distribute → said l ≡ link_at ws v → ((f : ℕ) → l ≡ V.Children f → ⊥) → ⊥
+not_childless {ws} {v = v} {i = i} h u q y = childless ws v (kind_inner h i u (sym q ∙ ap kind_said y))
 
 pub down : {ws ds : List ℕ} {e v i count f l r : ℕ} → Divides ws ds e v i count → children f ≡ link_at ws v
     → l ≡ get_or ds (v * 7 + i) 0 / 256 % 256 → r ≡ get_or ds (v * 7 + i) 0 % 256
@@ -251,29 +265,16 @@ down {ws} {ds} {e} {v} {i} {count} {f = f} o q y z =
     rw (y, z) (halves h f p i count o.entry (λ limit. gather limit (tree_at ws e v) i)
     (λ limit k. gather_inner limit (tree_at ws e v) v (box_at ws v) _ _ i p.tree) o.slots)
 
--- and a link to children says so of its word
-inner_word : {ws : List ℕ} {n e v f : ℕ} → Subtree ws n e v → children f ≡ link_at ws v → word_at ws v 6 / 0x4000_0000 ≡ 0
-inner_word {ws} {v = v} h q = pick (ℕ_discrete (word_at ws v 6 / 0x4000_0000) 0)
-  where
-    pick : Dec (word_at ws v 6 / 0x4000_0000 ≡ 0) → word_at ws v 6 / 0x4000_0000 ≡ 0
-    pick (yes z) = z
-    pick (no z) = children_position (sym q) (at_leaf h z).link
-
--- the node whose children are gathered
-pub root_divides : {ws ds : List ℕ} {e v f : ℕ} → Tabled ws ds e v → children f ≡ link_at ws v → Divides ws ds e v 0 0
-root_divides {ws} {ds} {e} {v} h q =
+-- ---- the node whose children are gathered
+pub root_divides : {ws ds : List ℕ} {e v : ℕ} → Tabled ws ds e v → Divides ws ds e v 0 0
+root_divides {ws} {e = e} {v = v} h =
     let s : length (gather h.limit (tree_at ws e v) 0) ≤ 8 = gather_width h.limit (tree_at ws e v) h.tree.boxes
     (omega (arith, subtree_leaves h.tree, h.tree.few)) in
-    record { tabled = h; entry = omega arith; inner = inner_word h.tree q; slots = omega arith }
+    record { tabled = h; entry = omega arith; slots = omega arith }
 
-pub root_formed : {ws ds : List ℕ} {e v : ℕ} → Tabled ws ds e v → malformed ≡ link_at ws v → ⊥
-root_formed {ws} {e = e} {v = v} h q = formed ws e v (sym q) h.tree.whole
-
-pub root_leaf : {ws ds : List ℕ} {e v p : ℕ} → Tabled ws ds e v → position p ≡ link_at ws v
-    → (before : List ℕ)
-    → 8 ≤ length before
+pub root_leaf : (ws : List ℕ) (e v : ℕ) {p : ℕ} → position p ≡ link_at ws v → (before : List ℕ) → 8 ≤ length before
     → (limit : ℕ) → Gathered (gather limit (tree_at ws e v) 0) 0 before (set before 0 v) 1
-root_leaf {ws} {e = e} {v = v} {p = p} h q before u limit =
+root_leaf ws e v {p} q before u limit =
     one_written (tree_at ws e v) v 0 before (gather limit (tree_at ws e v) 0) (label_is ws e v)
     (itself limit (tree_at ws e v) (tree_leaf ws e v p (sym q))) (omega arith)
   where

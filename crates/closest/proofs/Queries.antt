@@ -34,7 +34,8 @@ use Rattle.advance.proofs.Seeks.{seeking_from}
 use Rattle.query.specs.Result.{Result, walked}
 use Rattle.query.specs.Walk.{RecordSized}
 use Rattle.query.proofs.Leads.{Leads, Goes, Sought, leads_past, leads_stops, leads_on, seek_sought}
-use Rattle.query.proofs.Begins.{steady}
+use Rattle.query.specs.declared.Query.{Query}
+use Rattle.query.proofs.Begins.{steady, sized_of}
 use Rattle.closest.specs.declared.ClosestHit.{ClosestHit}
 use Rattle.closest.specs.declared.ClosestHit.TheVariants.{Hit, NoHit, Refused}
 use Rattle.closest.proofs.Panes.{position_there, position_past}
@@ -126,9 +127,15 @@ pub record Setting : Type 0 where
   pub sized : RecordSized bytes (length indices)
   pub fit : FieldsFit bytes
 
-abbrev pub setting_of : (bytes indices : List ℕ) (panes : List Float) (octant : ℕ) → RecordSized bytes (length indices) → FieldsFit bytes → Setting
-setting_of bytes indices panes octant sized fit =
-    record { bytes = bytes; indices = indices; panes = panes; octant = octant; sized = sized; fit = fit }
+abbrev pub setting_over : (q : Query) (indices : List ℕ) (panes : List Float) (octant : ℕ) → q.bvh.positions ≡ length indices → Setting
+setting_over q indices panes octant e = record {
+  bytes = q.bvh.bytes.now;
+  indices = indices;
+  panes = panes;
+  octant = octant;
+  sized = subst (RecordSized q.bvh.bytes.now) e (sized_of q.bvh.bytes.now q.bvh.positions q.bvh.fit q.some);
+  fit = q.fields;
+}
 
 module _ (S : Setting) where
   -- closest and miss at a position of it

@@ -18,7 +18,6 @@ use Rattle.walk_record.specs.WalkRay.{walk_ray, forged_ray, by_boxes}
 use Rattle.walk_record.specs.Record.{FieldsFit}
 use Rattle.walk_record.specs.Walk.{query_at}
 use Rattle.walk_record.proofs.WalkRay.{begun_accepted}
-use Rattle.query.specs.Walk.{RecordSized}
 use Rattle.query.proofs.Entry
 use Rattle.query.proofs.Entry.{by_cause, without_cause}
 use Rattle.query.proofs.Begins.{query_empty}
@@ -40,12 +39,6 @@ module _ {bytes indices : List ℕ} {panes : List Float} {b : Beam} {ray : Ray} 
     accepted =
         subst (λ (r : Ray). forged_ray (walk_ray r) ≡ false) (sym s.ray_is)
         (begun_accepted b.origin b.direction b.tmin b.tmax (subst (λ (r : Ray). accepted_ray r ≡ true) s.ray_is holds.accepted))
-
-    -- without a cause the walk may begin where there are nodes
-    pub start_ready : (length bytes ≡ 0 → ⊥) → RecordSized bytes (length indices) × (forged_ray (walk_ray ray) ≡ false)
-    start_ready g =
-        let q = holds.sizes in
-        (record { whole = q.whole; some = omega (arith, q.whole); nodes = q.small; positions = q.few }, accepted)
 
   -- a query by what it does at a position, and by what it makes of a cause and of what it found
   module _ {A : Type 0} (refuse : ℕ → A) (found : Found Float → ℕ → Result A) (react : Reacts) where

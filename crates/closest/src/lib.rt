@@ -1,22 +1,19 @@
 // Closest and miss over a record and its panes (cwbvh/mod.rs, ray_traverse and ray_traverse_miss).
 #![tactic(auto)]
 
-ghost use Rattle.std.specs.Prelude.{◌≡◌, false, length};
-ghost use Rattle.ray.specs.Ray.{ray_from};
-ghost use Rattle.walk_record.specs.WalkRay.{walk_ray, forged_ray};
-ghost use Rattle.query.specs.Walk.{RecordSized};
+ghost use Rattle.std.specs.Prelude.{◌≡◌, length};
+ghost use Rattle.ray.specs.Ray.{ray_from, reaching};
 ghost use Rattle.closest.specs.Panes.{pane_met, position_met, pane_of_met, closest_walked, miss_walked};
 ghost use Rattle.closest.specs.Panes.{closest_of, miss_of, closest_given, closest_result, miss_result};
 
 use advance::{Answer, Walk};
 use causes::Refusal;
+use node_slot::Aim;
+use query::Query;
 use ray::{Beam, Ray};
 
-// More tests than any walk makes.
-const MOST: u32 = 0xffff_ffff;
-
 // How closest ends: the position that is hit and how far off, nothing hit, or refused; the requirements name these cases.
-#[derive(Clone, Copy)]
+#[derive(Clone, Copy, Debug, PartialEq)]
 pub enum ClosestHit {
     Hit(u32, f32),
     NoHit,
@@ -30,7 +27,7 @@ pub enum Occlusion {
     Blocked,
 }
 
-// Closest's answer with its node tests, 0 beside a refusal.
+// Closest's answer with its node tests, 0 beside a refusal. It and miss's are two structs, as the requirements name each call's answer.
 #[derive(Clone, Copy)]
 pub struct ClosestFound {
     pub answer: ClosestHit,
@@ -58,31 +55,44 @@ fn pane_met(panes: &[f32], k: usize, ray: Ray) -> Result<f32, Refusal>
     Ok(bounds.intersect_ray(ray))
 }
 
+// The panes as positions name them: each by its index word.
+#[derive(Clone, Copy)]
+struct IndexedPanes<'a> {
+    indices: &'a [u32],
+    panes: &'a [f32],
+}
+
 // Position p as a ray meets it: whether it is there comes before its pane.
-fn position_met(indices: &[u32], panes: &[f32], p: usize, ray: Ray) -> Result<f32, Refusal>
-    ensures { pane_of_met result ≡ position_met indices.now panes.now p ray }
+fn position_met(on: IndexedPanes, p: usize, ray: Ray) -> Result<f32, Refusal>
+    ensures { pane_of_met result ≡ position_met on.entry.indices.now on.entry.panes.now p ray }
 {
-    if p < indices.len() {
-        pane_met(panes, indices[p] as usize, ray)
+    if p < on.indices.len() {
+        pane_met(on.panes, on.indices[p] as usize, ray)
     } else {
         Err(Refusal::Fault)
     }
 }
 
-// Closest's walk over a record with nodes, where nothing refuses it on entry.
-fn walk_closest(
-    bytes: &[u8],
-    indices: &[u32],
-    panes: &[f32],
-    start: Ray,
-) -> Result<ClosestFound, Refusal>
-    requires { RecordSized bytes.now (length indices.now) × (forged_ray (walk_ray start) ≡ false) }
-    ensures { closest_given result ≡ closest_walked bytes.now indices.now panes.now start }
+// The same aim with a reach of its own: a hit lowers the reach.
+fn nearer(aim: Aim, tmax: f32) -> Aim
+    ensures { (result.ray ≡ reaching tmax aim.ray) × (result.octant ≡ aim.octant) }
 {
-    let n = indices.len();
-    let octant = ray::octant(start.direction);
-    let e = node_slot::near_ends(start.direction);
-    let mut ray = start;
+    let ray = Ray { tmax, ..aim.ray };
+    // field by field: a struct with ghost fields takes no `..base`
+    Aim {
+        ray,
+        ends: aim.ends,
+        octant: aim.octant,
+    }
+}
+
+// Closest's walk over a record with nodes, where nothing refuses it on entry.
+// Each query has the loop over a walk written out: miss leaves both loops by a labelled break, as the requirements ask, and a closure could not.
+fn walk_closest(query: Query, on: IndexedPanes) -> Result<ClosestFound, Refusal>
+    requires { query.bvh.positions ≡ length on.indices.now }
+    ensures { closest_given result ≡ closest_walked query.entry.bvh.bytes.now on.entry.indices.now on.entry.panes.now query.entry.aim.ray }
+{
+    let mut aim = query.aim;
     let mut walk = advance::begin();
     let mut stack = [0u64; 32];
     let mut answer = ClosestHit::NoHit;
@@ -90,12 +100,12 @@ fn walk_closest(
         while walk.positions.bits > 0 {
             let held = walk.positions;
             let p = advance::first_position(held);
-            let t = position_met(indices, panes, p, ray)?;
+            let t = position_met(on, p, aim.ray)?;
             let positions = advance::rest_of(held);
             walk = Walk { positions, ..walk };
-            if ray.counts(t) {
+            if aim.ray.counts(t) {
                 answer = ClosestHit::Hit(p as u32, t);
-                ray = Ray { tmax: t, ..ray };
+                aim = nearer(aim, t);
             }
         }
         let tests = walk.tests;
@@ -108,13 +118,10 @@ fn walk_closest(
             current.base,
             current.bits,
             depth,
-            MOST,
-            ray,
-            e,
-            octant,
+            advance::ALL_TESTS,
+            &aim,
             &mut stack,
-            bytes,
-            n,
+            query.bvh,
         );
         let reply = turn.answer;
         let next = advance::walk_after(turn);
@@ -131,29 +138,24 @@ fn walk_closest(
 }
 
 // Closest's answer where it is not refused.
-fn nearest(
-    record: &[u8],
-    indices: &[u32],
-    panes: &[f32],
-    beam: Beam,
-) -> Result<ClosestFound, Refusal>
-    ensures { closest_given result ≡ closest_of «record».now indices.now panes.now (ray_from beam) }
+fn nearest(record: &[u8], on: IndexedPanes, beam: Beam) -> Result<ClosestFound, Refusal>
+    ensures { closest_given result ≡ closest_of «record».now on.entry.indices.now on.entry.panes.now (ray_from beam) }
 {
-    let ray = Ray::new(beam);
-    let fits = panes.len() % packed::BOX == 0;
-    query::check_entry(fits, record.len(), indices.len(), Ok(()), ray)?;
-    if record.len() == 0 {
-        let answer = ClosestHit::NoHit;
-        return Ok(ClosestFound { answer, tests: 0 });
+    let fits = on.panes.len() % packed::BOX == 0;
+    match Query::begin(fits, record, on.indices.len(), beam)? {
+        Some(query) => walk_closest(query, on),
+        None => Ok(ClosestFound {
+            answer: ClosestHit::NoHit,
+            tests: 0,
+        }),
     }
-    walk_closest(record, indices, panes, ray)
 }
 
 // The first of the panes along a ray: of those that the walk reports, the nearest whose distance counts, the first met of equal ones.
 pub fn closest(record: &[u8], indices: &[u32], panes: &[f32], beam: Beam) -> ClosestFound
     ensures { closest_result result ≡ closest_of «record».now indices.now panes.now (ray_from beam) }
 {
-    match nearest(record, indices, panes, beam) {
+    match nearest(record, IndexedPanes { indices, panes }, beam) {
         Ok(found) => found,
         Err(refusal) => ClosestFound {
             answer: ClosestHit::Refused(refusal),
@@ -164,13 +166,11 @@ pub fn closest(record: &[u8], indices: &[u32], panes: &[f32], beam: Beam) -> Clo
 
 // Miss's walk over a record with nodes, where nothing refuses it on entry: the first pane whose distance counts leaves both loops by one
 // labelled break, as the requirements ask.
-fn walk_miss(bytes: &[u8], indices: &[u32], panes: &[f32], ray: Ray) -> Result<MissFound, Refusal>
-    requires { RecordSized bytes.now (length indices.now) × (forged_ray (walk_ray ray) ≡ false) }
-    ensures { miss_result result ≡ miss_walked bytes.now indices.now panes.now ray }
+fn walk_miss(query: Query, on: IndexedPanes) -> Result<MissFound, Refusal>
+    requires { query.bvh.positions ≡ length on.indices.now }
+    ensures { miss_result result ≡ miss_walked query.entry.bvh.bytes.now on.entry.indices.now on.entry.panes.now query.entry.aim.ray }
 {
-    let n = indices.len();
-    let octant = ray::octant(ray.direction);
-    let e = node_slot::near_ends(ray.direction);
+    let aim = query.aim;
     let mut walk = advance::begin();
     let mut stack = [0u64; 32];
     let mut answer = Occlusion::Missed;
@@ -178,10 +178,10 @@ fn walk_miss(bytes: &[u8], indices: &[u32], panes: &[f32], ray: Ray) -> Result<M
         while walk.positions.bits > 0 {
             let held = walk.positions;
             let p = advance::first_position(held);
-            let distance = position_met(indices, panes, p, ray)?;
+            let distance = position_met(on, p, aim.ray)?;
             let positions = advance::rest_of(held);
             walk = Walk { positions, ..walk };
-            if ray.counts(distance) {
+            if aim.ray.counts(distance) {
                 answer = Occlusion::Blocked;
                 break 'walk;
             }
@@ -196,13 +196,10 @@ fn walk_miss(bytes: &[u8], indices: &[u32], panes: &[f32], ray: Ray) -> Result<M
             current.base,
             current.bits,
             depth,
-            MOST,
-            ray,
-            e,
-            octant,
+            advance::ALL_TESTS,
+            &aim,
             &mut stack,
-            bytes,
-            n,
+            query.bvh,
         );
         let reply = turn.answer;
         let next = advance::walk_after(turn);
@@ -224,12 +221,13 @@ fn walk_miss(bytes: &[u8], indices: &[u32], panes: &[f32], ray: Ray) -> Result<M
 pub fn miss(record: &[u8], indices: &[u32], panes: &[f32], beam: Beam) -> Result<MissFound, Refusal>
     ensures { miss_result result ≡ miss_of «record».now indices.now panes.now (ray_from beam) }
 {
-    let ray = Ray::new(beam);
+    let on = IndexedPanes { indices, panes };
     let fits = panes.len() % packed::BOX == 0;
-    query::check_entry(fits, record.len(), indices.len(), Ok(()), ray)?;
-    if record.len() == 0 {
-        let answer = Occlusion::Missed;
-        return Ok(MissFound { answer, tests: 0 });
+    match Query::begin(fits, record, indices.len(), beam)? {
+        Some(query) => walk_miss(query, on),
+        None => Ok(MissFound {
+            answer: Occlusion::Missed,
+            tests: 0,
+        }),
     }
-    walk_miss(record, indices, panes, ray)
 }

@@ -32,6 +32,23 @@ pub struct Decision {
     pub right: usize,
 }
 
+impl From<u32> for Decision {
+    ghost from_gives = { λ word d. (kind_said d.kind ≡ kind_in word) × (d.left ≡ word / 256 % 256) × (d.right ≡ word % 256) };
+
+    // What a word says: the kind in its two high bits, the splits in its two low bytes.
+    fn from(word: u32) -> Decision {
+        Decision {
+            kind: match words::kind(word) {
+                0 => Kind::Leaf,
+                1 => Kind::Internal,
+                _ => Kind::Distribute,
+            },
+            left: (word / 256 % 256) as usize,
+            right: (word % 256) as usize,
+        }
+    }
+}
+
 // Node v's decision at an entry.
 pub fn decision_at(decisions: &[u32], v: usize, entry: usize) -> Decision
     requires { v * 7 + entry < length decisions.now }
@@ -39,30 +56,7 @@ pub fn decision_at(decisions: &[u32], v: usize, entry: usize) -> Decision
     ensures left { result.left ≡ get_or decisions.now (v * 7 + entry) 0 / 256 % 256 }
     ensures right { result.right ≡ get_or decisions.now (v * 7 + entry) 0 % 256 }
 {
-    let word = decisions[v * 7 + entry];
-    Decision {
-        kind: match words::kind(word) {
-            0 => Kind::Leaf,
-            1 => Kind::Internal,
-            _ => Kind::Distribute,
-        },
-        left: left_split(word),
-        right: right_split(word),
-    }
-}
-
-// The left split of a decision word.
-fn left_split(word: u32) -> usize
-    ensures { result ≡ word / 256 % 256 }
-{
-    (word / 256 % 256) as usize
-}
-
-// Its right split.
-fn right_split(word: u32) -> usize
-    ensures { result ≡ word % 256 }
-{
-    (word % 256) as usize
+    Decision::from(decisions[v * 7 + entry])
 }
 
 // The cheapest split found so far. Where there is none both are 255: no Option, since a decision word stores these numbers in either case.
@@ -149,6 +143,8 @@ fn next_entry(before: Entry, s: Split) -> Entry
         }
     }
 }
+
+// Decisions and costs are two slices, as callers lend them: a struct of two `&mut` would say in each contract that it still holds the same two.
 
 // Writes the seven entries of the inner node v, whose children are `first` and `first + 1`.
 fn inner_entries(

@@ -81,7 +81,7 @@ module _ (c : ReportCall) where
         ap (λ (r : Result LossAnswer). r.answer)
         (ray_walked c entering i h
         ∙ fault_ten c.bytes c.indices c.panes c.losses (ray_in c.rays i)
-        (sizes_pass (length c.bytes) (length c.indices) entering.entered.sizes) e)
+        (sizes_pass (length c.bytes) (length c.indices) entering.sizes) e)
 
     -- and its walk has one if the call is refused
     refused_walk : (i : ℕ) → i < rays_of c → (k : ℕ) → (loss_for (single c i)).answer ≡ refused k → walks c i ≡ false
@@ -236,10 +236,10 @@ module _ (c : ReportCall) where
     )
       where
         zero-bytes : (i : ℕ) → get_or c.bytes i 0 < 256
-        zero-bytes i = omega (arith, get_or-eq_default c.bytes 0 {n = i} (omega (arith, z, T.enters.entered.sizes.whole)))
+        zero-bytes i = omega (arith, get_or-eq_default c.bytes 0 {n = i} (omega (arith, z, T.enters.sizes.whole)))
 
         empty : (i : ℕ) (h : i < rays_of c) → Empty c.bytes (length c.indices) (bytes_fit c.bytes zero-bytes) append [] (single c i).ray
             (unforged i h) (walk_met c.bytes (length c.indices) (single c i).ray)
         empty i h =
             query_empty c.bytes (length c.indices) (bytes_fit c.bytes zero-bytes) append [] (single c i).ray (unforged i h) z
-            T.enters.entered.sizes.few
+            T.enters.sizes.few

@@ -62,8 +62,8 @@ module _ (c : ReportCall) where
     unfolding rays_accepted
     ray_enters i h =
         let e = enters.entered in
-        entry_none true (length c.bytes) (length c.indices) (loss_cause c.panes c.losses) (ray_in c.rays i) refl e.sizes
-        (loss_none c.panes c.losses e.fitting)
+        entry_none true (length c.bytes) (length c.indices) (loss_cause c.panes c.losses) (ray_in c.rays i) refl enters.sizes
+        (loss_none c.panes c.losses enters.fitting)
         (all_at (λ k. accepted_ray (ray_in c.rays k)) (ray_count c.rays) e.accepted i h)
 
     -- each ray's own call gives what its walk gives

@@ -1,8 +1,7 @@
 // Internal: a wide tree's record and index list, written into lent slices (bvh2_to_cwbvh.rs: convert_to_cwbvh_impl, count_primitives).
 #![tactic(auto)]
 
-ghost use Rattle.std.specs.Prelude.{◌≡◌, true, ◌+◌, ◌*◌, ◌^◌, ◌<◌, ◌≤◌, length};
-ghost use Rattle.aabb.specs.Aabb.{accepted_box};
+ghost use Rattle.std.specs.Prelude.{◌≡◌, ◌^◌, ◌<◌, ◌≤◌, length};
 ghost use Rattle.bvh2.specs.Words.{box_at, tree_at};
 ghost use Rattle.record.specs.Record.{leaf_meta};
 ghost use Rattle.emit.specs.Leaves.{LeavesReady, LeavesWritten};
@@ -11,11 +10,13 @@ ghost use Rattle.emit.specs.Own.{SlotReady, OwnReady, held_in, leaf_words_in, al
 
 use aabb::Aabb;
 use bvh2::Link;
+use children::Branch;
 use cost::Kind;
 use node::{Node, Slot};
 use ray::Vec3;
 
-// Writes the index words of the leaves below node v, left to right, from a place on; the place behind them.
+// Writes the index words of the leaves below node v, left to right, from a place on; the place behind them. A struct of both would
+// hold a `&mut`, and each contract would say that it is still the same. And no Branch: leaves below a leaf child are found without decision words.
 pub fn write_leaves(
     words: &[u32],
     indices: &[u32],
@@ -106,7 +107,7 @@ fn leaf_meta(count: usize, before: usize) -> u8
 }
 
 // What a slot of a node holds: its meta byte and its box on the grid, its bit in the mask of inner children, 1 if its child is one, and the next free
-// position.
+// position. Bit and 1 are numbers, since a node adds them up.
 #[derive(Clone, Copy)]
 pub struct Held {
     pub meta: u8,
@@ -116,22 +117,22 @@ pub struct Held {
     pub at: usize,
 }
 
-// One slot of a node whose own positions start at a place: nothing, a leaf child whose index words are written from `at` on, or an inner child.
+// One slot of a branch's node whose own positions start at a place: nothing, a leaf child whose index words are written from `at` on, or an inner
+// child.
 fn own_slot(
-    words: &[u32],
+    branch: Branch<'_>,
     indices: &[u32],
-    decisions: &[u32],
     out: &mut [u32],
     v: u32,
     i: usize,
     start: usize,
     grid: Grid,
-    depth: u32,
     at: usize,
 ) -> Held
-    requires { (i < 8) × SlotReady words.now decisions.now (length indices.now) (length out.old) depth v start at }
-    ensures value { (b : Aabb) → grid ≡ grid_of b → result ≡ held_in b start i at (cell_of words.now decisions.now depth v) }
-    ensures out_after { out.new ≡ leaf_words_in indices.now at (cell_of words.now decisions.now depth v)
+    requires { (i < 8) × SlotReady branch.words.now branch.decisions.now (length indices.now) (length out.old) branch.depth v start at }
+    ensures value { (b : Aabb) → grid ≡ grid_of b
+        → result ≡ held_in b start i at (cell_of branch.entry.words.now branch.entry.decisions.now branch.entry.depth v) }
+    ensures out_after { out.new ≡ leaf_words_in indices.now at (cell_of branch.entry.words.now branch.entry.decisions.now branch.entry.depth v)
         out.old }
 {
     if v == 0xffff_ffff {
@@ -143,11 +144,13 @@ fn own_slot(
             at,
         };
     }
+    let words = branch.words;
+    let decisions = branch.decisions;
     let child = v as usize;
     let b = bvh2::node_box(words, child);
     let corners = grid_box(grid, b);
     if cost::decision_at(decisions, child, 0).kind == Kind::Leaf {
-        let next = write_leaves(words, indices, out, child, at, depth);
+        let next = write_leaves(words, indices, out, child, at, branch.depth);
         return Held {
             meta: leaf_meta(next - at, at - start),
             corners,
@@ -173,26 +176,24 @@ pub struct Built {
     pub at: usize,
 }
 
-// The node that binary node v becomes with the children in its slots: its index words are written from `start` on, and its inner children
+// The node that a branch's node becomes with the children in its slots: its index words are written from `start` on, and its inner children
 // are counted from `count` on.
 pub fn build_node(
-    words: &[u32],
+    branch: Branch<'_>,
     indices: &[u32],
-    decisions: &[u32],
     out: &mut [u32],
     slots: &[u32; 8],
-    v: usize,
     count: usize,
     start: usize,
-    depth: u32,
 ) -> Built
-    requires { (v * 7 + 6 < length words.now) × (accepted_box (box_at words.now v) ≡ true) × (count < 2 ^ 32) × (start < 2 ^ 32)
-        × OwnReady words.now decisions.now indices.now slots.now (box_at words.now v) (length out.old) depth start out.old }
-    ensures { BuiltAs words.now v count start
-        (all_slots words.now decisions.now indices.now slots.now v start depth out.old) result
-        out.new }
+    requires { (count < 2 ^ 32) × (start < 2 ^ 32)
+        × OwnReady branch.words.now branch.decisions.now indices.now slots.now (box_at branch.words.now branch.node) (length out.old)
+        branch.depth start out.old }
+    ensures { BuiltAs branch.entry.words.now branch.entry.node count start
+        (all_slots branch.entry.words.now branch.entry.decisions.now indices.now slots.now branch.entry.node start branch.entry.depth out.old)
+        result out.new }
 {
-    let b = bvh2::node_box(words, v);
+    let b = branch.node_box();
     let grid = grid_of(b);
     let mut metas = [0u8; 8];
     let mut boxes = [NO_SLOT; 8];
@@ -200,9 +201,7 @@ pub fn build_node(
     let mut inner = 0usize;
     let mut at = start;
     for i in 0..8 {
-        let held = own_slot(
-            words, indices, decisions, out, slots[i], i, start, grid, depth, at,
-        );
+        let held = own_slot(branch, indices, out, slots[i], i, start, grid, at);
         metas[i] = held.meta;
         boxes[i] = held.corners;
         imask += held.bit;

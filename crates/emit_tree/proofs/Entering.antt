@@ -1,15 +1,16 @@
 -- A node's own part: what building it asks, and what writing it leaves.
 use mathlib.Core.Path.{◌≡◌, refl, ap, ◌∙◌}
-use mathlib.Core.Bool.{Bool, true}
+use mathlib.Core.Bool.{Bool}
 use mathlib.Core.List.{List}
 use Prim.Native.Nat.{ℕ, zero, suc, ◌+◌, ◌*◌, ◌^◌, ◌≤◌, ◌<◌}
 use native.Mathlib.Omega.{arith}
 use lib.ListN.{length, get_or}
 use Rattle.lists.specs.Splice.{splice}
-use Rattle.aabb.specs.Aabb.{accepted_box}
-use Rattle.bvh2.specs.Words.{box_at, tree_at}
+use Rattle.bvh2.specs.Words.{box_at}
 use Rattle.bvh2.proofs.Subtree.{node}
 use Rattle.cost.proofs.Bound.{leaves_pos}
+use Rattle.children.specs.declared.branch.Branch.{Branch}
+use Rattle.children.specs.Branches.{subtree_of}
 use Rattle.wide_layout.specs.Wide.{Slots, end, empty, leaf, inner}
 use Rattle.wide_layout.specs.Sizes.{inner_children, own_count, own_before, SmallLeaves}
 use Rattle.wide_layout.specs.Layout.{entry}
@@ -28,7 +29,7 @@ use Rattle.emit.proofs.LeafSteps.{positions-length}
 use Rattle.emit.proofs.Whole.{first_upto, Entered, all_slots_lem}
 use Rattle.emit_tree.specs.declared.Next.{Next}
 use Rattle.wide_tree.specs.Ordered.{placing}
-use Rattle.emit_tree.specs.Emission.{slot_words, wide_slots_at, EmitRoom, Emits, write_entry, progress_of}
+use Rattle.emit_tree.specs.Emission.{wide_slots_at, slot_words, EmitRoom, Emits, write_entry, progress_of}
 use Rattle.emit_tree.proofs.Matching.{slots_match}
 use Rattle.emit_tree.proofs.Turns.{slot_subtree}
 
@@ -59,58 +60,63 @@ cell_ready s m start at k (as_leaf b t) h l e r q =
     (omega (arith, p, own_inside s (suc k)), omega arith, omega (arith, before_few s k h), omega (arith, leaves_pos t), omega (arith, x, y))
 cell_ready s m start at k (as_node b) h l e r q = tt
 
-module _ (ws ds indices bytes out xs : List ℕ) (d v i : ℕ) (ordered : Bool) (x : Next)
-    (h : Emits ws ds (length indices) d v ordered (length bytes) (length out) i x) (q : xs ≡ slot_words ordered h.at.limit (tree_at ws d v))
+module _ (root : Branch) (indices bytes out xs : List ℕ) (i : ℕ) (ordered : Bool) (x : Next)
+    (h : Emits root (length indices) ordered (length bytes) (length out) i x) (q : xs ≡ slot_words ordered h.at.limit (subtree_of root))
   where
-    small : SmallLeaves (wide_slots_at ws ordered h.at.limit d v)
-    small = small_leaves (placing ordered) h.at.limit h.at.small (tree_at ws d v)
+    small : SmallLeaves (wide_slots_at root ordered h.at.limit)
+    small = small_leaves (placing ordered) h.at.limit h.at.small (subtree_of root)
 
-    matches : (k : ℕ) → k < 8 → Matches (cell_of ws ds d (get_or xs k 0)) (content_at (wide_slots_at ws ordered h.at.limit d v) k)
-    matches k l = rw q (slots_match ws ds (length indices) d v ordered h.at k l)
+    matches : (k : ℕ) → k < 8 → Matches (cell_of root.words.now root.decisions.now root.depth (get_or xs k 0)) (content_at
+        (wide_slots_at root ordered h.at.limit) k)
+    matches k l = rw q (slots_match root (length indices) ordered h.at k l)
 
-    fits : x.positions + own_count (wide_slots_at ws ordered h.at.limit d v) ≤ length out
+    fits : x.positions + own_count (wide_slots_at root ordered h.at.limit) ≤ length out
     fits = omega (arith, h.room.list)
 
-    pub own_ready : OwnReady ws ds indices xs (box_at ws v) (length out) d x.positions out
+    pub own_ready : OwnReady root.words.now root.decisions.now indices xs (box_at root.words.now root.node) (length out) root.depth x.positions out
     own_ready = record {
       each = λ k l. record {
-        tree = λ z. rw q (slot_subtree ws ds (length indices) d v ordered h.at k l (rw q at z));
-        decided = λ z. (let n = node (slot_subtree ws ds (length indices) d v ordered h.at k l (rw q at z)) in rw q
+        tree = λ z. rw q (slot_subtree root (length indices) ordered h.at k l (rw q at z));
+        decided = λ z. (let n = node (slot_subtree root (length indices) ordered h.at k l (rw q at z)) in rw q
             (omega (arith, n.below, h.at.room)));
-        cell = cell_ready (wide_slots_at ws ordered h.at.limit d v) (length out) x.positions _ k (cell_of ws ds d (get_or xs k 0)) small l
-            (first_upto indices (box_at ws v) x.positions (wide_slots_at ws ordered h.at.limit d v) out fits (λ j. cell_of ws ds d (get_or xs j 0))
+        cell = cell_ready (wide_slots_at root ordered h.at.limit) (length out) x.positions _ k
+            (cell_of root.words.now root.decisions.now root.depth (get_or xs k 0)) small l
+            (first_upto indices (box_at root.words.now root.node) x.positions (wide_slots_at root ordered h.at.limit) out fits
+            (λ j. cell_of root.words.now root.decisions.now root.depth (get_or xs j 0))
             matches k (omega arith)).at fits (matches k l);
       };
     }
 
-    pub build_asks : (v * 7 + 6 < length ws) × (accepted_box (box_at ws v) ≡ true) × (x.nodes < 2 ^ 32) × (x.positions < 2 ^ 32)
-    build_asks = let n = node h.at.tree in (omega (arith, n.room), n.box, omega (arith, h.room.few), omega (arith, h.room.short))
+    pub build_asks : (x.nodes < 2 ^ 32) × (x.positions < 2 ^ 32)
+    build_asks = (omega (arith, h.room.few), omega (arith, h.room.short))
 
-    module _ (r : Built) (bytes₁ out₁ : List ℕ) (b : BuiltAs ws v x.nodes x.positions (all_slots ws ds indices xs v x.positions d out) r out₁)
+    module _ (r : Built) (bytes₁ out₁ : List ℕ) (b : BuiltAs root.words.now root.node x.nodes x.positions
+        (all_slots root.words.now root.decisions.now indices xs root.node x.positions root.depth out) r out₁)
         (w : bytes₁ ≡ splice bytes (80 * i) (node_bytes r.node))
       where
-        entered : Entered indices (box_at ws v) x.positions (wide_slots_at ws ordered h.at.limit d v) out
-            (all_slots ws ds indices xs v x.positions d out)
-        entered = all_slots_lem indices (box_at ws v) x.positions (wide_slots_at ws ordered h.at.limit d v) out fits
-            (λ j. cell_of ws ds d (get_or xs j 0)) matches
+        entered : Entered indices (box_at root.words.now root.node) x.positions (wide_slots_at root ordered h.at.limit) out
+            (all_slots root.words.now root.decisions.now indices xs root.node x.positions root.depth out)
+        entered = all_slots_lem indices (box_at root.words.now root.node) x.positions (wide_slots_at root ordered h.at.limit) out fits
+            (λ j. cell_of root.words.now root.decisions.now root.depth (get_or xs j 0)) matches
 
-        node_is : (l p k : ℕ) → r.node ≡ node_of (entry (box_at ws v) (wide_slots_at ws ordered h.at.limit d v) l p k i x.nodes x.positions)
+        node_is : (l p k : ℕ) → r.node ≡ node_of (entry (box_at root.words.now root.node)
+            (wide_slots_at root ordered h.at.limit) l p k i x.nodes x.positions)
         unfolding node_of
         node_is l p k = let e = entered in b.node ∙ rw (e.metas, e.boxes, e.mask) refl
 
-        pub free_nodes : x.nodes + r.inner ≡ x.nodes + inner_children (wide_slots_at ws ordered h.at.limit d v)
+        pub free_nodes : x.nodes + r.inner ≡ x.nodes + inner_children (wide_slots_at root ordered h.at.limit)
         free_nodes = ap (λ (n : ℕ). x.nodes + n) (b.inner ∙ entered.inner)
 
-        pub free_positions : r.at ≡ x.positions + own_count (wide_slots_at ws ordered h.at.limit d v)
+        pub free_positions : r.at ≡ x.positions + own_count (wide_slots_at root ordered h.at.limit)
         free_positions = b.at ∙ entered.at
 
         -- what is written, and what is free then
         pub node-entered : (l p k : ℕ) → progress_of bytes₁ out₁ (record { nodes = x.nodes + r.inner; positions = r.at })
-            ≡ enter (write_entry indices) (box_at ws v) (wide_slots_at ws ordered h.at.limit d v) l p k i (progress_of bytes out x)
+            ≡ enter (write_entry indices) (box_at root.words.now root.node) (wide_slots_at root ordered h.at.limit) l p k i (progress_of bytes out x)
         unfolding write_entry
         node-entered l p k =
             let a : bytes₁ ≡ splice bytes (80 * i) (node_bytes
-            (node_of (entry (box_at ws v) (wide_slots_at ws ordered h.at.limit d v) l p k i x.nodes x.positions))) =
+            (node_of (entry (box_at root.words.now root.node) (wide_slots_at root ordered h.at.limit) l p k i x.nodes x.positions))) =
             w ∙ ap (λ (y : Node). splice bytes (80 * i) (node_bytes y)) (node_is l p k) in
             let c = b.list ∙ entered.list in
             let m = free_nodes in
@@ -118,7 +124,7 @@ module _ (ws ds indices bytes out xs : List ℕ) (d v i : ℕ) (ordered : Bool) 
             λ j. record { written = record { bytes = a j; list = c j }; nodes = m j; positions = o j }
 
         pub room_begun : length bytes₁ ≡ length bytes → length out₁ ≡ length out
-            → EmitRoom (wide_slots_at ws ordered h.at.limit d v) (length bytes₁) (length out₁) x.nodes
+            → EmitRoom (wide_slots_at root ordered h.at.limit) (length bytes₁) (length out₁) x.nodes
             (record { nodes = x.nodes + r.inner; positions = r.at })
         room_begun e f =
             let m = free_nodes in

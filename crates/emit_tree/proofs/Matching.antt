@@ -13,6 +13,8 @@ use Rattle.bvh2.proofs.Reading.{box_is}
 use Rattle.bvh2.proofs.Subtree.{node}
 use Rattle.cost.specs.Table.{Kind, LEAF, INTERNAL, DISTRIBUTE, code, table, word_of}
 use Rattle.cost.specs.Rows.{RowsHold}
+use Rattle.children.specs.declared.branch.Branch.{Branch}
+use Rattle.children.specs.Branches.{subtree_of}
 use Rattle.children.specs.Gather.{gather, EachTree}
 use Rattle.children.proofs.Steps.{says}
 use Rattle.children.proofs.Reread.{Reread, gather_here}
@@ -28,7 +30,7 @@ use Rattle.wide_layout.specs.Content as C
 use Rattle.emit.specs.Own.{Cell, cell_of, Matches}
 use Rattle.emit.proofs.OwnSteps.{cell_none, cell_leaf, cell_node}
 use Rattle.wide_tree.specs.Ordered.{placing}
-use Rattle.emit_tree.specs.Emission.{slot_words, EmitNode, wide_slots_at}
+use Rattle.emit_tree.specs.Emission.{wide_slots_at, slot_words, EmitNode}
 
 -- ---- a gathered node's word says what it becomes
 module _ (ws ds : List ℕ) (n limit d : ℕ) (place : Placing) (room : tree_nodes n * 7 ≤ length ds) where
@@ -77,15 +79,17 @@ pub root_slots_lem : (place : Placing) (limit : ℕ) (t : Tree ℕ) → root_slo
 root_slots_lem place limit t = ap₂ (λ (bs : List Aabb) (cs : List Child). slots_from (place (box_of t) bs) cs 0 8) (children_boxes place limit t 0)
     (children_gathered place limit t 0)
 
-pub slots_match : (ws ds : List ℕ) (n d v : ℕ) (ordered : Bool) (h : EmitNode ws ds n d v) (k : ℕ) → k < 8
-    → Matches (cell_of ws ds d (get_or (slot_words ordered h.limit (tree_at ws d v)) k 0)) (content_at (wide_slots_at ws ordered h.limit d v) k)
+pub slots_match : (root : Branch) (n : ℕ) (ordered : Bool) (h : EmitNode root n) (k : ℕ) → k < 8
+    → Matches (cell_of root.words.now root.decisions.now root.depth (get_or (slot_words ordered h.limit (subtree_of root)) k 0)) (content_at
+    (wide_slots_at root ordered h.limit) k)
 unfolding slot_words placed
-slots_match ws ds n d v ordered h k l =
-    let t = tree_at ws d v in
+slots_match root n ordered h k l =
+    let t = subtree_of root in
     let g = gather h.limit t 0 in
     let child = A.child_of (slots_of ordered (box_of t) (map box_of g)) in
     let e = eight_at (λ s. get_or (map label_of g) (child s) 0xffff_ffff) 0 k l in
     let f = ap (λ (s : Slots 8). content_at s k) (root_slots_lem (placing ordered) h.limit t) ∙ from_at child
     (map (child_of (placing ordered) h.limit) g) 0 8 k l
     ∙ ap (λ (i : ℕ). held_at (map (child_of (placing ordered) h.limit) g) (child i)) (zero-add k) in
-    rw (e, f) (list_matches ws ds n h.limit d (placing ordered) h.room g (gather_here ws ds n h.limit d v h.tree h.holds 0) (child k))
+    rw (e, f) (list_matches root.words.now root.decisions.now n h.limit root.depth (placing ordered) h.room g
+    (gather_here root.words.now root.decisions.now n h.limit root.depth root.node h.tree h.holds 0) (child k))

@@ -15,6 +15,8 @@ use Rattle.bvh2.specs.Words.{tree_nodes, box_at, tree_at}
 use Rattle.bvh2.specs.Decoded.{Subtree}
 use Rattle.cost.specs.Table.{Kind, LEAF, INTERNAL, DISTRIBUTE, code, table}
 use Rattle.cost.proofs.Splits.{leaf_kind}
+use Rattle.children.specs.declared.branch.Branch.{Branch}
+use Rattle.children.specs.Branches.{subtree_of}
 use Rattle.children.specs.Gather.{gather, EachTree}
 use Rattle.children.proofs.Gather.{one_child}
 use Rattle.children.proofs.Reread.{Reread, gather_here, gather_reread}
@@ -29,7 +31,7 @@ use Rattle.wide_layout.specs.Content.{content_at}
 use Rattle.wide_layout.specs.Content as C
 use Rattle.emit.specs.Own.{Cell, none, as_leaf, as_node, cell_by, cell_of, Matches}
 use Rattle.wide_tree.specs.Ordered.{placing}
-use Rattle.emit_tree.specs.Emission.{slot_words, EmitNode, wide_slots_at, is_inner}
+use Rattle.emit_tree.specs.Emission.{wide_slots_at, slot_words, EmitNode, is_inner}
 use Rattle.emit_tree.proofs.Matching.{kind_says, root_slots_lem, slots_match}
 use Rattle.emit_tree.proofs.Rolling.{put}
 
@@ -113,34 +115,34 @@ module _ (ws ds : List ℕ) (n limit d : ℕ) (place : Placing) (room : tree_nod
   list_subtree (t ∷ g) h zero z = h.0.subtree
   list_subtree (t ∷ g) h (suc i) z = list_subtree g h.1 i z
 
-module _ (ws ds : List ℕ) (n d v : ℕ) (ordered : Bool) (h : EmitNode ws ds n d v) where
+module _ (root : Branch) (n : ℕ) (ordered : Bool) (h : EmitNode root n) where
   child : ℕ → ℕ
-  child k = A.child_of (slots_of ordered (box_of (tree_at ws d v)) (map box_of (gather h.limit (tree_at ws d v) 0))) k
+  child k = A.child_of (slots_of ordered (box_of (subtree_of root)) (map box_of (gather h.limit (subtree_of root) 0))) k
 
-  word_at : (k : ℕ) → k < 8 → get_or (slot_words ordered h.limit (tree_at ws d v)) k 0
-      ≡ get_or (map label_of (gather h.limit (tree_at ws d v) 0)) (child k) 0xffff_ffff
+  word_at : (k : ℕ) → k < 8 → get_or (slot_words ordered h.limit (subtree_of root)) k 0
+      ≡ get_or (map label_of (gather h.limit (subtree_of root) 0)) (child k) 0xffff_ffff
   unfolding slot_words placed child
-  word_at k l = eight_at (λ s. get_or (map label_of (gather h.limit (tree_at ws d v) 0))
-      (A.child_of (slots_of ordered (box_of (tree_at ws d v)) (map box_of (gather h.limit (tree_at ws d v) 0))) s) 0xffff_ffff) 0 k l
+  word_at k l = eight_at (λ s. get_or (map label_of (gather h.limit (subtree_of root) 0))
+      (A.child_of (slots_of ordered (box_of (subtree_of root)) (map box_of (gather h.limit (subtree_of root) 0))) s) 0xffff_ffff) 0 k l
 
   -- the slots from slot k on
   abbrev pub rest : (k w : ℕ) → Slots w
-  rest k w = slots_from (A.child_of (slots_of ordered (box_of (tree_at ws d v)) (map box_of (gather h.limit (tree_at ws d v) 0))))
-      (map (child_of (placing ordered) h.limit) (gather h.limit (tree_at ws d v) 0)) k w
+  rest k w = slots_from (A.child_of (slots_of ordered (box_of (subtree_of root)) (map box_of (gather h.limit (subtree_of root) 0))))
+      (map (child_of (placing ordered) h.limit) (gather h.limit (subtree_of root) 0)) k w
 
-  pub rest_all : wide_slots_at ws ordered h.limit d v ≡ rest 0 8
-  rest_all = root_slots_lem (placing ordered) h.limit (tree_at ws d v)
+  pub rest_all : wide_slots_at root ordered h.limit ≡ rest 0 8
+  rest_all = root_slots_lem (placing ordered) h.limit (subtree_of root)
 
   -- what stands in slot k
   abbrev pub standing : ℕ → C.Content
-  standing k = held_at (map (child_of (placing ordered) h.limit) (gather h.limit (tree_at ws d v) 0))
-      (A.child_of (slots_of ordered (box_of (tree_at ws d v)) (map box_of (gather h.limit (tree_at ws d v) 0))) k)
+  standing k = held_at (map (child_of (placing ordered) h.limit) (gather h.limit (subtree_of root) 0))
+      (A.child_of (slots_of ordered (box_of (subtree_of root)) (map box_of (gather h.limit (subtree_of root) 0))) k)
 
   pub rest_next : (k w : ℕ) → rest k (suc w) ≡ put (standing k) (rest (suc k) w)
   unfolding slots_from
   rest_next k w =
-      slot_put (map (child_of (placing ordered) h.limit) (gather h.limit (tree_at ws d v) 0))
-      (A.child_of (slots_of ordered (box_of (tree_at ws d v)) (map box_of (gather h.limit (tree_at ws d v) 0))) k) (rest (suc k) w)
+      slot_put (map (child_of (placing ordered) h.limit) (gather h.limit (subtree_of root) 0))
+      (A.child_of (slots_of ordered (box_of (subtree_of root)) (map box_of (gather h.limit (subtree_of root) 0))) k) (rest (suc k) w)
     where
       slot_put : {w : ℕ} (cs : List Child) (i : ℕ) (s : Slots w) → filled_slot cs i s ≡ put (held_at cs i) s
       slot_put [] i s = refl
@@ -148,47 +150,53 @@ module _ (ws ds : List ℕ) (n d v : ℕ) (ordered : Bool) (h : EmitNode ws ds n
       slot_put (inner_child b u ∷ cs) zero s = refl
       slot_put (c ∷ cs) (suc i) s = slot_put cs i s
 
-  pub slot_subtree : (k : ℕ) → k < 8 → (get_or (slot_words ordered h.limit (tree_at ws d v)) k 0 ≡ 0xffff_ffff → ⊥)
-      → Subtree ws n d (get_or (slot_words ordered h.limit (tree_at ws d v)) k 0)
+  pub slot_subtree : (k : ℕ) → k < 8 → (get_or (slot_words ordered h.limit (subtree_of root)) k 0 ≡ 0xffff_ffff → ⊥)
+      → Subtree root.words.now n root.depth (get_or (slot_words ordered h.limit (subtree_of root)) k 0)
   slot_subtree k l z =
       let e = word_at k l in
-      rw e (list_subtree ws ds n h.limit d (placing ordered) h.room (gather h.limit (tree_at ws d v) 0)
-      (gather_here ws ds n h.limit d v h.tree h.holds 0) (child k) (λ q. z (e ∙ q)))
+      rw e (list_subtree root.words.now root.decisions.now n h.limit root.depth (placing ordered) h.room (gather h.limit (subtree_of root) 0)
+      (gather_here root.words.now root.decisions.now n h.limit root.depth root.node h.tree h.holds 0) (child k) (λ q. z (e ∙ q)))
 
   -- a word that stands for a node
-  pub slot_below : (k : ℕ) → k < 8 → is_inner ds (get_or (slot_words ordered h.limit (tree_at ws d v)) k 0) ≡ true
-      → (0 < d) × Below ws ds n h.limit (d - 1) (placing ordered) (get_or (slot_words ordered h.limit (tree_at ws d v)) k 0) (standing k)
+  pub slot_below : (k : ℕ) → k < 8 → is_inner root.decisions.now (get_or (slot_words ordered h.limit (subtree_of root)) k 0) ≡ true
+      → (0 < root.depth) × Below root.words.now root.decisions.now n h.limit (root.depth - 1) (placing ordered) (get_or
+      (slot_words ordered h.limit (subtree_of root)) k 0) (standing k)
   unfolding child EachTree
-  slot_below k l e = go (tree_at ws d v) refl
+  slot_below k l e = go (subtree_of root) refl
     where
-      go : (u : Tree ℕ) → tree_at ws d v ≡ u → (0 < d)
-          × Below ws ds n h.limit (d - 1) (placing ordered) (get_or (slot_words ordered h.limit (tree_at ws d v)) k 0) (standing k)
+      go : (u : Tree ℕ) → subtree_of root ≡ u → (0 < root.depth)
+          × Below root.words.now root.decisions.now n h.limit (root.depth - 1) (placing ordered) (get_or (slot_words ordered h.limit
+          (subtree_of root)) k 0) (standing k)
       go (leaf x box p) q =
-          let g : gather h.limit (tree_at ws d v) 0
+          let g : gather h.limit (subtree_of root) 0
           ≡ leaf x box p ∷ [] = ap (λ (u : Tree ℕ). gather h.limit u 0) q ∙ one_child h.limit x box p 0 in
-          let r : EachTree (Reread ws ds n h.limit d) (leaf x box p ∷ []) = rw g at (gather_here ws ds n h.limit d v h.tree h.holds 0) in
-          absurd (leaf_below ws ds n h.limit d (placing ordered) h.room x box p r.0 (child k)
-          (subst (λ (xs : List (Tree ℕ)). is_inner ds (get_or (map label_of xs) (child k) 0xffff_ffff) ≡ true) g
-          (subst (λ (y : ℕ). is_inner ds y ≡ true) (word_at k l) e)))
+          let r : EachTree (Reread root.words.now root.decisions.now n h.limit root.depth) (leaf x box p ∷ []) = rw g at
+          (gather_here root.words.now root.decisions.now n h.limit root.depth root.node h.tree h.holds 0) in
+          absurd (leaf_below root.words.now root.decisions.now n h.limit root.depth (placing ordered) h.room x box p r.0 (child k)
+          (subst (λ (xs : List (Tree ℕ)). is_inner root.decisions.now (get_or (map label_of xs) (child k) 0xffff_ffff) ≡ true) g
+          (subst (λ (y : ℕ). is_inner root.decisions.now y ≡ true) (word_at k l) e)))
       go (inner x box a b) q =
-          let r = gather_reread ws ds n h.limit d v x box a b h.tree h.holds q 0 in (
+          let r = gather_reread root.words.now root.decisions.now n h.limit root.depth root.node x box a b h.tree h.holds q 0 in (
             r.0,
-            rw (word_at k l) (list_below ws ds n h.limit d (placing ordered) h.room (d - 1) (gather h.limit (tree_at ws d v) 0)
-                (gather_here ws ds n h.limit d v h.tree h.holds 0) r.1 (child k)
-                (subst (λ (y : ℕ). is_inner ds y ≡ true) (word_at k l) e)),
+            rw (word_at k l) (list_below root.words.now root.decisions.now n h.limit root.depth (placing ordered) h.room (root.depth - 1)
+                (gather h.limit (subtree_of root) 0)
+                (gather_here root.words.now root.decisions.now n h.limit root.depth root.node h.tree h.holds 0) r.1 (child k)
+                (subst (λ (y : ℕ). is_inner root.decisions.now y ≡ true) (word_at k l) e)),
           )
 
   -- a word that does not
-  pub slot_other : (k : ℕ) → k < 8 → is_inner ds (get_or (slot_words ordered h.limit (tree_at ws d v)) k 0) ≡ false → (b : Aabb) (s : Slots 8)
+  pub slot_other : (k : ℕ) → k < 8 → is_inner root.decisions.now (get_or (slot_words ordered h.limit (subtree_of root)) k 0) ≡ false
+      → (b : Aabb) (s : Slots 8)
       → standing k ≡ C.inner_child b s → ⊥
   unfolding Matches cell_of
   slot_other k l e b s q =
-      matched (get_or (slot_words ordered h.limit (tree_at ws d v)) k 0) e
-      (subst (λ (c : C.Content). Matches (cell_of ws ds d (get_or (slot_words ordered h.limit (tree_at ws d v)) k 0)) c)
+      matched (get_or (slot_words ordered h.limit (subtree_of root)) k 0) e
+      (subst (λ (c : C.Content). Matches (cell_of root.words.now root.decisions.now root.depth (get_or (slot_words ordered h.limit
+      (subtree_of root)) k 0)) c)
       (ap (λ (r : Slots 8). content_at r k) rest_all ∙ from_at
-      (A.child_of (slots_of ordered (box_of (tree_at ws d v)) (map box_of (gather h.limit (tree_at ws d v) 0))))
-      (map (child_of (placing ordered) h.limit) (gather h.limit (tree_at ws d v) 0)) 0 8 k l ∙ ap standing (zero-add k) ∙ q)
-      (slots_match ws ds n d v ordered h k l))
+      (A.child_of (slots_of ordered (box_of (subtree_of root)) (map box_of (gather h.limit (subtree_of root) 0))))
+      (map (child_of (placing ordered) h.limit) (gather h.limit (subtree_of root) 0)) 0 8 k l ∙ ap standing (zero-add k) ∙ q)
+      (slots_match root n ordered h k l))
     where
       differ : (c : Cell) (x : ℕ) → c ≡ none → Matches c (C.inner_child b s) → ⊥
       differ none x p m = clash cc
@@ -200,11 +208,14 @@ module _ (ws ds : List ℕ) (n d v : ℕ) (ordered : Bool) (h : EmitNode ws ds n
       differ' (as_leaf c u) y z p m = clash cc
       differ' (as_node c) y z p m = clash cc
 
-      matched : (x : ℕ) → is_inner ds x ≡ false → Matches (cell_of ws ds d x) (C.inner_child b s) → ⊥
+      matched : (x : ℕ) → is_inner root.decisions.now x ≡ false
+          → Matches (cell_of root.words.now root.decisions.now root.depth x) (C.inner_child b s) → ⊥
       matched x f m = go (ℕ_discrete x 0xffff_ffff)
         where
           go : Dec (x ≡ 0xffff_ffff) → ⊥
-          go (yes z) = differ (cell_of ws ds d x) x (ap (λ (a : Bool). cell_by a (get_or ds (x * 7) 0 / 0x4000_0000) (box_at ws x) (tree_at ws d x))
+          go (yes z) = differ (cell_of root.words.now root.decisions.now root.depth x) x (ap (λ (a : Bool). cell_by a (get_or root.decisions.now
+              (x * 7) 0 / 0x4000_0000) (box_at root.words.now x) (tree_at root.words.now root.depth x))
               (eq-eqb x 0xffff_ffff z)) m
-          go (no z) = differ' (cell_of ws ds d x) (box_at ws x) (tree_at ws d x)
-              (ap₂ (λ (a : Bool) (j : ℕ). cell_by a j (box_at ws x) (tree_at ws d x)) (ne_eqb x 0xffff_ffff z) (other_word ds x f z)) m
+          go (no z) = differ' (cell_of root.words.now root.decisions.now root.depth x) (box_at root.words.now x) (tree_at root.words.now root.depth x)
+              (ap₂ (λ (a : Bool) (j : ℕ). cell_by a j (box_at root.words.now x) (tree_at root.words.now root.depth x)) (ne_eqb x 0xffff_ffff z)
+              (other_word root.decisions.now x f z)) m

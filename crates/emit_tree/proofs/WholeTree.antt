@@ -9,13 +9,15 @@ use lib.ListN.{length, get_or, drop, length-map}
 use Rattle.lists.specs.Splice.{splice}
 use Rattle.bvh2.specs.Words.{box_at}
 use Rattle.bvh2.proofs.Reading.{box_is}
+use Rattle.children.specs.declared.branch.Branch.{Branch}
+use Rattle.children.specs.Branches.{subtree_of}
 use Rattle.wide_layout.specs.Layout.{Entry, layout, index_list}
 use Rattle.wide_layout.specs.Conversion.{State, convert_node, write_all, write_positions}
 use Rattle.wide_layout.proofs.Conversion.{converted}
 use Rattle.wide_layout.proofs.Sizes.{index_length}
 use Rattle.wide_layout.proofs.Written.{positions-all}
 use Rattle.wide_tree.specs.WideTree.{wide_of}
-use Rattle.wide_tree.specs.Ordered.{wide_tree_of}
+use Rattle.wide_tree.specs.Ordered.{wide_tree}
 use Rattle.node.specs.Node.{node_bytes}
 use Rattle.node.proofs.RoundTrip.{length-node}
 use Rattle.record.specs.Record.{node_of, record_bytes}
@@ -38,10 +40,10 @@ both indices [] z = (refl, refl)
 both indices (e ∷ es) z = both indices es (write_entry indices e z)
 
 -- what the root's emission asks
-pub whole_ready : (ws ds : List ℕ) (n : ℕ) (ordered : Bool) (m l : ℕ) → EmitTree ws ds n ordered m l
-    → Emits ws ds n 127 0 ordered m l 0 (record { nodes = 1; positions = 0 })
+pub whole_ready : (root : Branch) (n : ℕ) (ordered : Bool) (m l : ℕ) → EmitTree root n ordered m l
+    → Emits root n ordered m l 0 (record { nodes = 1; positions = 0 })
 unfolding wide_of
-whole_ready ws ds n ordered m l h =
+whole_ready root n ordered m l h =
     let a = h.record_room in
     let b = h.list_room in
     let c = h.few in
@@ -51,19 +53,20 @@ whole_ready ws ds n ordered m l h =
       room = record { mine = omega arith; nodes = omega arith; few = omega arith; list = omega arith; short = omega arith };
     }
 
-pub whole_done : (ws ds indices : List ℕ) (ordered : Bool) (bytes list bytes₁ list₁ : List ℕ) (x : Next)
-    (h : EmitTree ws ds (length indices) ordered (length bytes) (length list))
-    → ((e : Emits ws ds (length indices) 127 0 ordered (length bytes) (length list) 0 (record { nodes = 1; positions = 0 })) (l p k : ℕ)
-    → progress_of bytes₁ list₁ x ≡ convert_node (write_entry indices) (box_at ws 0) (wide_slots_at ws ordered e.at.limit 127 0) l p k 0
-    (progress_of bytes list (record { nodes = 1; positions = 0 })))
-    → Emitted indices (wide_tree_of ws ordered h.at.limit) bytes list bytes₁ list₁ x
+pub whole_done : (root : Branch) (indices : List ℕ) (ordered : Bool) (bytes list bytes₁ list₁ : List ℕ) (x : Next)
+    (h : EmitTree root (length indices) ordered (length bytes) (length list))
+    → ((e : Emits root (length indices) ordered (length bytes) (length list) 0 (record { nodes = 1; positions = 0 })) (l p k : ℕ)
+    → progress_of bytes₁ list₁ x ≡ convert_node (write_entry indices) (box_at root.words.now root.node)
+    (wide_slots_at root ordered e.at.limit) l p k 0 (progress_of bytes list (record { nodes = 1; positions = 0 })))
+    → Emitted indices (wide_tree ordered h.at.limit (subtree_of root)) bytes list bytes₁ list₁ x
 unfolding wide_of record_bytes splice block whole_ready
-whole_done ws ds indices ordered bytes list bytes₁ list₁ x h g =
-    let e = g (whole_ready ws ds (length indices) ordered (length bytes) (length list) h) 0 0 0 in
-    let t = wide_tree_of ws ordered h.at.limit in
+whole_done root indices ordered bytes list bytes₁ list₁ x h g =
+    let e = g (whole_ready root (length indices) ordered (length bytes) (length list) h) 0 0 0 in
+    let t = wide_tree ordered h.at.limit (subtree_of root) in
     let z : Written = record { bytes = bytes; list = list } in
-    let c = e ∙ ap (λ (b : _). convert_node (write_entry indices) b (wide_slots_at ws ordered h.at.limit 127 0) 0 0 0 0
-    (progress_of bytes list (record { nodes = 1; positions = 0 }))) (sym (box_is ws 127 0)) ∙ converted (write_entry indices) t z in
+    let c = e ∙ ap (λ (b : _). convert_node (write_entry indices) b (wide_slots_at root ordered h.at.limit) 0 0 0 0
+    (progress_of bytes list (record { nodes = 1; positions = 0 }))) (sym (box_is root.words.now root.depth root.node))
+    ∙ converted (write_entry indices) t z in
     let w = both indices (layout t) z in
     record {
       bytes_are = ap (λ (s : State Written). s.written.bytes) c ∙ w.0 ∙ written 80 block block_size t bytes h.record_room;

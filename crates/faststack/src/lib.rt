@@ -8,6 +8,7 @@ ghost use Rattle.faststack.specs.Stack.{capacity, has_room, pushed, top_of};
 const CAPACITY: usize = 32;
 
 // Stores a group on a stack of the given depth, and says whether it had room: a 33rd group is not stored. The C interface lends the array.
+// It says so by a bool, which the definition has too: a walk asks for room before it stores, and refuses by itself.
 #[tactic(auto, unfolding(crate::specs::Stack::pushed))]
 pub fn push(stack: &mut [u64], depth: usize, group: u64) -> bool
     requires { capacity ≤ length stack.old }

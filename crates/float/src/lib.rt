@@ -7,6 +7,8 @@ ghost use Rattle.std.specs.Float.Ieee.{of_bits};
 ghost use Rattle.float.specs.Compare.{min_of, max_of, unsigned_zero, is_minus_zero, in_bounds};
 ghost use Rattle.float.specs.PowerOfTwo.{scale_of};
 
+// The two operands of an operation, here and in `aabb`, are no thing of their own that a struct could name.
+
 // The lesser of two, as a vector's min takes it; the standard min gives another one at a NaN.
 #[tactic(auto, unfolding(crate::specs::Compare::min_of))]
 pub fn min(a: f32, b: f32) -> f32

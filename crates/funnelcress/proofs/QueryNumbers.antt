@@ -1,11 +1,21 @@
 -- No two of a query's answers share a number.
 use mathlib.Core.List.{List, ◌∷◌}
 use mathlib.Core.Path.{◌≡◌, refl, ap, ap₂, ◌∙◌}
-use Prim.Native.Nat.{ℕ, zero, suc, ◌≤◌, ◌<◌}
+use Prim.Native.Nat.{ℕ, zero, suc, ◌<◌, min}
 use native.Mathlib.Omega.{arith}
+use native.Mathlib.Decide.{dec_lt}
+use lib.Dec.{ltb}
 use lib.Ieee.{Float, nan}
 use lib.ListN.{get_or}
 use borrow.Author.Tests.{le-ltb, lt-ltb}
+use mathlib.Core.Bool.{cond}
+use Rattle.std.specs.Ordering.{ord_min}
+use Rattle.causes.specs.declared.Refusal.{Refusal}
+use Rattle.causes.specs.declared.Refusal.TheVariants as R
+use Rattle.causes.specs.contracts.RefusalOrd.TheImpl.{cmp-value}
+use Rattle.causes.specs.Refusal.{cause_number}
+use Rattle.causes.proofs.Refusals.{some_number}
+use Rattle.causes.proofs.Least.{least}
 use Rattle.query.specs.Result.{Result}
 use Rattle.any_hit.specs.AnyHit.{AnyHitAnswer, listed, refused, lacking}
 use Rattle.closest.specs.Panes.{ClosestAnswer, hit_at, no_hit, refused_closest, MissAnswer, missed, blocked, refused_miss}
@@ -62,16 +72,18 @@ closest_apart a b x out = go a.answer a.tests b.answer b.tests
     go (refused_closest i) t no_hit u h k n l = absurd (omega arith)
     go (refused_closest i) t (refused_closest j) u h k n l = ap₂ found (ap refused_closest (omega arith)) (omega arith)
 
--- what refuses closest where no float is lent, by the tests that the code makes
-pub short_before : (k : ℕ) → (k ≡ 0 → ⊥) → k < 4 → k ≡ short_cause k
+-- what refuses closest where no float is lent, by the derived order of refusals
+short_least : (k : ℕ) → (k ≡ 0 → ⊥) → min k 4 ≡ short_cause k
 unfolding short_cause
-short_before zero h l = absurd (h refl)
-short_before (suc k) h l = rw (lt-ltb (suc k) 4 l)
+short_least zero h = absurd (h refl)
+short_least (suc k) h = go (dec_lt (suc k) 4)
+  where
+    go : Dec (suc k < 4) → min (suc k) 4 ≡ cond (ltb (suc k) 4) (suc k) 4
+    go (yes l) = rw (lt-ltb (suc k) 4 l) (omega (arith, l))
+    go (no l) = rw (le-ltb (suc k) 4 (omega (arith, l))) (omega (arith, l))
 
-pub short_after : (k : ℕ) → (k ≡ 0 → ⊥) → 4 ≤ k → 4 ≡ short_cause k
-unfolding short_cause
-short_after zero h l = absurd (h refl)
-short_after (suc k) h l = rw (le-ltb (suc k) 4 l)
+pub short_min : (f h : Refusal) → h ≡ ord_min cmp-value.it f R.SliceShort → cause_number h ≡ short_cause (cause_number f)
+short_min f h m = ap cause_number m ∙ least f R.SliceShort ∙ short_least (cause_number f) (some_number f)
 
 -- ---- miss
 

@@ -17,6 +17,7 @@ fn join_number(joined: Result<u32, Refusal>) -> u64
 }
 
 // Two trees as one, at the fronts of `words` and `indices`: how many leaves it has, or kind 2 with the number of a refusal.
+// C lends each slice by itself.
 #[unsafe(no_mangle)]
 pub extern "C" fn funnelcress_join(
     first: &[u32],

@@ -1,6 +1,6 @@
 // The library for C and Rust: each function is exported under its name. Numbers that are returned are those of
 // refusals, 0 for none, but the record check's, conversion's, the queries', a report's and a join's, which also hold
-// what they answer.
+// what they answer: C takes one number for an answer, so that its kind is a number here, and each answer has a function that makes it.
 #![tactic(auto)]
 
 mod joins;
@@ -140,13 +140,14 @@ fn order_refusal(words: &[u32], n: usize) -> Refusal
     ensures { cause_number result ≡ order_cause (length words.now) n }
 {
     match bvh2_check::sizes(words, n) {
-        Ok(()) => Refusal::LimitOver,
+        Ok(_) => Refusal::LimitOver,
         Err(refusal) => refusal,
     }
 }
 
 // Conversion with ordering off for order 0 and on for 1, any other order being refused: its answer, and below 2^32 the deepest level and the sixteen
-// bits of the node count, or the number of a refusal. The tables of the tree's decisions and costs are left in the working slices.
+// bits of the node count, or the number of a refusal. The tables of the tree's decisions and costs are left in the working slices. C lends each slice
+// on its own.
 #[unsafe(no_mangle)]
 pub extern "C" fn funnelcress_bvh2_to_cwbvh(
     words: &[u32],
@@ -242,10 +243,7 @@ fn short_refusal(entry: Result<(), Refusal>) -> Refusal
 {
     match entry {
         Ok(()) => Refusal::SliceShort,
-        Err(refusal) => {
-            let sooner = u32::from(refusal) < u32::from(Refusal::SliceShort);
-            if sooner { refusal } else { Refusal::SliceShort }
-        }
+        Err(refusal) => refusal.min(Refusal::SliceShort),
     }
 }
 

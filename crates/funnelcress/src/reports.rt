@@ -17,7 +17,7 @@ fn report_number(report: Result<u64, Refusal>) -> u64
 }
 
 // A report for rays of eight floats each: the node tests of all rays, or kind 2 with the number of a refusal. The totals
-// are at the fronts of the slices lent.
+// are at the fronts of the slices lent, each by itself.
 #[unsafe(no_mangle)]
 pub extern "C" fn funnelcress_report(
     record: &[u8],

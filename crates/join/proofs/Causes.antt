@@ -11,9 +11,7 @@ use Rattle.lists.specs.Below.{all_below}
 use Rattle.lists.proofs.Tells.{clash}
 use Rattle.causes.specs.Causes.{Condition, ◌unless◌, first_cause}
 use Rattle.bvh2.specs.Words.{tree_nodes}
-use Rattle.bvh2.specs.Causes.{TreeSized, Accepted}
 use Rattle.bvh2.specs.FirstCause.{size_conditions, sizes_cause, links_inside, boxes_accepted, structure_conditions, structure_cause}
-use Rattle.bvh2.proofs.First.{structure_none}
 use Rattle.join.specs.Join.{room_for, size_tests, tree_or_none, edge_to_spare, tree_tests}
 use Rattle.join.specs.Steps.{lesser_cause}
 
@@ -34,13 +32,6 @@ unfolding lesser_cause
 lesser_both zero b h k = absurd (h refl)
 lesser_both (suc a) zero h k = absurd (k refl)
 lesser_both (suc a) (suc b) h k = refl
-
--- it is none only of two that are none
-pub lesser_zero : (a b : ℕ) → lesser_cause a b ≡ 0 → (a ≡ 0) × (b ≡ 0)
-unfolding lesser_cause
-lesser_zero zero b e = (refl, e)
-lesser_zero (suc a) zero e = absurd (omega arith)
-lesser_zero (suc a) (suc b) e = absurd (omega arith)
 
 -- ---- the same tests of two things, in one order: the first cause of both is the lesser of their first causes
 
@@ -216,8 +207,3 @@ module _ (ws : List ℕ) (n : ℕ) (us : List ℕ) (m : ℕ) where
     pub trees_pass : (r : Bool) → r ≡ edge_to_spare ws n us m → r ≡ true → 0 ≡ first_cause (tree_tests ws n us m)
     unfolding first_cause
     trees_pass r f g = rw (trees_left, ← f, g) refl
-
-    -- both are then accepted
-    pub trees_accepted : TreeSized ws n → TreeSized us m → Accepted ws n × Accepted us m
-    trees_accepted p q = let z = lesser_zero (structure_cause ws n) (structure_cause us m) none in
-        ((structure_none ws n p).0 z.0, (structure_none us m q).0 z.1)

@@ -6,9 +6,8 @@ use Prim.Native.Nat.{ℕ, zero, suc, ◌+◌, ◌*◌, ◌<◌, ◌≤◌}
 use native.Mathlib.Omega.{arith}
 use lib.Dec.{T, leb, eqb}
 use lib.ListN.{length}
-use borrow.Author.Tests.{le-leb, lt-leb, eqb-true, leb-true}
+use borrow.Author.Tests.{le-leb, lt-leb}
 use Rattle.lists.specs.Splice.{splice}
-use Rattle.lists.proofs.Tells.{both_pass}
 use Rattle.causes.specs.Causes.{Condition, ◌unless◌, first_cause, place_of}
 use Rattle.causes.proofs.Causes.{Passed, sorted, first_later, first_here, append_first, append_later, none_passed, passed_none}
 use Rattle.bvh2.specs.Words.{tree_nodes}
@@ -73,36 +72,10 @@ module _ (c : JoinCall) where
     unfolding join_tests
     by_sums z = append_later (sizes ++ trees) sums (none_passed 0 (sizes ++ trees) both_sorted (later ∙ z))
 
-    -- what the lengths then are
-    pub lengths : TreeSized c.first (first_leaves c) × TreeSized c.second (second_leaves c) × (both_leaves c ≤ 65536)
-        × (room_for (first_leaves c) (second_leaves c) (length c.marks) (length c.words) (length c.indices) ≡ true)
+    -- and there is room
+    pub room_left : room_for (first_leaves c) (second_leaves c) (length c.marks) (length c.words) (length c.indices) ≡ true
     unfolding size_tests
-    lengths =
-        let p = passed in
-        let x = eqb (length c.first) (tree_nodes (first_leaves c) * 7) in
-        let y = eqb (length c.second) (tree_nodes (second_leaves c) * 7) in
-        let b = both_pass x y p.0 in
-        let few = leb-true (both_leaves c) 65536 p.1.0 in (
-          record { fit = eqb-true (length c.first) (tree_nodes (first_leaves c) * 7) b.0; few = omega (arith, few) },
-          record { fit = eqb-true (length c.second) (tree_nodes (second_leaves c) * 7) b.1; few = omega (arith, few) },
-          few,
-          p.1.1.0,
-        )
-
-    -- and both trees, where their causes are none
-    pub both_accepted : first_cause trees ≡ 0 → Accepted c.first (first_leaves c) × Accepted c.second (second_leaves c)
-    unfolding tree_tests
-    both_accepted z =
-        let p = none_passed 0 trees trees_sorted z in
-        let links = both_pass (links_inside c.first (first_leaves c)) (links_inside c.second (second_leaves c)) p.0 in
-        let boxes = both_pass (boxes_accepted c.first (first_leaves c)) (boxes_accepted c.second (second_leaves c)) p.1.0 in
-        let first = tree_or_none c.first (first_leaves c) in
-        let second = tree_or_none c.second (second_leaves c) in
-        let edge = edge_to_spare c.first (first_leaves c) c.second (second_leaves c) in
-        let whole = both_pass first second (both_pass (first && second) edge p.1.1.0).0 in (
-          tests_accepted c.first (first_leaves c) lengths.0 links.0 boxes.0 whole.0,
-          tests_accepted c.second (second_leaves c) lengths.1 links.1 boxes.1 whole.1,
-        )
+    room_left = passed.1.1.0
 
   -- ---- the endings
 

@@ -16,11 +16,10 @@ use Rattle.lists.proofs.Tells.{all_at}
 use Rattle.bvh2.specs.Words.{tree_nodes, Link, children, position, malformed, link_of, word_at, link_at}
 use Rattle.bvh2.specs.Causes.{LinkInside, Accepted}
 use Rattle.bvh2.proofs.First.{accepted_facts}
-use Rattle.bvh2.proofs.Reading.{word_malformed}
+use Rattle.bvh2.proofs.Reading.{word-children, word_position, word_malformed, same-children, same_position, children_position, position_malformed}
 use Rattle.tree_words.specs.Nodes.{in_turn}
 use Rattle.tree_words.proofs.Nodes.{turn_next}
 use Rattle.join.specs.Join.{moved_link, moved_node, sums_fit}
-use Rattle.join.specs.Steps.{LinksInside}
 
 -- ---- a list's words, one by one
 pub map-values : (f : ℕ → ℕ) (l : List ℕ) → values (λ i. f (get_or l i 0)) (length l) ≡ map f l
@@ -43,41 +42,42 @@ stays_word by l i e h =
     omega (arith, leb-true (get_or l i 0 + by) 0xffff_ffff (all_at f (length l) e i h))
 
 -- ---- links
-module _ (nodes positions : ℕ) (w : ℕ) where
-  pub moved_children : (f : ℕ) → children f ≡ link_of w → w + nodes ≡ moved_link nodes positions w
-  unfolding moved_link
-  moved_children f e = rw (moved_link, ← e) refl
-
-  pub moved_position : (p : ℕ) → position p ≡ link_of w → w + positions ≡ moved_link nodes positions w
-  unfolding moved_link
-  moved_position p e = rw (moved_link, ← e) refl
-
--- the word of a link inside leaves room for what it is moved by, and says something
-pub link_fits : (w : ℕ) → LinkInside 65536 (link_of w) → w < 0x8000_0000
-unfolding LinkInside
-link_fits w i = go (ℕ_discrete (w / 0x4000_0000) 0) (ℕ_discrete (w / 0x4000_0000) 1)
+children_word : (w f : ℕ) → link_of w ≡ children f → w ≡ f
+children_word w f e = go (ℕ_discrete (w / 0x4000_0000) 0) (ℕ_discrete (w / 0x4000_0000) 1)
   where
-    go : Dec (w / 0x4000_0000 ≡ 0) → Dec (w / 0x4000_0000 ≡ 1) → w < 0x8000_0000
-    go (yes e) d = omega arith
-    go (no h) (yes e) = omega arith
-    go (no h) (no k) = absurd (rw (word_malformed w h k) at i)
+    go : Dec (w / 0x4000_0000 ≡ 0) → Dec (w / 0x4000_0000 ≡ 1) → w ≡ f
+    go (yes h) k = let i = same-children e (word-children w h) in omega arith
+    go (no h) (yes k) = children_position e (word_position w k)
+    go (no h) (no k) = let i = word_malformed w h k in cc
 
-pub link_formed : (w : ℕ) → LinkInside 65536 (link_of w) → malformed ≡ link_of w → ⊥
-unfolding LinkInside
-link_formed w i e = let j : LinkInside 65536 malformed = rw (← e) at i in j
+position_word : (w p : ℕ) → link_of w ≡ position p → w ≡ 0x4000_0000 + p
+position_word w p e = go (ℕ_discrete (w / 0x4000_0000) 0) (ℕ_discrete (w / 0x4000_0000) 1)
+  where
+    go : Dec (w / 0x4000_0000 ≡ 0) → Dec (w / 0x4000_0000 ≡ 1) → w ≡ 0x4000_0000 + p
+    go (yes h) k = children_position (word-children w h) e
+    go (no h) (yes k) = let i = same_position e (word_position w k) in omega arith
+    go (no h) (no k) = position_malformed e (word_malformed w h k)
+
+module _ (nodes positions : ℕ) (w : ℕ) where
+  pub moved_children : (f : ℕ) → link_of w ≡ children f → f + nodes ≡ moved_link nodes positions w
+  unfolding moved_link
+  moved_children f e = let h = children_word w f e in rw (moved_link, e) (omega arith)
+
+  pub moved_position : (p : ℕ) → link_of w ≡ position p → 0x4000_0000 + p + positions ≡ moved_link nodes positions w
+  unfolding moved_link
+  moved_position p e = let h = position_word w p e in rw (moved_link, e) (omega arith)
 
 -- a link inside a tree of at most 65,536 leaves
-pub inside_most : (ws : List ℕ) (n v : ℕ) → LinksInside ws n → v < tree_nodes n → LinkInside 65536 (link_at ws v)
+pub inside_most : (ws : List ℕ) (n v : ℕ) → Accepted ws n → v < tree_nodes n → LinkInside 65536 (link_at ws v)
 unfolding LinkInside
-inside_most ws n v h l = go (link_at ws v) (h.inside v l)
+inside_most ws n v a l =
+    let f = accepted_facts ws n a (omega arith) in
+    go f.sized.few (link_at ws v) (f.inside v l)
   where
-    go : (k : Link) → LinkInside n k → LinkInside 65536 k
-    go (children f) i = let few = h.sized.few in omega arith
-    go (position p) i = let few = h.sized.few in omega arith
-    go malformed i = i
-
-pub accepted_linked : (ws : List ℕ) (n : ℕ) → Accepted ws n → 0 < n → LinksInside ws n
-accepted_linked ws n a p = let f = accepted_facts ws n a p in record { sized = f.sized; inside = f.inside }
+    go : n ≤ 65536 → (k : Link) → LinkInside n k → LinkInside 65536 k
+    go few (children f) i = omega arith
+    go few (position p) i = omega arith
+    go few malformed i = i
 
 -- ---- nodes
 pub moved_seven : (ws : List ℕ) (nodes positions v : ℕ) → length (moved_node ws nodes positions v) ≡ 7

@@ -77,18 +77,7 @@ module _ (ws : List ℕ) (n : ℕ) (us : List ℕ) (m : ℕ) where
       written_next s 0 ((1 + 2 * n) * 7) ((tree_nodes m - 1) * 7) (roots ++ a) b u v lra lb (omega arith) more
       (g ∙ ap (λ (k : ℕ). splice u k b) (sym (zero-add ((1 + 2 * n) * 7))))
 
-  -- with an empty partner
-  pub second_alone : n ≡ 0 → (s t : List ℕ) → t ≡ splice s 0 us → t ≡ splice s 0 (joined_words ws n us m)
-  second_alone e s t f = f ∙ rw e refl
-
-  pub first_alone : (n ≡ 0 → ⊥) → m ≡ 0 → (s t : List ℕ) → t ≡ splice s 0 ws → t ≡ splice s 0 (joined_words ws n us m)
-  first_alone h e s t f = f ∙ ap (splice s 0) (go n m h e)
-    where
-      go : (i j : ℕ) → (i ≡ 0 → ⊥) → j ≡ 0 → ws ≡ joined_words ws i us j
-      go zero j h e = absurd (h refl)
-      go (suc i) zero h e = refl
-      go (suc i) (suc j) h e = absurd (omega arith)
-
+  -- neither is empty
   pub both_joined : (n ≡ 0 → ⊥) → (m ≡ 0 → ⊥) → under_root ws n us m ≡ joined_words ws n us m
   both_joined h k = go n m h k
     where

@@ -1,21 +1,20 @@
 // Two trees joined under a new root. The published code joins none.
 #![tactic(auto)]
 
-ghost use Rattle.std.specs.Prelude.{◌≡◌, true, ◌++◌, map, ◌+◌, ◌*◌, ◌-◌, ◌≤◌, ◌<◌, length, replicate};
+ghost use Rattle.std.specs.Prelude.{◌≡◌, true, ◌++◌, map, ℕ, ◌+◌, ◌*◌, ◌-◌, ◌≤◌, ◌<◌, length, replicate, Ok, IfOk};
 ghost use Rattle.lists.specs.Splice.{splice};
 ghost use Rattle.causes.specs.Causes.{first_cause};
 ghost use Rattle.causes.specs.Refusal.{cause_in};
-ghost use Rattle.aabb.specs.Aabb.{union_of};
-ghost use Rattle.bvh2.specs.Words.{tree_nodes, link_of, box_at};
-ghost use Rattle.bvh2.specs.Causes.{TreeSized, LinkInside, Accepted};
-ghost use Rattle.bvh2.specs.FirstCause.{structure_cause};
-ghost use Rattle.bvh2.specs.Words.{boxed_words};
+ghost use Rattle.bvh2.specs.Said.{said};
+ghost use Rattle.bvh2.specs.Words.{tree_nodes, link_of};
+ghost use Rattle.bvh2.specs.Causes.{LinkInside};
 ghost use Rattle.tree_words.specs.Nodes.{in_turn};
-ghost use Rattle.join.specs.Join.{moved_link, moved_node, first_node, second_node, under_root, joined_words, joined_indices, marks_needed};
+ghost use Rattle.join.specs.Join.{moved_link, moved_node, under_root, joined_words, joined_indices, marks_needed};
 ghost use Rattle.join.specs.Join.{room_for, size_tests, tree_tests, edge_to_spare, sums_fit, join_of, joining_answer};
-ghost use Rattle.join.specs.Steps.{lesser_cause, LinksInside};
+ghost use Rattle.join.specs.Steps.{lesser_cause};
 
-use bvh2::Link;
+use bvh2::{Bvh2, Link};
+use bvh2_check::AcceptedBvh2;
 use causes::Refusal;
 
 // The greatest index word.
@@ -24,97 +23,106 @@ const MOST: usize = 0xffff_ffff;
 // The most edges of a path that the new root's may lengthen.
 const EDGES: u32 = 126;
 
-// Of two trees' causes the one with the lesser number.
-fn first_of(a: Result<(), Refusal>, b: Result<(), Refusal>) -> Result<(), Refusal>
-    ensures { cause_in result ≡ lesser_cause (cause_in a) (cause_in b) }
+// The kind of a link to a position, in the two high bits of its word.
+const POSITION_KIND: usize = words::KIND as usize;
+
+// The two trees of a call.
+#[derive(Clone, Copy, Debug)]
+struct Pair<T> {
+    first: T,
+    second: T,
+}
+
+// By how many nodes a tree's links to children move up, and by how many positions its leaves' links.
+#[derive(Clone, Copy, Debug)]
+struct Shift {
+    nodes: usize,
+    positions: usize,
+    ghost few_nodes: { nodes ≤ 131072 },
+    ghost few_positions: { positions ≤ 65536 },
+}
+
+// What both calls gave, or of two refusals that with the lesser number.
+fn both<T: Copy>(a: Result<T, Refusal>, b: Result<T, Refusal>) -> Result<Pair<T>, Refusal>
+    ensures value { cause_in result ≡ lesser_cause (cause_in a) (cause_in b) }
+    ensures given { IfOk result (λ pair. (a ≡ Ok pair.first) × (b ≡ Ok pair.second)) }
 {
     match (a, b) {
-        (Err(first), Err(second)) => {
-            let lesser = u32::from(second) < u32::from(first);
-            Err(if lesser { second } else { first })
-        }
-        _ => a.and(b),
+        (Ok(first), Ok(second)) => Ok(Pair { first, second }),
+        (Err(first), Err(second)) => Err(first.min(second)),
+        (Err(first), Ok(_)) => Err(first),
+        (Ok(_), Err(second)) => Err(second),
     }
 }
 
-// Whether marks, words and indices are long enough for trees of n and m leaves.
-fn has_room(n: usize, m: usize, marks: usize, words: usize, indices: usize) -> bool
-    requires { n + m ≤ 65536 }
-    ensures { result ≡ room_for n m marks words indices }
+// Whether marks, words and indices are long enough for both trees.
+#[tactic(auto, unfolding(crate::specs::Join::room_for))]
+fn has_room(trees: Pair<Bvh2>, marks: usize, words: usize, indices: usize) -> bool
+    ensures { result ≡ room_for trees.entry.first.leaves trees.entry.second.leaves marks words indices }
 {
+    let (n, m) = (trees.first.leaves, trees.second.leaves);
     (3 * n.max(m)).saturating_sub(1) <= marks
         && (2 * (n + m)).saturating_sub(1) * 7 <= words
         && n + m <= indices
 }
 
-// Causes 1, 2 and 4.
-fn check_sizes(
-    first: &[u32],
+// Both trees by causes 1, 2 and 4. It takes the arguments of `join` one by one: the trees are what it gives.
+fn check_sizes<'a>(
+    first: &'a [u32],
     n: usize,
-    second: &[u32],
+    second: &'a [u32],
     m: usize,
     marks: usize,
     words: usize,
     indices: usize,
-) -> Result<(), Refusal>
-    ensures { cause_in result ≡ first_cause (size_tests (length first.now) n (length second.now) m marks words indices) }
+) -> Result<Pair<Bvh2<'a>>, Refusal>
+    ensures value { cause_in result ≡ first_cause (size_tests (length first.now) n (length second.now) m marks words indices) }
+    ensures first { IfOk result (λ trees. (trees.first.words.now ≡ first.now) × (trees.first.leaves ≡ n)) }
+    ensures second { IfOk result (λ trees. (trees.second.words.now ≡ second.now) × (trees.second.leaves ≡ m)) }
 {
-    first_of(bvh2_check::sizes(first, n), bvh2_check::sizes(second, m))?;
+    let trees = both(bvh2_check::sizes(first, n), bvh2_check::sizes(second, m))?;
     let many = n + m > bvh2::MAX_LEAVES;
     if many {
         return Err(Refusal::TooMany);
     }
-    if !has_room(n, m, marks, words, indices) {
+    if !has_room(trees, marks, words, indices) {
         return Err(Refusal::SliceShort);
     }
-    Ok(())
+    Ok(trees)
 }
 
-// Causes 5 to 7 of the trees themselves; the marks needed are zero afterwards.
-fn check_structures(
-    first: &[u32],
-    n: usize,
-    second: &[u32],
-    m: usize,
-    marks: &mut [u32],
-) -> Result<(), Refusal>
-    requires { TreeSized first.now n × TreeSized second.now m × (marks_needed n m ≤ length marks.old) }
-    ensures value { cause_in result ≡ lesser_cause (structure_cause first.now n) (structure_cause second.now m) }
-    ensures marks_after { marks.new ≡ splice marks.old 0 (replicate (marks_needed n m) 0) }
+// Whether the new root's edge makes no path longer than 127.
+fn edge_to_spare(trees: Pair<AcceptedBvh2>) -> bool
+    ensures { let first = trees.entry.first.tree in let second = trees.entry.second.tree in result
+        ≡ edge_to_spare first.words.now first.leaves second.words.now second.leaves }
 {
-    let a = bvh2_check::structure(first, n, marks);
-    let b = bvh2_check::structure(second, m, marks);
-    first_of(a, b)
-}
-
-// Whether the new root's edge makes no path of two accepted trees longer than 127.
-fn edge_to_spare(first: &[u32], n: usize, second: &[u32], m: usize) -> bool
-    requires { Accepted first.now n × Accepted second.now m }
-    ensures { result ≡ edge_to_spare first.now n second.now m }
-{
-    if n == 0 || m == 0 {
+    let (first, second) = (trees.first.tree, trees.second.tree);
+    if first.leaves == 0 || second.leaves == 0 {
         return true;
     }
-    bvh2_check::within_depth(first, 0, EDGES) && bvh2_check::within_depth(second, 0, EDGES)
+    bvh2_check::within_depth(first.words, 0, EDGES)
+        && bvh2_check::within_depth(second.words, 0, EDGES)
 }
 
-// Causes 5 to 7; the marks needed are zero afterwards.
-fn check_trees(
-    first: &[u32],
-    n: usize,
-    second: &[u32],
-    m: usize,
+// Both trees by causes 5 to 7; the marks needed are zero afterwards.
+fn check_trees<'a>(
+    trees: Pair<Bvh2<'a>>,
     marks: &mut [u32],
-) -> Result<(), Refusal>
-    requires { TreeSized first.now n × TreeSized second.now m × (marks_needed n m ≤ length marks.old) }
-    ensures value { cause_in result ≡ first_cause (tree_tests first.now n second.now m) }
-    ensures marks_after { marks.new ≡ splice marks.old 0 (replicate (marks_needed n m) 0) }
+) -> Result<Pair<AcceptedBvh2<'a>>, Refusal>
+    requires { marks_needed trees.first.leaves trees.second.leaves ≤ length marks.old }
+    ensures value { let first = trees.entry.first in let second = trees.entry.second in cause_in result
+        ≡ first_cause (tree_tests first.words.now first.leaves second.words.now second.leaves) }
+    ensures given { IfOk result (λ accepted. (accepted.first.tree ≡ trees.entry.first) × (accepted.second.tree ≡ trees.entry.second)) }
+    ensures marks_after { marks.new
+        ≡ splice marks.old 0 (replicate (marks_needed trees.entry.first.leaves trees.entry.second.leaves) 0) }
 {
-    check_structures(first, n, second, m, marks)?;
-    if !edge_to_spare(first, n, second, m) {
+    let a = bvh2_check::structure(trees.first, marks);
+    let b = bvh2_check::structure(trees.second, marks);
+    let accepted = both(a, b)?;
+    if !edge_to_spare(accepted) {
         return Err(Refusal::NotOneTree);
     }
-    Ok(())
+    Ok(accepted)
 }
 
 // Whether no word moved up by so much is over 32 bits.
@@ -143,96 +151,89 @@ fn put_moved(list: &[u32], by: usize, out: &mut [u32], at: usize)
     }
 }
 
-// A link with its pair of children moved up by so many nodes, or its position by so many.
-fn moved_link(link: u32, nodes: u32, positions: u32) -> u32
-    requires { LinkInside 65536 (link_of link) × (nodes ≤ 131072) × (positions ≤ 65536) }
-    ensures { result ≡ moved_link nodes positions link }
+// The word of a link whose pair of children or whose position is moved up.
+fn moved_word(link: Link, by: Shift) -> u32
+    requires { LinkInside 65536 (said link) }
+    ensures { (word : ℕ) → link_of word ≡ said link → result ≡ moved_link by.nodes by.positions word }
 {
-    match Link::from(link) {
-        Link::Children(_) => link + nodes,
-        Link::Position(_) => link + positions,
+    match link {
+        Link::Children(first) => (first + by.nodes) as u32,
+        Link::Position(position) => (POSITION_KIND + position + by.positions) as u32,
         Link::Malformed => unreachable!(),
     }
 }
 
-// Node u of a tree of n leaves as node v, its link moved.
-fn move_node(
-    from: &[u32],
-    n: usize,
-    u: usize,
-    nodes: u32,
-    positions: u32,
-    words: &mut [u32],
-    v: usize,
-)
-    requires { LinksInside from.now n × (u < tree_nodes n) × (nodes ≤ 131072) × (positions ≤ 65536) × (v * 7 + 7 ≤ length words.old) }
-    ensures { words.new ≡ splice words.old (v * 7) (moved_node from.now nodes positions u) }
+// Node u of a tree as node v, its link moved.
+fn move_node(from: AcceptedBvh2, u: usize, by: Shift, words: &mut [u32], v: usize)
+    requires { (u < tree_nodes from.tree.leaves) × (v * 7 + 7 ≤ length words.old) }
+    ensures { words.new ≡ splice words.old (v * 7) (moved_node from.entry.tree.words.now by.nodes by.positions u) }
 {
-    let link = moved_link(bvh2::link_word(from, u), nodes, positions);
-    tree_words::copy_node(from, u, words, v, link);
+    let link = moved_word(bvh2::node_link(from.tree.words, u), by);
+    tree_words::copy_node(from.tree.words, u, words, v, link);
 }
 
-// All nodes but the root of a tree of n leaves, each moved up by so many nodes, their links too.
-fn move_rest(from: &[u32], n: usize, nodes: u32, positions: u32, words: &mut [u32])
-    requires { LinksInside from.now n × (0 < n) × (nodes ≤ 131072) × (positions ≤ 65536) × ((tree_nodes n + nodes) * 7 ≤ length words.old) }
-    ensures { words.new ≡ splice words.old ((1 + nodes) * 7)
-        (in_turn (λ v. moved_node from.now nodes positions (v + 1)) (tree_nodes n - 1)) }
+// All nodes but the root of a tree, each moved up by so many nodes, their links too.
+fn move_rest(from: AcceptedBvh2, by: Shift, words: &mut [u32])
+    requires { (0 < from.tree.leaves) × ((tree_nodes from.tree.leaves + by.nodes) * 7 ≤ length words.old) }
+    ensures { words.new ≡ splice words.old ((1 + by.nodes) * 7)
+        (in_turn (λ v. moved_node from.entry.tree.words.now by.nodes by.positions (v + 1)) (tree_nodes from.entry.tree.leaves - 1)) }
 {
-    for v in 1..2 * n - 1 {
-        move_node(from, n, v, nodes, positions, words, v + nodes as usize);
+    for v in 1..from.tree.nodes() {
+        move_node(from, v, by, words, v + by.nodes);
     }
 }
 
-// The new root, and the old roots behind it.
-fn put_roots(first: &[u32], n: usize, second: &[u32], m: usize, words: &mut [u32])
-    requires { Accepted first.now n × Accepted second.now m × (0 < n) × (0 < m) × (21 ≤ length words.old) }
-    ensures { words.new ≡ splice words.old 0
-        (boxed_words (union_of (box_at first.now 0) (box_at second.now 0)) 1
-        ++ first_node first.now n second.now m 0 ++ second_node first.now n second.now m 0) }
+// Both trees, neither empty, under a new root: it stands before the old roots, and these before the other nodes.
+fn put_under_root(trees: Pair<AcceptedBvh2>, words: &mut [u32])
+    requires { (0 < trees.first.tree.leaves) × (0 < trees.second.tree.leaves)
+        × (tree_nodes (trees.first.tree.leaves + trees.second.tree.leaves) * 7 ≤ length words.old) }
+    ensures { let first = trees.entry.first.tree in let second = trees.entry.second.tree in words.new
+        ≡ splice words.old 0 (under_root first.words.now first.leaves second.words.now second.leaves) }
 {
-    let a = bvh2::node_box(first, 0);
-    let b = bvh2::node_box(second, 0);
+    let a = bvh2::node_box(trees.first.tree.words, 0);
+    let b = bvh2::node_box(trees.second.tree.words, 0);
+    let n = trees.first.tree.leaves;
+    let by_roots = Shift {
+        nodes: 2,
+        positions: 0,
+    };
+    let by_first = Shift {
+        nodes: 2 * n,
+        positions: n,
+    };
     tree_words::put_node(words, 0, a.union(b), 1);
-    move_node(first, n, 0, 2, 0, words, 1);
-    move_node(second, m, 0, (2 * n) as u32, n as u32, words, 2);
-}
-
-// Both trees, neither empty, under a new root.
-fn put_under_root(first: &[u32], n: usize, second: &[u32], m: usize, words: &mut [u32])
-    requires { Accepted first.now n × Accepted second.now m × (0 < n) × (0 < m) × (n + m ≤ 65536)
-        × (tree_nodes (n + m) * 7 ≤ length words.old) }
-    ensures { words.new ≡ splice words.old 0 (under_root first.now n second.now m) }
-{
-    put_roots(first, n, second, m, words);
-    move_rest(first, n, 2, 0, words);
-    move_rest(second, m, (2 * n) as u32, n as u32, words);
+    move_node(trees.first, 0, by_roots, words, 1);
+    move_node(trees.second, 0, by_first, words, 2);
+    move_rest(trees.first, by_roots, words);
+    move_rest(trees.second, by_first, words);
 }
 
 // The joined tree's words.
-fn put_words(first: &[u32], n: usize, second: &[u32], m: usize, words: &mut [u32])
-    requires { Accepted first.now n × Accepted second.now m × (n + m ≤ 65536) × (tree_nodes (n + m) * 7 ≤ length words.old) }
-    ensures { words.new ≡ splice words.old 0 (joined_words first.now n second.now m) }
+fn put_words(trees: Pair<AcceptedBvh2>, words: &mut [u32])
+    requires { tree_nodes (trees.first.tree.leaves + trees.second.tree.leaves) * 7 ≤ length words.old }
+    ensures { let first = trees.entry.first.tree in let second = trees.entry.second.tree in words.new
+        ≡ splice words.old 0 (joined_words first.words.now first.leaves second.words.now second.leaves) }
 {
-    if n == 0 {
-        put_front(second, words);
-    } else if m == 0 {
-        put_front(first, words);
+    if trees.first.tree.leaves == 0 {
+        put_front(trees.second.tree.words, words);
+    } else if trees.second.tree.leaves == 0 {
+        put_front(trees.first.tree.words, words);
     } else {
-        put_under_root(first, n, second, m, words);
+        put_under_root(trees, words);
     }
 }
 
 // The joined tree's index words.
-fn put_indices(first: &[u32], panes: usize, second: &[u32], indices: &mut [u32])
-    requires { (length first.now + length second.now ≤ length indices.old) × (sums_fit panes second.now ≡ true) }
-    ensures { indices.new ≡ splice indices.old 0 (joined_indices first.now panes second.now) }
+fn put_indices(list: &[u32], panes: usize, moved: &[u32], indices: &mut [u32])
+    requires { (length list.now + length moved.now ≤ length indices.old) × (sums_fit panes moved.now ≡ true) }
+    ensures { indices.new ≡ splice indices.old 0 (joined_indices list.now panes moved.now) }
 {
-    put_front(first, indices);
-    put_moved(second, panes, indices, first.len());
+    put_front(list, indices);
+    put_moved(moved, panes, indices, list.len());
 }
 
 // Two accepted trees as one, in front of `words` and `indices`, and how many leaves it has: a new root above both. The second's leaves stand behind
-// the first's, and its index words are counted on from the first's panes. `marks` are working words.
+// the first's, and its index words are counted on from the first's panes. `marks` are working words. The C interface lends each slice by itself.
 pub fn join(
     first: &[u32],
     first_indices: &[u32],
@@ -257,12 +258,12 @@ pub fn join(
 {
     let n = first_indices.len();
     let m = second_indices.len();
-    check_sizes(first, n, second, m, marks.len(), words.len(), indices.len())?;
-    check_trees(first, n, second, m, marks)?;
+    let trees = check_sizes(first, n, second, m, marks.len(), words.len(), indices.len())?;
+    let accepted = check_trees(trees, marks)?;
     if !sums_fit(first_panes, second_indices) {
         return Err(Refusal::IndexOver);
     }
-    put_words(first, n, second, m, words);
+    put_words(accepted, words);
     put_indices(first_indices, first_panes, second_indices, indices);
     Ok((n + m) as u32)
 }

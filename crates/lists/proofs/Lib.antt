@@ -6,3 +6,4 @@ pub mod Rising
 pub mod Values
 pub mod Tells
 pub mod Splice
+pub mod Each

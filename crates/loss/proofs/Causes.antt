@@ -87,7 +87,9 @@ module _ (bytes indices : List ℕ) (panes : ℕ) (losses : List ℕ) (rays : Li
   -- where nothing refuses it
   pub record Entering : Type 0 where
     pub whole : length rays % 8 ≡ 0
-    pub entered : Entered bytes indices panes losses rays
+    pub sizes : Fit (length bytes) (length indices)
+    pub fitting : losses_fit panes losses ≡ true
+    pub entered : Entered rays
     pub ray_room : ray_count rays ≤ rayRoom
     pub pane_room : panes ≤ paneRoom
 
@@ -103,12 +105,9 @@ module _ (bytes indices : List ℕ) (panes : ℕ) (losses : List ℕ) (rays : Li
       let r = both_pass (leb (ray_count rays) rayRoom) (leb panes paneRoom) q.1.1.0 in
       record {
         whole = eqb-true (length rays % 8) 0 p.0;
-        entered = record {
-          sizes = record_fit (length bytes) (length indices) q.0;
-          few = leb-true (ray_count rays) 65536 q.1.0;
-          fitting = q.1.1.1.0;
-          accepted = q.1.1.1.1.0;
-        };
+        sizes = record_fit (length bytes) (length indices) q.0;
+        fitting = q.1.1.1.0;
+        entered = record { few = leb-true (ray_count rays) 65536 q.1.0; accepted = q.1.1.1.1.0 };
         ray_room = leb-true (ray_count rays) rayRoom r.0;
         pane_room = leb-true panes paneRoom r.1;
       }

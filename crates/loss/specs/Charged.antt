@@ -3,14 +3,13 @@ use Rattle.std.specs.Prelude.{Result, Ok, Err, true, false, cond, List, [], ◌�
 use Rattle.lists.specs.Splice.{splice}
 use Rattle.lists.specs.Sums.{sum}
 use Rattle.lists.specs.Values.{values}
-use Rattle.causes.proofs.Sizes.{Fit}
 use Rattle.causes.specs.declared.Refusal.{Refusal}
 use Rattle.causes.specs.Refusal.{cause_number}
 use Rattle.ray.specs.declared.Ray.{Ray}
 use Rattle.packed.specs.Packed.{ray_count, rays_accepted}
 use Rattle.walk_record.specs.WalkRay.{walk_ray, forged_ray}
 use Rattle.query.specs.Met.{positions_met, panes_met}
-use Rattle.loss.specs.Loss.{losses_fit, ray_total, pane_total, met_by, tests_by}
+use Rattle.loss.specs.Loss.{ray_total, pane_total, met_by, tests_by}
 use Rattle.loss.specs.declared.RayLoss.{RayLoss}
 
 -- the loss of each pane of a list is added to that pane's total, where there is one
@@ -31,10 +30,9 @@ PaneFound indices panes p (Err refusal) = (cause_number refusal ≡ 10) × (pane
 abbrev pub Spare : (panes : ℕ) → List ℕ → Type 0
 Spare panes totals = (k : ℕ) → k < panes → get_or totals k 0 + 2000000000000 ≤ 18446744073709551615
 
--- nothing but the record's sizes keeps a ray from its walk
-pub record Ready (panes : ℕ) (losses : List ℕ) (ray : Ray) (totals : List ℕ) : Type 0 where
+-- nothing of the ray or of the totals keeps the ray from its walk
+pub record Ready (panes : ℕ) (ray : Ray) (totals : List ℕ) : Type 0 where
   pub accepted : forged_ray (walk_ray ray) ≡ false
-  pub fitting : losses_fit panes losses ≡ true
   pub spare : Spare panes totals
 
 -- totals after a walk that has summed; of one that was refused nothing is said
@@ -43,11 +41,9 @@ Charges bytes indices losses r (Ok found) before after =
     after ≡ charged losses before (panes_met indices (positions_met bytes (length indices) r))
 Charges bytes indices losses r (Err refusal) before after = Unit {0}
 
--- nothing but room for its totals keeps a report from its walks
-pub record Entered (bytes indices : List ℕ) (panes : ℕ) (losses : List ℕ) (rays : List Float) : Type 0 where
-  pub sizes : Fit (length bytes) (length indices)
+-- nothing of its rays keeps a report from its walks
+pub record Entered (rays : List Float) : Type 0 where
   pub few : ray_count rays ≤ 65536
-  pub fitting : losses_fit panes losses ≡ true
   pub accepted : rays_accepted rays ≡ true
 
 -- so many rays of a report have walked: their tests, and both slices with their totals on top of what was there

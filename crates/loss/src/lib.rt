@@ -7,20 +7,19 @@ ghost use Rattle.lists.specs.Sums.{sum_over};
 ghost use Rattle.causes.specs.Causes.{first_cause};
 ghost use Rattle.causes.specs.Refusal.{cause_in};
 ghost use Rattle.causes.proofs.Sizes.{Fit};
-ghost use Rattle.ray.specs.Ray.{ray_from};
+ghost use Rattle.ray.specs.Ray.{ray_from, octant_of};
 ghost use Rattle.packed.specs.Packed.{ray_count};
 ghost use Rattle.query.specs.Met.{positions_met, tests_made, panes_met};
-ghost use Rattle.query.specs.Walk.{RecordSized};
+ghost use Rattle.record_shape.specs.Record.{node_count};
+ghost use Rattle.walk_record.specs.Record.{FieldsFit};
 ghost use Rattle.loss.specs.Loss.{losses_fit, loss_cause, loss_at, is_summed, loss_walked, loss_of, loss_result};
 ghost use Rattle.loss.specs.Loss.{walks_by, report_conditions, walk_conditions, totalled, totals_in, report_of, totals_answer};
 ghost use Rattle.loss.specs.Charged.{charged, PaneFound, Ready, Charges, Entered};
 
-use advance::{Answer, Walk};
+use advance::{Answer, CwBvh, Walk};
 use causes::Refusal;
+use node_slot::Aim;
 use ray::{Beam, Ray};
-
-// More tests than any walk makes.
-const MOST: u32 = 0xffff_ffff;
 
 // The greatest loss of a pane.
 const MOST_LOSS: u32 = 1_000_000;
@@ -35,19 +34,12 @@ pub struct RayLoss {
     pub tests: u32,
 }
 
-// Whether there is a loss for each of so many panes, and none is over 1,000,000.
+// Whether there is a loss for each of so many panes, and none is over 1,000,000. The requirements give the number of panes beside the losses, which
+// need not be as many.
 fn losses_fit(panes: usize, losses: &[u32]) -> bool
     ensures { result ≡ losses_fit panes losses.now }
 {
-    if losses.len() != panes {
-        return false;
-    }
-    for &loss in losses {
-        if loss > MOST_LOSS {
-            return false;
-        }
-    }
-    true
+    losses.len() == panes && losses.iter().all(|&loss| loss <= MOST_LOSS)
 }
 
 // The pane of position p: a fault where the position or its pane is not there.
@@ -74,22 +66,31 @@ fn charge(totals: &mut [u64], k: usize, taken: u64)
     }
 }
 
-// The loss of a ray over a record with nodes, where nothing refuses it on entry. Each pane's loss is added to its total too, where it has one.
-fn walk_losses(
-    bytes: &[u8],
-    indices: &[u32],
+// What rays lose light to: a record that its index words fit, and a loss for each of so many panes. The totals of rays and of panes stay two slices,
+// as callers lend them: a struct of two `&mut` would say in each contract that it still holds the same two; and so Ready, which is of the totals too.
+#[derive(Clone, Copy)]
+struct Scene<'a> {
+    bytes: &'a [u8],
+    indices: &'a [u32],
     panes: usize,
-    losses: &[u32],
-    ray: Ray,
-    totals: &mut [u64],
-) -> Result<RayLoss, Refusal>
-    requires { RecordSized bytes.now (length indices.now) × Ready panes losses.now ray totals.old }
-    ensures result_value { loss_result result ≡ loss_walked bytes.now indices.now panes losses.now ray }
-    ensures charges { Charges bytes.now indices.now losses.now ray result totals.old totals.new }
+    losses: &'a [u32],
+    ghost sizes: { Fit (length bytes.now) (length indices.now) },
+    ghost fitting: { losses_fit panes losses.now ≡ true },
+    ghost fields: { FieldsFit bytes.now },
+}
+
+// The loss of a ray over a record with nodes, where nothing refuses it on entry. Each pane's loss is added to its total too, where it has one.
+// Each query has the loop over a walk written out: miss leaves both loops by a labelled break, as the requirements ask, and a closure could not.
+fn walk_losses(scene: Scene, aim: Aim, totals: &mut [u64]) -> Result<RayLoss, Refusal>
+    requires { (0 < node_count scene.bytes.now) × (aim.octant ≡ octant_of aim.ray.direction) × Ready scene.panes aim.ray totals.old }
+    ensures result_value { loss_result result ≡ loss_walked scene.entry.bytes.now scene.entry.indices.now scene.entry.panes scene.entry.losses.now
+        aim.ray }
+    ensures charges { Charges scene.entry.bytes.now scene.entry.indices.now scene.entry.losses.now aim.ray result totals.old totals.new }
 {
-    let n = indices.len();
-    let octant = ray::octant(ray.direction);
-    let e = node_slot::near_ends(ray.direction);
+    let bvh = CwBvh {
+        bytes: scene.bytes,
+        positions: scene.indices.len(),
+    };
     let mut walk = advance::begin();
     let mut stack = [0u64; 32];
     let mut sum: u64 = 0;
@@ -97,8 +98,8 @@ fn walk_losses(
         while walk.positions.bits > 0 {
             let held = walk.positions;
             let p = advance::first_position(held);
-            let k = pane_at(indices, panes, p)?;
-            let taken = losses[k] as u64;
+            let k = pane_at(scene.indices, scene.panes, p)?;
+            let taken = scene.losses[k] as u64;
             sum += taken;
             charge(totals, k, taken);
             let positions = advance::rest_of(held);
@@ -114,13 +115,10 @@ fn walk_losses(
             current.base,
             current.bits,
             depth,
-            MOST,
-            ray,
-            e,
-            octant,
+            advance::ALL_TESTS,
+            &aim,
             &mut stack,
-            bytes,
-            n,
+            bvh,
         );
         let reply = turn.answer;
         let next = advance::walk_after(turn);
@@ -137,22 +135,18 @@ fn walk_losses(
 }
 
 // The loss of a ray where nothing refuses it on entry, over a record without nodes too.
-fn ray_loss(
-    record: &[u8],
-    indices: &[u32],
-    panes: usize,
-    losses: &[u32],
-    ray: Ray,
-    totals: &mut [u64],
-) -> Result<RayLoss, Refusal>
-    requires { Fit (length «record».now) (length indices.now) × Ready panes losses.now ray totals.old }
-    ensures result_value { loss_result result ≡ loss_walked «record».now indices.now panes losses.now ray }
-    ensures charges { Charges «record».now indices.now losses.now ray result totals.old totals.new }
+#[tactic(auto, using(ray::proofs::Bounds::octant_lt))]
+fn ray_loss(scene: Scene, ray: Ray, totals: &mut [u64]) -> Result<RayLoss, Refusal>
+    requires { Ready scene.panes ray totals.old }
+    ensures result_value { loss_result result ≡ loss_walked scene.entry.bytes.now scene.entry.indices.now scene.entry.panes scene.entry.losses.now
+        ray }
+    ensures charges { Charges scene.entry.bytes.now scene.entry.indices.now scene.entry.losses.now ray result totals.old totals.new }
 {
-    if record.len() == 0 {
+    if scene.bytes.is_empty() {
         return Ok(RayLoss { loss: 0, tests: 0 });
     }
-    walk_losses(record, indices, panes, losses, ray, totals)
+    let aim = Aim::new(ray, ray::octant(ray.direction));
+    walk_losses(scene, aim, totals)
 }
 
 // Refuses losses that do not fit the panes.
@@ -180,10 +174,17 @@ pub fn loss(
     let ray = Ray::new(beam);
     let between = check_losses(panes, losses);
     query::check_entry(true, record.len(), indices.len(), between, ray)?;
-    ray_loss(record, indices, panes, losses, ray, &mut [])
+    let scene = Scene {
+        bytes: record,
+        indices,
+        panes,
+        losses,
+    };
+    ray_loss(scene, ray, &mut [])
 }
 
 // What refuses a report before its walks; there is room for so many totals of rays and of panes.
+// It takes the arguments of `report` one by one: a Scene is made behind it, since its fields say that sizes and losses fit.
 fn check_report(
     record: &[u8],
     indices: &[u32],
@@ -217,79 +218,53 @@ fn check_report(
 }
 
 // Looks for a fault in the walk of each ray.
-fn check_walks(
-    record: &[u8],
-    indices: &[u32],
-    panes: usize,
-    losses: &[u32],
-    rays: &[f32],
-) -> Result<(), Refusal>
-    requires { Entered «record».now indices.now panes losses.now rays.now }
-    ensures { cause_in result ≡ first_cause (walk_conditions «record».now indices.now panes losses.now rays.now) }
+fn check_walks(scene: Scene, rays: &[f32]) -> Result<(), Refusal>
+    requires { Entered rays.now }
+    ensures { cause_in result ≡ first_cause (walk_conditions scene.entry.bytes.now scene.entry.indices.now scene.entry.panes
+        scene.entry.losses.now rays.now) }
 {
     for i in 0..rays.len() / packed::RAY {
         let ray = packed::ray_at(rays, i);
-        ray_loss(record, indices, panes, losses, ray, &mut [])?;
+        ray_loss(scene, ray, &mut [])?;
     }
     Ok(())
 }
 
 // Writes the totals of ray i, whose walk has no fault; its node tests.
 fn total_ray(
-    record: &[u8],
-    indices: &[u32],
-    panes: usize,
-    losses: &[u32],
+    scene: Scene,
     ray: Ray,
     i: usize,
     ray_totals: &mut [u64],
     pane_totals: &mut [u64],
 ) -> u32
-    requires { Fit (length «record».now) (length indices.now) × Ready panes losses.now ray pane_totals.old
-        × (is_summed (loss_walked «record».now indices.now panes losses.now ray).answer ≡ true) × (i < length ray_totals.old) }
-    ensures value { result ≡ tests_made «record».now (length indices.now) ray }
-    ensures ray_totals_after { ray_totals.new ≡ set ray_totals.old i
-        (sum_over (loss_at indices.now losses.now) (positions_met «record».now (length indices.now) ray)) }
-    ensures pane_totals_after { pane_totals.new ≡ charged losses.now pane_totals.old
-        (panes_met indices.now (positions_met «record».now (length indices.now) ray)) }
+    requires { Ready scene.panes ray pane_totals.old
+        × (is_summed (loss_walked scene.bytes.now scene.indices.now scene.panes scene.losses.now ray).answer ≡ true) × (i < length ray_totals.old) }
+    ensures value { result ≡ tests_made scene.entry.bytes.now (length scene.entry.indices.now) ray }
+    ensures ray_totals_after { ray_totals.new ≡ set ray_totals.old i (sum_over (loss_at scene.entry.indices.now scene.entry.losses.now)
+        (positions_met scene.entry.bytes.now (length scene.entry.indices.now) ray)) }
+    ensures pane_totals_after { pane_totals.new ≡ charged scene.entry.losses.now pane_totals.old
+        (panes_met scene.entry.indices.now (positions_met scene.entry.bytes.now (length scene.entry.indices.now) ray)) }
 {
-    let found = ray_loss(record, indices, panes, losses, ray, pane_totals).unwrap();
+    let found = ray_loss(scene, ray, pane_totals).unwrap();
     ray_totals[i] = found.loss;
     found.tests
 }
 
 // Writes the totals of rays whose walks have no fault; the node tests of all.
-fn total(
-    record: &[u8],
-    indices: &[u32],
-    panes: usize,
-    losses: &[u32],
-    rays: &[f32],
-    ray_totals: &mut [u64],
-    pane_totals: &mut [u64],
-) -> u64
-    requires entered { Entered «record».now indices.now panes losses.now rays.now }
-    requires rays_in_bounds { (ray_count rays.now ≤ length ray_totals.old) × (panes ≤ length pane_totals.old)
-        × (all_below (walks_by «record».now indices.now panes losses.now rays.now) (ray_count rays.now) ≡ true) }
+fn total(scene: Scene, rays: &[f32], ray_totals: &mut [u64], pane_totals: &mut [u64]) -> u64
+    requires entered { Entered rays.now }
+    requires rays_in_bounds { (ray_count rays.now ≤ length ray_totals.old) × (scene.panes ≤ length pane_totals.old)
+        × (all_below (walks_by scene.bytes.now scene.indices.now scene.panes scene.losses.now rays.now) (ray_count rays.now) ≡ true) }
     ensures { record { answer = totalled result; ray_totals = ray_totals.new; pane_totals = pane_totals.new }
-        ≡ totals_in «record».now indices.now panes losses.now rays.now
+        ≡ totals_in scene.entry.bytes.now scene.entry.indices.now scene.entry.panes scene.entry.losses.now rays.now
         ray_totals.old pane_totals.old }
 {
-    pane_totals[..panes].fill(0);
+    pane_totals[..scene.panes].fill(0);
     let mut tests: u64 = 0;
     for i in 0..rays.len() / packed::RAY {
         let ray = packed::ray_at(rays, i);
-        let made = total_ray(
-            record,
-            indices,
-            panes,
-            losses,
-            ray,
-            i,
-            ray_totals,
-            pane_totals,
-        );
-        tests += made as u64;
+        tests += total_ray(scene, ray, i, ray_totals, pane_totals) as u64;
     }
     tests
 }
@@ -318,15 +293,13 @@ pub fn report(
         ray_totals.len(),
         pane_totals.len(),
     )?;
-    check_walks(record, indices, panes, losses, rays)?;
-    let tests = total(
-        record,
+    let scene = Scene {
+        bytes: record,
         indices,
         panes,
         losses,
-        rays,
-        ray_totals,
-        pane_totals,
-    );
+    };
+    check_walks(scene, rays)?;
+    let tests = total(scene, rays, ray_totals, pane_totals);
     Ok(tests)
 }

@@ -1,4 +1,5 @@
 // Internal: functions that bench/ measures, each exported under its name. They are no part of the interface; bench/ compares their answers.
+// C takes one number for an answer: 0 or REFUSED where there is none.
 #![tactic(auto)]
 
 ghost use Rattle.std.specs.Prelude.{◌≡◌, ◌+◌, ◌*◌, ◌≤◌, ◌<◌, length};
@@ -9,6 +10,7 @@ ghost use Rattle.cost.specs.Rows.{fill, RowsReady};
 
 use aabb::Aabb;
 use causes::Refusal;
+use node_slot::Aim;
 use ray::{Ray, Vec3};
 use traverse::{Answer, Walker};
 
@@ -16,10 +18,10 @@ use traverse::{Answer, Walker};
 fn fill_masks(record: &[u8], ray: Ray, octant: u32, m: usize, out: &mut [u32])
     requires { (octant < 8) × (80 * m ≤ length «record».now) × (m ≤ length out.old) }
 {
-    let e = node_slot::near_ends(ray.direction);
+    let aim = Aim::new(ray, octant);
     for i in 0..m {
         let node = node::node_ref(record, i);
-        out[i] = node_slot::intersect_ray(node, node.metas(), ray, e, octant);
+        out[i] = node_slot::intersect_ray(node, &aim);
     }
 }
 
@@ -131,11 +133,12 @@ pub extern "C" fn measured_orders(words: &[u32], cases: &[u32], out: &mut [u32])
 
 // Causes 1, 2, 5, 6 and 7 of a tree of n leaves; 4 if there are not three marks to a leaf.
 fn accept(words: &[u32], n: usize, marks: &mut [u32]) -> Result<(), Refusal> {
-    bvh2_check::sizes(words, n)?;
+    let tree = bvh2_check::sizes(words, n)?;
     if n > marks.len() / 3 {
         return Err(Refusal::SliceShort);
     }
-    bvh2_check::structure(words, n, marks)
+    bvh2_check::structure(tree, marks)?;
+    Ok(())
 }
 
 // The number of the first of these causes, or 0.
@@ -147,7 +150,7 @@ pub extern "C" fn measured_accept(words: &[u32], n: usize, marks: &mut [u32]) ->
     }
 }
 
-// The tables of an accepted tree.
+// The tables of an accepted tree, in two slices that C lends.
 #[unsafe(no_mangle)]
 pub extern "C" fn measured_costs(
     words: &[u32],

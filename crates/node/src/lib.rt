@@ -19,7 +19,7 @@ pub struct Slot {
     pub max_z: u8,
 }
 
-// A node; p is kept as bits.
+// A node; p is kept as bits, and metas and slots are two arrays, as in the published node.
 #[derive(Clone, Copy)]
 pub struct Node {
     pub px: u32,
@@ -50,7 +50,8 @@ pub fn node_ref(record: &[u8], i: usize) -> NodeRef<'_>
     NodeRef { bytes: &nodes[i] }
 }
 
-// The offset of a slot's byte in its node: the axis 0, 1, 2 for x, y, z, the end 0 for min, 1 for max.
+// The offset of a slot's byte in its node: the axis 0, 1, 2 for x, y, z, the end 0 for min, 1 for max. A slot is a number below 8, as the index of
+// arrays of eight: a type of its own would be no plainer, since every use takes the number out of it. Axis and end are factors of the sum.
 pub fn slot_offset(axis: usize, end: usize, slot: usize) -> usize
     requires { (axis < 3) × (end < 2) × (slot < 8) }
     ensures { (result ≡ slot_offset axis end slot) × (result < 80) }
@@ -58,7 +59,8 @@ pub fn slot_offset(axis: usize, end: usize, slot: usize) -> usize
     32 + 16 * axis + 8 * end + slot
 }
 
-// The reference is copied out of its field where a whole slice is read from it: only so is that proved.
+// The reference is copied out of its field where a whole slice is read from it: only so is that proved. Methods that differ in an offset are the
+// published node's fields, by their names.
 impl<'a> NodeRef<'a> {
     // A byte of a slot's box.
     pub fn corner(self, axis: usize, end: usize, slot: usize) -> u8

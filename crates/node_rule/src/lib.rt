@@ -5,7 +5,7 @@ ghost use Rattle.std.specs.Prelude.{◌≡◌, ℕ, ◌+◌, ◌-◌, ◌*◌, �
 ghost use Rattle.std.specs.Int.Bits.{bit_and};
 ghost use Rattle.words.specs.Fields.{field};
 ghost use Rattle.words.specs.Ones.{ones_below};
-ghost use Rattle.node.specs.Node.{node_from, node_at, MetaWord, inner_bit};
+ghost use Rattle.node.specs.Node.{node_from, node_at, inner_bit};
 ghost use Rattle.node_rule.specs.Rule.{point_ok, exponent_ok, head_ok, children_ok, slots_ok, node_rule};
 ghost use Rattle.node_rule.specs.Tells.{Tells};
 ghost use Rattle.node_rule.specs.Words.{Bytes, InnerRule, LeafRule, MetaRule, RoomOf, ones_top};
@@ -13,6 +13,7 @@ ghost use Rattle.node_rule.specs.Words.{Bytes, InnerRule, LeafRule, MetaRule, Ro
 use node::NodeRef;
 
 // Whether a coordinate of p, given as bits, is within 2^40 of zero: its bits without the sign don't exceed those of 2^40.
+#[tactic(auto, using(crate::proofs::PointBits::point_bits))]
 fn point_ok(bits: u32) -> bool
     ensures { result ≡ point_ok bits }
 {
@@ -20,6 +21,7 @@ fn point_ok(bits: u32) -> bool
 }
 
 // Whether an exponent byte is 53 to 161.
+#[tactic(auto, unfolding(crate::specs::Rule::exponent_ok))]
 fn exponent_ok(e: u8) -> bool
     ensures { result ≡ exponent_ok e }
 {
@@ -27,6 +29,7 @@ fn exponent_ok(e: u8) -> bool
 }
 
 // Whether p and e of a node are in their ranges.
+#[tactic(auto, unfolding(crate::specs::Rule::head_ok))]
 fn head_ok(node: NodeRef) -> bool
     ensures { result ≡ head_ok (node_from node.entry.bytes.now 0) }
 {
@@ -48,10 +51,11 @@ pub fn child_count(imask: u8) -> u32
 }
 
 // Whether the children of a node, number i of m, come after it and exist.
-fn children_ok(node: NodeRef, imask: u8, m: usize, i: usize) -> bool
-    requires { imask ≡ (node_from node.bytes.now 0).imask }
+#[tactic(auto, unfolding(crate::specs::Rule::children_ok))]
+fn children_ok(node: NodeRef, m: usize, i: usize) -> bool
     ensures { result ≡ children_ok (node_from node.entry.bytes.now 0) m i }
 {
+    let imask = node.imask();
     let base = node.child_base_idx() as usize;
     imask == 0 || (i < base && base + child_count(imask) as usize <= m)
 }
@@ -76,6 +80,7 @@ fn spread(imask: u8) -> u64
 }
 
 // Each byte that inner has is 56 plus its place.
+#[tactic(auto, using(crate::proofs::MetaWords::inner_tells))]
 fn inner_ok(meta8: u64, imask: u8, inner: u64) -> bool
     requires { Bytes inner (λ k. inner_bit imask k * 255) }
     ensures { Tells ((k : ℕ) → k < 8 → InnerRule (field 8 k meta8) (inner_bit imask k) k) result }
@@ -84,6 +89,7 @@ fn inner_ok(meta8: u64, imask: u8, inner: u64) -> bool
 }
 
 // The bytes that inner has not.
+#[tactic(auto, using(crate::proofs::MetaWords::rest_is))]
 fn rest(meta8: u64, inner: u64) -> u64
     ensures { Bytes result (λ k. bit_and (field 8 k meta8) (255 - field 8 k inner)) }
 {
@@ -91,6 +97,7 @@ fn rest(meta8: u64, inner: u64) -> u64
 }
 
 // The three high bits of each byte.
+#[tactic(auto, using(crate::proofs::MetaWords::tops_are))]
 fn tops(leaf: u64) -> u64
     ensures { Bytes result (λ k. field 8 k leaf / 32) × (result ≤ 0x0707_0707_0707_0707) }
 {
@@ -98,6 +105,7 @@ fn tops(leaf: u64) -> u64
 }
 
 // How many of the three low bits are set in each byte.
+#[tactic(auto, using(crate::proofs::MetaWords::ones_are))]
 fn ones3(t: u64) -> u64
     requires { t ≤ 0x0707_0707_0707_0707 }
     ensures { Bytes result (λ k. ones_top (field 8 k t)) × (result ≤ 0x0303_0303_0303_0303) }
@@ -108,6 +116,7 @@ fn ones3(t: u64) -> u64
 }
 
 // Each byte is 0 or a leaf code whose positions end within room.
+#[tactic(auto, using(crate::proofs::MetaWords::leaves_fail, crate::proofs::MetaWords::leaves_tell))]
 fn leaves_ok(leaf: u64, room: u32) -> bool
     requires { room ≤ 24 }
     ensures { Tells ((k : ℕ) → k < 8 → LeafRule (field 8 k leaf) room) result }
@@ -145,29 +154,29 @@ fn room_of(base: u32, n: usize) -> u32
 }
 
 // Whether the eight slots of a node meet the rule, with n positions.
-fn slots_ok(node: NodeRef, meta8: u64, imask: u8, n: usize) -> bool
-    requires { MetaWord (node_from node.bytes.now 0) meta8 × (imask ≡ (node_from node.bytes.now 0).imask) }
+#[tactic(auto, using(crate::proofs::Slots::slots_word))]
+fn slots_ok(node: NodeRef, n: usize) -> bool
     ensures { result ≡ slots_ok 8 (node_from node.entry.bytes.now 0) n }
 {
     let room = room_of(node.primitive_base_idx(), n);
-    metas_ok(meta8, imask, room)
+    metas_ok(node.metas(), node.imask(), room)
 }
 
-// Whether a node, whose metas and imask are these, meets the node rule as node i of a record of m nodes and n positions.
-pub fn meets_rule(node: NodeRef, meta8: u64, imask: u8, i: usize, m: usize, n: usize) -> bool
-    requires { MetaWord (node_from node.bytes.now 0) meta8 × (imask ≡ (node_from node.bytes.now 0).imask) }
+// Whether a node meets the node rule as node i of a record of m nodes and n positions: the three are the definition's own arguments.
+#[tactic(auto, unfolding(crate::specs::Rule::node_rule))]
+pub fn meets_rule(node: NodeRef, i: usize, m: usize, n: usize) -> bool
     ensures { result ≡ node_rule (node_from node.entry.bytes.now 0) m n i }
 {
-    head_ok(node) && children_ok(node, imask, m, i) && slots_ok(node, meta8, imask, n)
+    head_ok(node) && children_ok(node, m, i) && slots_ok(node, n)
 }
 
 // Whether node i of a record of m nodes and n positions meets the node rule. It does not call `meets_rule`: that has one caller, the walk's test of a
 // node, into whose loop it is compiled.
+#[tactic(auto, unfolding(crate::specs::Rule::node_rule))]
 pub fn node_rule(s: &[u8], i: usize, m: usize, n: usize) -> bool
     requires { 80 * i + 80 ≤ length s.now }
     ensures { result ≡ node_rule (node_at s.now i) m n i }
 {
     let node = node::node_ref(s, i);
-    let imask = node.imask();
-    head_ok(node) && children_ok(node, imask, m, i) && slots_ok(node, node.metas(), imask, n)
+    head_ok(node) && children_ok(node, m, i) && slots_ok(node, n)
 }

@@ -55,7 +55,7 @@ module _ (s : List ℕ) (o k : ℕ) where
   far_z_lem true = refl
   far_z_lem false = refl
 
-  pub slot_is : (v : Node) (r : Ray) → slot_passes s o (ends_of r.direction) (ray_grid_of v r) (near_limit r) r.tmax k ≡ passes v (slot_from s o k) r
+  pub slot_is : (v : Node) (r : Ray) → slot_passes s o (ends_of r.direction) (ray_grid_of v r) k ≡ passes v (slot_from s o k) r
   unfolding slot_passes box_passes passes near_of far_of ray_grid_of
   slot_is v r =
       rw (

@@ -7,7 +7,6 @@ use native.Mathlib.Nat.{mod-eq_of_lt, mul_comm, zero-mul}
 use native.Mathlib.Numerals.{add-one}
 use native.Mathlib.Omega.{arith}
 use lib.Bits.{bit_and, bit_or, and_mask, and_zero_r}
-use lib.Ieee.{Float}
 use Rattle.words.specs.Fields.{field}
 use Rattle.words.specs.Ors.{or_of}
 use Rattle.words.proofs.Fields.{field_lt, field_is, field_and}
@@ -21,7 +20,7 @@ use Rattle.node.proofs.RoundTrip.{slots_at_lem}
 use Rattle.node_meta.specs.Meta.{child_bits, bit_index, each_byte}
 use Rattle.node_meta.proofs.Decode.{child_byte, index_byte, index_lt}
 use Rattle.node_slot.specs.Mask.{only_if, hit_bits, passes_slot, slot_hit, hit_mask_of, hit_mask}
-use Rattle.node_slot.specs.Slot.{near_limit, passes}
+use Rattle.node_slot.specs.Slot.{passes}
 use Rattle.node_slot.specs.Parts.{ray_grid_of, ends_of, slot_passes, word_hit, word_mask, Marks, PlacesFit}
 use Rattle.node_slot.specs.declared.RayGrid.{RayGrid}
 use Rattle.node_slot.specs.declared.Ends.{Ends}
@@ -88,19 +87,19 @@ mask_none v test o marks pass z g p =
     ∙ no_bits
 
 -- ---- the whole test, as code makes it up
-module _ (s : List ℕ) (o : ℕ) (r : Ray) (octant : ℕ) (e : Ends) (g : RayGrid) (near : Float) (marks : ℕ) (p : e ≡ ends_of r.direction)
+module _ (s : List ℕ) (o : ℕ) (r : Ray) (octant : ℕ) (e : Ends) (g : RayGrid) (marks : ℕ) (p : e ≡ ends_of r.direction)
     (q : g ≡ ray_grid_of (node_from s o) r)
-    (n : near ≡ near_limit r) (m : Marks (slot_passes s o e g near r.tmax) marks) where
-  slot_passed : (k : ℕ) → k < 8 → slot_passes s o e g near r.tmax k ≡ passes_slot (node_from s o) r k
-  slot_passed k l = rw (p, q, n) (slot_is s o k (node_from s o) r) ∙ ap (λ (t : Slot). passes (node_from s o) t r) (sym (slots_at_lem s o k l))
+    (m : Marks (slot_passes s o e g) marks) where
+  slot_passed : (k : ℕ) → k < 8 → slot_passes s o e g k ≡ passes_slot (node_from s o) r k
+  slot_passed k l = rw (p, q) (slot_is s o k (node_from s o) r) ∙ ap (λ (t : Slot). passes (node_from s o) t r) (sym (slots_at_lem s o k l))
 
   pub nothing_marked : marks ≡ 0 → hit_mask (node_from s o) r octant ≡ 0
   unfolding hit_mask
-  nothing_marked z = mask_none (node_from s o) (passes_slot (node_from s o) r) octant marks (slot_passes s o e g near r.tmax) z m slot_passed
+  nothing_marked z = mask_none (node_from s o) (passes_slot (node_from s o) r) octant marks (slot_passes s o e g) z m slot_passed
 
   pub mask_whole : (w child index : ℕ) → octant < 8 → MetaWord (node_from s o) w → child ≡ each_byte child_bits w → index
       ≡ each_byte (bit_index octant) w
       → word_mask 8 (bit_and child marks) index ≡ hit_mask (node_from s o) r octant
   unfolding hit_mask
   mask_whole w child index l d f h =
-      rw (f, h) (mask_is (node_from s o) (passes_slot (node_from s o) r) octant w marks (slot_passes s o e g near r.tmax) l d m slot_passed)
+      rw (f, h) (mask_is (node_from s o) (passes_slot (node_from s o) r) octant w marks (slot_passes s o e g) l d m slot_passed)

@@ -11,7 +11,7 @@ use Rattle.ray.specs.declared.Ray.{Ray}
 use Rattle.ray.specs.Ray.{below_zero}
 use Rattle.node.specs.declared.Node.{Node}
 use Rattle.node.specs.Node.{slot_offset}
-use Rattle.node_slot.specs.Slot.{adjusted_inverse, adjusted_origin, plane_at}
+use Rattle.node_slot.specs.Slot.{near_limit, adjusted_inverse, adjusted_origin, plane_at}
 use Rattle.node_slot.specs.Mask.{only_if}
 use Rattle.node_slot.specs.declared.RayGrid.{RayGrid}
 use Rattle.node_slot.specs.declared.Ends.{Ends}
@@ -26,7 +26,7 @@ point_of v = record { x = of_bits binary32 v.px; y = of_bits binary32 v.py; z = 
 
 -- the ray in a node's grid
 unfoldable pub ray_grid_of : Node → Ray → RayGrid
-unfolding adjusted_inverse adjusted_origin
+unfolding adjusted_inverse adjusted_origin near_limit
 ray_grid_of v r = record {
   inverse = record {
     x = adjusted_inverse v.ex r.inverse.x;
@@ -40,6 +40,8 @@ ray_grid_of v r = record {
         y = adjusted_origin v.py r.origin.y r.inverse.y;
         z = adjusted_origin v.pz r.origin.z r.inverse.z;
       };
+  near = near_limit r;
+  tmax = r.tmax;
 }
 
 -- the end of an axis that is met first
@@ -50,23 +52,23 @@ abbrev pub ends_of : Vec3 → Ends
 ends_of d = record { x = near_end d.x; y = near_end d.y; z = near_end d.z }
 
 -- a box of six bytes, the three met first and the three others
-unfoldable pub box_passes : ℕ → ℕ → ℕ → ℕ → ℕ → ℕ → RayGrid → Float → Float → Bool
+unfoldable pub box_passes : ℕ → ℕ → ℕ → ℕ → ℕ → ℕ → RayGrid → Bool
 unfolding max_of min_of plane_at
-box_passes nx ny nz fx fy fz g near tmax =
+box_passes nx ny nz fx fy fz g =
     le
     (max_of (max_of (max_of (plane_at nx g.inverse.x g.origin.x) (plane_at ny g.inverse.y g.origin.y))
-    (plane_at nz g.inverse.z g.origin.z)) near)
+    (plane_at nz g.inverse.z g.origin.z)) g.near)
     (min_of (min_of (min_of (plane_at fx g.inverse.x g.origin.x) (plane_at fy g.inverse.y g.origin.y))
-    (plane_at fz g.inverse.z g.origin.z)) tmax)
+    (plane_at fz g.inverse.z g.origin.z)) g.tmax)
 
 -- slot k of the node at o
-unfoldable pub slot_passes : List ℕ → ℕ → Ends → RayGrid → Float → Float → ℕ → Bool
+unfoldable pub slot_passes : List ℕ → ℕ → Ends → RayGrid → ℕ → Bool
 unfolding box_passes
-slot_passes s o e g near tmax k =
+slot_passes s o e g k =
     box_passes
     (get_or s (o + slot_offset 0 e.x k) 0) (get_or s (o + slot_offset 1 e.y k) 0) (get_or s (o + slot_offset 2 e.z k) 0)
     (get_or s (o + slot_offset 0 (1 - e.x) k) 0) (get_or s (o + slot_offset 1 (1 - e.y) k) 0) (get_or s (o + slot_offset 2 (1 - e.z) k) 0)
-    g near tmax
+    g
 
 -- a byte for each slot: 7 where it is passed, 0 where not
 pub record Marks (pass : ℕ → Bool) (w : ℕ) : Type 0 where

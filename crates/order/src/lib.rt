@@ -15,6 +15,9 @@ use aabb::Aabb;
 use ray::Vec3;
 use std::array;
 
+// Eight places and a count, the form that the requirements give children, boxes and costs: there is no heap, and a count over 8 is cut once, before
+// the functions that ask for at most 8.
+
 // A child, a slot and what the pair costs.
 #[derive(Clone, Copy)]
 struct Best {
@@ -73,7 +76,7 @@ fn best_slot(row: [f32; 8], child: &[usize; 8], c: usize) -> Best
     b
 }
 
-// The cheapest pair of a child without a slot and a slot without a child.
+// The cheapest pair of a child without a slot and a slot without a child: the two arrays of an assignment, as the definition takes them.
 fn best_pair(cost: &[[f32; 8]; 8], slot: &[usize; 8], child: &[usize; 8], n: usize) -> Best
     requires { n ≤ 8 }
     ensures { result ≡ best_open cost.now slot.now child.now n }
@@ -183,7 +186,7 @@ pub fn direction_costs(parent: Aabb, boxes: [Aabb; 8], count: usize) -> [[f32; 8
     cost_rows(parent.center(), boxes, count.min(8))
 }
 
-// Element c, or all ones where c is not below 8.
+// Element c, or all ones where c is not below 8: so a slot without a child is told in the published code, by no Option.
 fn child_or_none(children: [u32; 8], c: usize) -> u32
     ensures { result ≡ get_or children c 0xffff_ffff }
 {

@@ -11,7 +11,7 @@ const LEAST_EXTENT: f32 = 1e-20;
 // The part of an extent that a step covers.
 const DENOM: f32 = 1.0 / 255.0;
 
-// The extent's 255th part, with 1e-20 in the place of a smaller extent.
+// The extent's 255th part, with 1e-20 in the place of a smaller extent. Its two ends are coordinates of two corners: a pair of them has no other use.
 fn extent_scale(lo: f32, hi: f32) -> f32
     ensures { result ≡ extent_scale lo hi }
 {

@@ -2,13 +2,14 @@
 use mathlib.Core.Bool.{false}
 use mathlib.Core.List.{List}
 use mathlib.Core.Path.{◌≡◌, refl, sym, ap, ◌∙◌, subst}
-use Prim.Native.Nat.{ℕ, zero, suc, ◌*◌, ◌≤◌}
+use Prim.Native.Nat.{ℕ, zero, suc, ◌*◌, ◌≤◌, ◌<◌}
 use native.Mathlib.Omega.{arith}
 use lib.Ieee.{Float}
 use lib.ListN.{length, replicate}
 use borrow.Author.Tests.{le-leb}
 use Rattle.words.specs.Fields.{field}
 use Rattle.words.specs.Ones.{ones_below}
+use Rattle.causes.proofs.Sizes.{Fit}
 use Rattle.faststack.specs.Stack.{capacity}
 use Rattle.ray.specs.declared.Ray.{Ray}
 use Rattle.ray.specs.Ray.{octant_of}
@@ -17,7 +18,6 @@ use Rattle.walk.specs.Tests.{Tests}
 use Rattle.walk.specs.Step.{fresh, done, emptied, step_of}
 use Rattle.walk.specs.Queries.{Reaction, QueryOutcome, query, steps_for}
 use Rattle.walk.specs.Slots.{tests_of}
-use Rattle.walk.specs.WordStep.{WalkerWords}
 use Rattle.walk.specs.WordQueries.{OutcomeWords}
 use Rattle.walk.proofs.WordRuns.{fresh_range}
 use Rattle.walk.proofs.WordQueries.{fresh_query}
@@ -27,11 +27,9 @@ use Rattle.walk_record.specs.Walk.{step_at, query_at}
 use Rattle.walk_record.proofs.WalkRay.{walk_ray_laws}
 use Rattle.walk_record.proofs.Steps.{decodes, step_range, step_falls}
 use Rattle.advance.specs.declared.Walk.{Walk}
-use Rattle.advance.specs.Turn.{walker_of, begun, Walkable}
-use Rattle.node_slot.specs.declared.Ends.{Ends}
-use Rattle.node_slot.specs.Parts.{ends_of}
+use Rattle.advance.specs.Turn.{walker_of, begun}
 use Rattle.query.specs.Walk.{RecordSized}
-use Rattle.query.proofs.Leads.{Steady, OnWay, Leads}
+use Rattle.query.proofs.Leads.{Steady, Leads}
 
 -- no position is in hand
 no_ones : ones_below 32 0 ≡ 0
@@ -49,7 +47,11 @@ empty_lists (suc m) e T react k n ray x h f = absurd (omega arith)
 
 -- ---- over a record's bytes
 
--- steps there are steady,
+-- of fitting sizes, with nodes
+pub sized_of : (bytes : List ℕ) (n : ℕ) → Fit (length bytes) n → 0 < node_count bytes → RecordSized bytes n
+sized_of bytes n fit some = record { whole = fit.whole; some = some; nodes = fit.small; positions = fit.few }
+
+-- steps there are steady
 pub steady : (bytes : List ℕ) (n : ℕ) → RecordSized bytes n → FieldsFit bytes → Steady (node_count bytes) (node_words_at bytes by_boxes) n
 unfolding step_at
 steady bytes n sized fit = record {
@@ -59,20 +61,6 @@ steady bytes n sized fit = record {
   range = step_range (nodes_at bytes) by_boxes walk_ray_laws fit n;
   falls = step_falls (nodes_at bytes) by_boxes walk_ray_laws fit n;
   told = walk_ray_laws.told_accepted;
-}
-
--- and the core may be called
-pub walkable : (bytes : List ℕ) (n : ℕ) → RecordSized bytes n → (w : WalkerWords WalkRay) → OnWay (node_count bytes) (node_words_at bytes by_boxes) w
-    → (e : Ends) → e ≡ ends_of w.ray.ray.direction
-    → Walkable bytes n w.ray.ray e w.ray.octant w.depth (length w.stack)
-walkable bytes n sized w o e q = record {
-  whole = sized.whole;
-  nodes = sized.nodes;
-  positions = sized.positions;
-  ends = q;
-  eight = walk_ray_laws.octant_lt w.ray o.accepted;
-  deep = o.deep;
-  stack = o.range.room;
 }
 
 module _ {a : Type 0} (bytes : List ℕ) (n : ℕ) (fit : FieldsFit bytes) (react : ℕ → WalkRay → a → Reaction Float a) (x : a) (ray : Ray)

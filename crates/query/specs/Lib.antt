@@ -1,3 +1,4 @@
+pub mod Begun
 pub mod Entry
 pub mod Met
 pub mod Result

@@ -36,7 +36,11 @@ pub fn safe_inverse(v: f32) -> f32
     ensures { result ≡ safe_inverse v }
 {
     if -1.1920928955078125e-7 <= v && v <= 1.1920928955078125e-7 {
-        8388608.0_f32.copysign(v)
+        if v.is_sign_negative() {
+            -8388608.0
+        } else {
+            8388608.0
+        }
     } else {
         1.0 / v
     }

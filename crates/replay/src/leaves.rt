@@ -1,9 +1,7 @@
 // The stored cases of rays, boxes and quantised ends.
-ghost use Rattle.std.specs.Prelude.{◌≤◌};
-
 use aabb::Aabb;
 use ray::{Beam, Ray};
-use stored::{beam, real, same, same_vector, vector, word};
+use stored::{beam, behind, real, same, same_vector, vector, word};
 
 // A float, its safe inverse.
 fn safe_inverse(case: &[u8]) -> bool {
@@ -20,11 +18,10 @@ fn rays(case: &[u8]) -> bool {
 }
 
 // The box in the six words from word i on.
-fn box_at(case: &[u8], i: usize) -> Aabb
-    requires { i ≤ 1000 }
-{
-    let min = vector(case, i);
-    let max = vector(case, i + 3);
+fn box_at(case: &[u8], i: usize) -> Aabb {
+    let corners = behind(case, i);
+    let min = vector(corners, 0);
+    let max = vector(corners, 3);
     Aabb { min, max }
 }
 

@@ -30,9 +30,10 @@ fn answers_with(case: &[u8], record: &[u8], words: &mut [u32]) -> bool {
     } else {
         0
     };
-    verdict(case) == Some(answer) && cleared_words(words, WORD, used)
+    verdict(case) == Some(answer) && cleared_words(words, used)
 }
 
+// Whether it answers as stored; the words are lent to another function, as in other programs, whose calls differ.
 fn answers(case: &[u8], record: &[u8]) -> bool {
     let mut words = [WORD; MOST_WORDS];
     answers_with(case, record, &mut words)

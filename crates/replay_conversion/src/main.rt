@@ -3,13 +3,12 @@
 // oracle/README.md.
 #![tactic(auto)]
 
-mod lent;
 mod shown;
 mod trees;
 
 use std::io;
 
-// Whether the library agrees with a case.
+// Whether the library agrees with a case, whose kind the file tells by a number.
 fn agrees(kind: u32, case: &[u8]) -> bool {
     match kind {
         16 => trees::accepted(case),

@@ -1,9 +1,5 @@
 // The stored cases of showrecord: the bytes that it reads, and those that it prints.
-ghost use Rattle.std.specs.Prelude.{◌≤◌};
-
-use crate::lent;
-use crate::lent::{BYTE, COST};
-use stored::{WORD, word};
+use stored::{BYTE, COST, WORD, behind, word, written_bytes};
 
 // The most leaves that it takes, the words of their tree, the bytes of their record, and the characters of the text.
 const SHOWN_LEAVES: usize = 256;
@@ -14,10 +10,8 @@ const SHOWN_BYTES: usize = 20400;
 
 const SHOWN_TEXT: usize = 45409;
 
-// Whether the text for these bytes is that of a case from word `from` on, `long` bytes, and what is past it as it was lent.
-fn same_text(case: &[u8], input: &[u8], from: usize, long: usize) -> bool
-    requires { from ≤ 65536 }
-{
+// Whether the text for an input is the stored one of so many bytes, and what is past it as it was lent.
+fn same_text(input: &[u8], stored: &[u8], printed: usize) -> bool {
     let mut words = [WORD; SHOWN_WORDS];
     let mut indices = [WORD; SHOWN_LEAVES];
     let mut decisions = [WORD; SHOWN_WORDS];
@@ -35,20 +29,19 @@ fn same_text(case: &[u8], input: &[u8], from: usize, long: usize) -> bool
         &mut list,
         &mut text,
     );
-    end == long && lent::written_bytes(case, from, &text, long)
+    end == printed && written_bytes(stored, &text, printed)
 }
 
 // Bytes of input, bytes of output; input, output, each filled up to whole words.
 pub fn shown(case: &[u8]) -> bool {
     let read = word(case, 0) as usize;
     let printed = word(case, 1) as usize;
-    let end = 8 + read;
     let from = 2 + (read + 3) / 4;
     if case.len() / 4 != from + (printed + 3) / 4 {
         return false;
     }
-    if from > 65536 || end > case.len() {
-        return false;
+    match behind(case, 2).get(..read) {
+        Some(input) => same_text(input, behind(case, from), printed),
+        None => false,
     }
-    same_text(case, &case[8..end], from, printed)
 }

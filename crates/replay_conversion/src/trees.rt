@@ -1,10 +1,11 @@
 // The stored cases of binary trees: what their conversion answers, and what it leaves in the slices that it is lent.
-ghost use Rattle.std.specs.Prelude.{◌≤◌, length};
+ghost use Rattle.std.specs.Prelude.{◌≤◌};
 
-use crate::lent;
-use crate::lent::{BYTE, COST};
 use bvh2_to_cwbvh::{Converted, bvh2_to_cwbvh};
-use stored::{WORD, cleared_words, copy_words, filled_with, word, written_words};
+use stored::{
+    BYTE, COST, WORD, behind, cleared_words, copy_words, filled_with, untouched, word,
+    written_bytes, written_words,
+};
 
 // Room for the words of a tree, its index words, and the bytes of its record.
 const MOST_WORDS: usize = 2048;
@@ -26,7 +27,7 @@ const ZERO_LEAVES: usize = 65537;
 // What is lent beyond what an accepted tree needs, after a first turn with nothing to spare.
 const SPARE: usize = 5;
 
-// The words of n leaves.
+// The words of n leaves. Counted here, so that what is replayed is not measured by its own counting.
 fn tree_size(n: usize) -> usize
     requires { n ≤ 128 }
     ensures { result ≤ 1785 }
@@ -46,42 +47,38 @@ fn record_size(n: usize) -> usize
     }
 }
 
-// Whether the tables, the record and the list are those of an accepted case, and what is past them as it was lent.
+// Whether the tables, the record and the list are the outputs that an accepted case ends with, and what is past them as it was lent: the slices are
+// the conversion's, lent to it one by one.
 fn same_slices(
-    case: &[u8],
+    outputs: &[u8],
+    nodes: u32,
     size: usize,
     n: usize,
     decisions: &[u32],
     costs: &[f32],
     record: &[u8],
     list: &[u32],
-) -> bool
-    requires { (size ≤ 1785) × (n ≤ 128) }
-{
-    let nodes = word(case, 3) as usize;
-    if nodes > ACCEPTED_LEAVES {
-        return false;
-    }
-    let tables = 5 + size + n;
-    let outputs = tables + 2 * size;
-    written_words(case, tables, decisions, WORD, size)
-        && lent::written_costs(case, tables + size, costs, size)
-        && lent::written_bytes(case, outputs, record, node::BYTES * nodes)
-        && written_words(case, outputs + 20 * nodes, list, WORD, n)
+) -> bool {
+    let nodes = nodes as usize;
+    let floats = behind(outputs, size);
+    let bytes = behind(floats, size);
+    written_words(outputs, decisions, size)
+        && written_words(floats, costs, size)
+        && written_bytes(bytes, record, node::BYTES * nodes)
+        && written_words(behind(bytes, 20 * nodes), list, n)
 }
 
 // Whether a conversion with these slices ends as an accepted case says.
 fn ends_converted(
     case: &[u8],
+    outputs: &[u8],
     words: &[u32],
     indices: &[u32],
     decisions: &mut [u32],
     costs: &mut [f32],
     record: &mut [u8],
     list: &mut [u32],
-) -> bool
-    requires { (length words.now ≤ 1785) × (length indices.now ≤ 128) }
-{
+) -> bool {
     let limit = word(case, 1);
     let ordered = word(case, 2) == 1;
     let answer = bvh2_to_cwbvh(
@@ -91,7 +88,8 @@ fn ends_converted(
     let level = word(case, 4);
     answer == Ok(Converted { nodes, level })
         && same_slices(
-            case,
+            outputs,
+            nodes,
             words.len(),
             indices.len(),
             decisions,
@@ -102,7 +100,7 @@ fn ends_converted(
 }
 
 // The same with so much lent beyond what the tree needs.
-fn converts(case: &[u8], words: &[u32], indices: &[u32], spare: usize) -> bool
+fn converts(case: &[u8], outputs: &[u8], words: &[u32], indices: &[u32], spare: usize) -> bool
     requires { spare ≤ 5 }
 {
     if words.len() > ACCEPTED_WORDS || indices.len() > ACCEPTED_LEAVES {
@@ -117,6 +115,7 @@ fn converts(case: &[u8], words: &[u32], indices: &[u32], spare: usize) -> bool
     let mut list = [WORD; MOST_LEAVES];
     ends_converted(
         case,
+        outputs,
         words,
         indices,
         &mut decisions[..table],
@@ -141,9 +140,9 @@ pub fn accepted(case: &[u8]) -> bool {
     let mut index_space = [0u32; MOST_LEAVES];
     let words: &mut [u32] = &mut word_space[..size];
     let indices: &mut [u32] = &mut index_space[..n];
-    copy_words(case, 5, words);
-    copy_words(case, 5 + size, indices);
-    converts(case, words, indices, 0) && converts(case, words, indices, SPARE)
+    let positions = copy_words(behind(case, 5), words);
+    let outputs = copy_words(positions, indices);
+    converts(case, outputs, words, indices, 0) && converts(case, outputs, words, indices, SPARE)
 }
 
 // How much of the tables a refusal zeroes: nothing for causes 1 to 4, else all that is needed, which is as much as the tree has.
@@ -169,9 +168,10 @@ fn ends_refused(
     );
     let size = cleared(number, words.len());
     answer.map_err(u32::from) == Err(number)
-        && lent::untouched(record, list)
-        && cleared_words(decisions, WORD, size)
-        && cleared_words(costs, COST, size)
+        && untouched(record)
+        && untouched(list)
+        && cleared_words(decisions, size)
+        && cleared_words(costs, size)
 }
 
 // The same with slices of the lengths that the case says.
@@ -215,8 +215,8 @@ pub fn refused(case: &[u8]) -> bool {
     let mut index_space = [0u32; MOST_LEAVES];
     let words: &mut [u32] = &mut word_space[..size];
     let indices: &mut [u32] = &mut index_space[..n];
-    copy_words(case, 9, words);
-    copy_words(case, 9 + size, indices);
+    let positions = copy_words(behind(case, 9), words);
+    copy_words(positions, indices);
     refuses(case, words, indices)
 }
 

@@ -31,7 +31,7 @@ fn answer(case: &[u8]) -> Result<u32, u32> {
 }
 
 // Whether a join answers as stored, and leaves the marks so, where it is lent the front of these words, and so many more than the case says. All are
-// filled with a pattern before.
+// filled with a pattern before. The slices of a join go one by one, as its call takes them.
 pub fn answers(
     case: &[u8],
     spare: u32,
@@ -63,5 +63,5 @@ pub fn answers(
         &mut words[..words_end],
         &mut indices[..indices_end],
     );
-    joined.map_err(u32::from) == answer(case) && cleared_words(marks, WORD, word(case, 10) as usize)
+    joined.map_err(u32::from) == answer(case) && cleared_words(marks, word(case, 10) as usize)
 }

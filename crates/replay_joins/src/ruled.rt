@@ -28,8 +28,8 @@ const FEW: usize = 64;
 fn same_outputs(case: &[u8], words: &[u32], indices: &[u32]) -> bool {
     let count = word(case, 11) as usize;
     let leaves = word(case, 12) as usize;
-    digested_words(words, WORD, count, word(case, DIGESTS))
-        && digested_words(indices, WORD, leaves, word(case, DIGESTS + 1))
+    digested_words(words, count, word(case, DIGESTS))
+        && digested_words(indices, leaves, word(case, DIGESTS + 1))
 }
 
 // Whether a join ends as stored in two turns, where the first tree's words stand at the front of these and the second's from word `from` on, and the

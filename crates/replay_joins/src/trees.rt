@@ -1,8 +1,6 @@
 // The stored cases of joins: two trees, and what their join answers and leaves in the slices that it is lent.
-ghost use Rattle.std.specs.Prelude.{◌≤◌};
-
 use crate::calls::{HEAD, answers, in_two_turns};
-use stored::{WORD, copy_words, word, written_words};
+use stored::{WORD, behind, copy_words, word, written_words};
 
 // Room for the words of a tree and for its index words.
 const MOST_WORDS: usize = 2048;
@@ -16,28 +14,23 @@ const WORD_SPACE: usize = 2048;
 
 const INDEX_SPACE: usize = 256;
 
-// Whether the words and the index words, those past the lent ones too, are what a case has from word `at` on.
-fn same_outputs(case: &[u8], at: usize, words: &[u32], indices: &[u32]) -> bool
-    requires { at ≤ 8192 }
-{
+// Whether the words and the index words, those past the lent ones too, are the outputs that a case ends with.
+fn same_outputs(case: &[u8], outputs: &[u8], words: &[u32], indices: &[u32]) -> bool {
     let count = word(case, 11) as usize;
-    count <= WORD_SPACE
-        && written_words(case, at, words, WORD, count)
-        && written_words(case, at + count, indices, WORD, word(case, 12) as usize)
+    written_words(outputs, words, count)
+        && written_words(behind(outputs, count), indices, word(case, 12) as usize)
 }
 
 // Whether a join ends as stored, with so much lent beyond what the case says.
 fn ends(
     case: &[u8],
-    at: usize,
+    outputs: &[u8],
     spare: u32,
     first: &[u32],
     first_indices: &[u32],
     second: &[u32],
     second_indices: &[u32],
-) -> bool
-    requires { at ≤ 8192 }
-{
+) -> bool {
     let mut marks = [WORD; MARK_SPACE];
     let mut words = [WORD; WORD_SPACE];
     let mut indices = [WORD; INDEX_SPACE];
@@ -51,7 +44,7 @@ fn ends(
         &mut marks,
         &mut words,
         &mut indices,
-    ) && same_outputs(case, at, &words, &indices)
+    ) && same_outputs(case, outputs, &words, &indices)
 }
 
 // The same in two turns, where the words and index words of a case go to these.
@@ -62,27 +55,18 @@ fn copied(
     second: &mut [u32],
     second_indices: &mut [u32],
 ) -> bool {
-    if first.len() > MOST_WORDS || second.len() > MOST_WORDS {
+    let trees = HEAD + first.len() + first_indices.len() + second.len() + second_indices.len();
+    if case.len() / 4 != trees + word(case, 11) as usize + word(case, 12) as usize {
         return false;
     }
-    if first_indices.len() > MOST_LEAVES || second_indices.len() > MOST_LEAVES {
-        return false;
-    }
-    let leaves = HEAD + first.len();
-    let from = leaves + first_indices.len();
-    let last_leaves = from + second.len();
-    let at = last_leaves + second_indices.len();
-    if case.len() / 4 != at + word(case, 11) as usize + word(case, 12) as usize {
-        return false;
-    }
-    copy_words(case, HEAD, first);
-    copy_words(case, leaves, first_indices);
-    copy_words(case, from, second);
-    copy_words(case, last_leaves, second_indices);
+    let leaves = copy_words(behind(case, HEAD), first);
+    let rest = copy_words(leaves, first_indices);
+    let last_leaves = copy_words(rest, second);
+    let outputs = copy_words(last_leaves, second_indices);
     in_two_turns(case, |spare| {
         ends(
             case,
-            at,
+            outputs,
             spare,
             first,
             first_indices,

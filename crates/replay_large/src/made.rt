@@ -1,10 +1,23 @@
 // Trees that are made by a rule and not stored: a row of boxes along x with whole numbers as ends, which reach from a middle on the y and z axes.
 ghost use Rattle.std.specs.Prelude.{◌<◌, ◌≤◌};
 
-use stored::OneWord;
+use stored::{OneWord, word};
+
+// The most leaves of a tree.
+const MOST_LEAVES: u32 = 20000;
 
 // The middle on y and z: a ray along x there meets every box.
 const MIDDLE: u32 = 4096;
+
+// The rule of a tree: how many leaves it has, what their ends are mixed from, and how far these reach from the middle at most.
+#[derive(Clone, Copy)]
+pub struct Rule {
+    n: u32,
+    seed: u32,
+    reach: u32,
+    ghost planted: { (0 < n) × (n ≤ 20000) },
+    ghost reaching: { (0 < reach) × (reach < 4096) },
+}
 
 // ---- the ends of leaves
 
@@ -25,20 +38,9 @@ fn some(seed: u32, k: u32, c: u32, most: u32) -> u32
     mixed(seed, 8 * k + c) % most
 }
 
-// The least and the greatest ends of leaf k.
-fn ends_of(seed: u32, reach: u32, k: u32) -> [u32; 6]
-    requires { (k ≤ 65536) × (0 < reach) × (reach < 4096) }
-{
-    let x = 16 * k + some(seed, k, 0, 16);
-    let low_y = MIDDLE - 1 - some(seed, k, 1, reach);
-    let low_z = MIDDLE - 1 - some(seed, k, 2, reach);
-    let high_x = x + 1 + some(seed, k, 3, 64);
-    let high_y = MIDDLE + 1 + some(seed, k, 4, reach);
-    let high_z = MIDDLE + 1 + some(seed, k, 5, reach);
-    [x, low_y, low_z, high_x, high_y, high_z]
-}
-
 // ---- nodes
+
+// Places are bounded in what is asked, so that their sums stay numbers of 64 bits.
 
 // Word i, and 0 past the end.
 fn at(words: &[u32], i: usize) -> u32 {
@@ -67,17 +69,6 @@ fn put_node(words: &mut [u32], v: usize, ends: [u32; 6], link: u32)
     let to = v * 7;
     put_ends(words, to, ends);
     put(words, to + 6, link);
-}
-
-// The nodes of n leaves: leaf k is node n - 1 + k, and holds position n - 1 - k.
-fn put_leaves(words: &mut [u32], n: u32, seed: u32, reach: u32)
-    requires { (n ≤ 65536) × (0 < reach) × (reach < 4096) }
-{
-    for k in 0..n {
-        let v = (n - 1 + k) as usize;
-        let link = words::KIND + (n - 1 - k);
-        put_node(words, v, ends_of(seed, reach, k), link);
-    }
 }
 
 // The ends of two nodes together, whose words start at a and b.
@@ -138,32 +129,83 @@ fn put_panes(panes: &mut [f32], words: &[u32], from: usize)
     }
 }
 
-// The index words: 7 p modulo n at position p.
-fn put_indices(indices: &mut [u32], n: u32)
-    requires { 0 < n }
-{
-    if indices.len() > 65536 {
-        return;
-    }
-    for p in 0..indices.len() {
-        indices[p] = 7 * p as u32 % n;
-    }
-}
+// ---- a tree
 
-// Makes the words of a tree, its index words, and its panes.
-pub fn put_tree(
-    words: &mut [u32],
-    indices: &mut [u32],
-    panes: &mut [f32],
-    n: u32,
-    seed: u32,
-    reach: u32,
-)
-    requires { (n ≤ 65536) × (0 < n) × (0 < reach) × (reach < 4096) }
-{
-    put_leaves(words, n, seed, reach);
-    put_inners(words, (n - 1) as usize);
-    put_panes(panes, words, (n - 1) as usize * 7);
-    put_indices(indices, n);
-    turn_all(words, (2 * n - 1) as usize);
+impl Rule {
+    // The rule that a case starts with, if it is one of those that trees are made by.
+    pub fn of(case: &[u8]) -> Option<Rule> {
+        let n = word(case, 0);
+        let seed = word(case, 1);
+        let reach = word(case, 2);
+        if n == 0 || n > MOST_LEAVES || reach == 0 || reach > 4095 {
+            return None;
+        }
+        Some(Rule { n, seed, reach })
+    }
+
+    // How many leaves a tree has.
+    pub fn leaves(self) -> usize
+        ensures { result ≤ 20000 }
+    {
+        self.n as usize
+    }
+
+    // How many words. Counted here, so that what is replayed is not measured by its own counting.
+    pub fn words(self) -> usize
+        ensures { result ≤ 279993 }
+    {
+        (2 * self.n as usize - 1) * 7
+    }
+
+    // How many bytes its record needs.
+    pub fn bytes(self) -> usize
+        ensures { result ≤ 1599920 }
+    {
+        if self.n == 1 {
+            node::BYTES
+        } else {
+            node::BYTES * (self.n as usize - 1)
+        }
+    }
+
+    // The least and the greatest ends of leaf k.
+    fn ends_of(self, k: u32) -> [u32; 6]
+        requires { k ≤ 65536 }
+    {
+        let x = 16 * k + some(self.seed, k, 0, 16);
+        let low_y = MIDDLE - 1 - some(self.seed, k, 1, self.reach);
+        let low_z = MIDDLE - 1 - some(self.seed, k, 2, self.reach);
+        let high_x = x + 1 + some(self.seed, k, 3, 64);
+        let high_y = MIDDLE + 1 + some(self.seed, k, 4, self.reach);
+        let high_z = MIDDLE + 1 + some(self.seed, k, 5, self.reach);
+        [x, low_y, low_z, high_x, high_y, high_z]
+    }
+
+    // The nodes of the leaves: leaf k is node n - 1 + k, and holds position n - 1 - k.
+    fn put_leaves(self, words: &mut [u32]) {
+        for k in 0..self.n {
+            let v = (self.n - 1 + k) as usize;
+            let link = words::KIND + (self.n - 1 - k);
+            put_node(words, v, self.ends_of(k), link);
+        }
+    }
+
+    // The index words: 7 p modulo n at position p.
+    fn put_indices(self, indices: &mut [u32]) {
+        if indices.len() > 65536 {
+            return;
+        }
+        for p in 0..indices.len() {
+            indices[p] = 7 * p as u32 % self.n;
+        }
+    }
+
+    // Makes the words of a tree, its index words, and its panes.
+    pub fn put_tree(self, words: &mut [u32], indices: &mut [u32], panes: &mut [f32]) {
+        self.put_leaves(words);
+        put_inners(words, (self.n - 1) as usize);
+        put_panes(panes, words, (self.n - 1) as usize * 7);
+        self.put_indices(indices);
+        turn_all(words, (2 * self.n - 1) as usize);
+    }
 }

@@ -1,8 +1,6 @@
 // The stored cases of large trees.
-ghost use Rattle.std.specs.Prelude.{◌<◌, ◌≤◌};
-
-use crate::made::put_tree;
-use crate::rays::same_ray;
+use crate::made::Rule;
+use crate::rays::{Asked, same_ray};
 use bvh2_to_cwbvh::{Converted, bvh2_to_cwbvh};
 use stored::{digest_of, digest_of_bytes, filled_with, word};
 
@@ -34,9 +32,14 @@ fn sound(record: &[u8], n: usize, level: u32) -> bool {
 fn same_rays(case: &[u8], record: &[u8], list: &[u32], panes: &[f32]) -> bool {
     let rays = word(case, 11) as usize;
     case.len() / 4 == HEAD + rays * RAY
-        && case[HEAD * 4..]
-            .chunks_exact(RAY * 4)
-            .all(|ray| same_ray(ray, record, list, panes))
+        && case[HEAD * 4..].chunks_exact(RAY * 4).all(|ray| {
+            same_ray(Asked {
+                ray,
+                record,
+                list,
+                panes,
+            })
+        })
 }
 
 // Whether the first `nodes` nodes of what was lent for a record are as stored, and all that is asked of them.
@@ -52,7 +55,7 @@ fn same_record(case: &[u8], space: &[u8], list: &[u32], panes: &[f32]) -> bool {
         && same_rays(case, record, list, panes)
 }
 
-// Whether a tree is converted as stored, with its tables, and its record is as stored.
+// Whether a tree is converted as stored, with its tables, and its record is as stored: the slices are the conversion's, lent to it one by one.
 fn converts(
     case: &[u8],
     words: &[u32],
@@ -78,32 +81,15 @@ fn converts(
 
 // ---- room for it
 
-// The record bytes that n leaves need.
-fn record_size(n: usize) -> usize
-    requires { (0 < n) × (n ≤ 20000) }
-    ensures { result ≤ 1599920 }
-{
-    if n == 1 {
-        node::BYTES
-    } else {
-        node::BYTES * (n - 1)
-    }
-}
-
-// The same for a tree that is made in these words.
-fn same_made(case: &[u8], words: &mut [u32], indices: &mut [u32], panes: &mut [f32]) -> bool {
-    let n = indices.len();
-    let seed = word(case, 1);
-    let reach = word(case, 2);
-    if n == 0 || n > LEAVES || words.len() > WORDS {
-        return false;
-    }
-    if reach == 0 || reach > 4095 {
-        return false;
-    }
-    put_tree(words, indices, panes, n as u32, seed, reach);
-    let size = words.len();
-    let bytes = record_size(n);
+// The same for a tree that is made by this rule in these words.
+fn same_made(
+    case: &[u8],
+    rule: Rule,
+    words: &mut [u32],
+    indices: &mut [u32],
+    panes: &mut [f32],
+) -> bool {
+    rule.put_tree(words, indices, panes);
     let mut decisions: [u32; WORDS] = filled_with(0);
     let mut costs: [f32; WORDS] = filled_with(0.0);
     let mut record: [u8; BYTES] = filled_with(0);
@@ -113,29 +99,27 @@ fn same_made(case: &[u8], words: &mut [u32], indices: &mut [u32], panes: &mut [f
         words,
         indices,
         panes,
-        &mut decisions[..size],
-        &mut costs[..size],
-        &mut record[..bytes],
-        &mut list[..n],
+        &mut decisions[..rule.words()],
+        &mut costs[..rule.words()],
+        &mut record[..rule.bytes()],
+        &mut list[..rule.leaves()],
     )
 }
 
 // Leaves, seed, reach, limit, order; nodes, deepest level; digests of decision words, costs, record, list; rays, and these.
 fn large(case: &[u8]) -> bool {
-    let n = word(case, 0) as usize;
-    if n == 0 || n > LEAVES {
+    let Some(rule) = Rule::of(case) else {
         return false;
-    }
-    let size = (2 * n - 1) * 7;
-    let corners = 6 * n;
+    };
     let mut words: [u32; WORDS] = filled_with(0);
     let mut indices = [0u32; LEAVES];
     let mut panes: [f32; CORNERS] = filled_with(0.0);
     same_made(
         case,
-        &mut words[..size],
-        &mut indices[..n],
-        &mut panes[..corners],
+        rule,
+        &mut words[..rule.words()],
+        &mut indices[..rule.leaves()],
+        &mut panes[..6 * rule.leaves()],
     )
 }
 

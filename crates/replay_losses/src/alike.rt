@@ -1,10 +1,10 @@
 // The stored cases of losses by lengths: every index word, every loss and every ray is the same, and all nodes past the first are zero.
 ghost use Rattle.std.specs.Prelude.{◌≤◌};
 
-use crate::lent::BEFORE;
-use crate::{lent, single};
+use crate::lent::{Priced, Spaces};
+use crate::single;
 use causes::Refusal;
-use stored::{RECORD_BYTES, all_are, copy_bytes, filled_with, real, wide, word, written};
+use stored::{RECORD_BYTES, TOTAL, all_are, copy_bytes, filled_with, real, wide, word, written};
 
 // Room for index words, losses, rays and lent words with guard words past them: more of the first and of rays than a report accepts.
 const MANY: usize = 65548;
@@ -36,82 +36,35 @@ fn only(totals: &[u64], i: usize, x: u64) -> bool {
         .all(|(k, total)| *total == if k == i { x } else { 0 })
 }
 
-// Whether the totals of so many rays are a case's, and the others as they were lent.
-fn same_rays(case: &[u8], totals: &[u64], count: usize) -> bool {
-    written(
-        totals,
-        BEFORE,
-        count,
-        |front| all_are(front, wide(case, 20)),
-    )
-}
-
-// Whether the totals of so many panes are a case's, and the others as they were lent.
-fn same_panes(case: &[u8], totals: &[u64], panes: usize) -> bool {
-    written(
-        totals,
-        BEFORE,
-        panes,
-        |front| only(front, word(case, 7) as usize, wide(case, 22)),
-    )
-}
-
 // Whether this is the stored answer of a report, and leaves in the words, those past the lent ones too, what it should.
-fn same_answer(
-    case: &[u8],
-    answer: Result<u64, Refusal>,
-    count: usize,
-    ray_totals: &[u64],
-    pane_totals: &[u64],
-) -> bool {
+fn same_answer(case: &[u8], answer: Result<u64, Refusal>, count: usize, spaces: Spaces) -> bool {
     match answer {
         Ok(tests) => {
             word(case, 17) == 0
                 && wide(case, 18) == tests
-                && same_rays(case, ray_totals, count)
-                && same_panes(case, pane_totals, word(case, 2) as usize)
+                && written(spaces.rays, count, |front| all_are(front, wide(case, 20)))
+                && written(
+                    spaces.panes,
+                    word(case, 2) as usize,
+                    |front| only(front, word(case, 7) as usize, wide(case, 22)),
+                )
         }
-        Err(refusal) => {
-            word(case, 17) == u32::from(refusal) && lent::untouched(ray_totals, pane_totals)
-        }
+        Err(refusal) => word(case, 17) == u32::from(refusal) && spaces.untouched(),
     }
-}
-
-// Whether a report answers as stored, where it is lent the first of these words; and so does the single call.
-fn answers(
-    case: &[u8],
-    record: &[u8],
-    list: &[u32],
-    losses: &[u32],
-    rays: &[f32],
-    ray_space: &mut [u64],
-    pane_space: &mut [u64],
-) -> bool {
-    let panes = word(case, 2) as usize;
-    let ray_room = word(case, 5) as usize;
-    let pane_room = word(case, 6) as usize;
-    if ray_room > ray_space.len() || pane_room > pane_space.len() {
-        return false;
-    }
-    let answer = loss::report(
-        record,
-        list,
-        panes,
-        losses,
-        rays,
-        &mut ray_space[..ray_room],
-        &mut pane_space[..pane_room],
-    );
-    same_answer(case, answer, rays.len() / 8, ray_space, pane_space)
 }
 
 // Whether the single call answers as stored.
-fn same_single(case: &[u8], record: &[u8], list: &[u32], losses: &[u32]) -> bool {
-    if case.len() < 192 {
-        return false;
-    }
-    let panes = word(case, 2) as usize;
-    single::same_loss(&case[36..], &case[96..], record, list, panes, losses)
+fn same_single(case: &[u8], priced: Priced) -> bool {
+    case.len() >= 192 && single::same_loss(&case[36..], &case[96..], priced)
+}
+
+// Whether the single call and the report answer as stored.
+fn compared(case: &[u8], priced: Priced, rays: &[f32], mut spaces: Spaces) -> bool {
+    same_single(case, priced)
+        && match spaces.report(case, priced, rays) {
+            Some(answer) => same_answer(case, answer, rays.len() / 8, spaces),
+            None => false,
+        }
 }
 
 // Puts the first node of a case to the front of these zeros.
@@ -120,25 +73,8 @@ fn put_node(case: &[u8], record: &mut [u8]) {
     copy_bytes(case, 112, &mut record[..front]);
 }
 
-// Whether the report and the single call answer as stored, where the case's node, index word, loss and ray go to these.
-fn compared(
-    case: &[u8],
-    record: &mut [u8],
-    list: &mut [u32],
-    losses: &mut [u32],
-    rays: &mut [f32],
-    ray_space: &mut [u64],
-    pane_space: &mut [u64],
-) -> bool {
-    put_node(case, record);
-    list.fill(word(case, 7));
-    losses.fill(word(case, 8));
-    fill_rays(case, rays);
-    same_single(case, record, list, losses)
-        && answers(case, record, list, losses, rays, ray_space, pane_space)
-}
-
 // A case with room for so many bytes of a record, losses or totals, and floats of rays: the stack has none for both a long record and many rays.
+#[inline(never)]
 fn in_room<const BYTES: usize, const PANES: usize, const FLOATS: usize>(
     case: &[u8],
     bytes: usize,
@@ -153,20 +89,24 @@ fn in_room<const BYTES: usize, const PANES: usize, const FLOATS: usize>(
         return false;
     }
     let mut record: [u8; BYTES] = filled_with(0);
-    let mut list: [u32; MANY] = filled_with(0);
-    let mut losses: [u32; PANES] = filled_with(0);
+    let list: [u32; MANY] = filled_with(word(case, 7));
+    let losses: [u32; PANES] = filled_with(word(case, 8));
     let mut rays: [f32; FLOATS] = filled_with(0.0);
-    let mut ray_space: [u64; PANES] = filled_with(BEFORE);
-    let mut pane_space: [u64; PANES] = filled_with(BEFORE);
-    compared(
-        case,
-        &mut record[..bytes],
-        &mut list[..positions],
-        &mut losses[..taken],
-        &mut rays[..floats],
-        &mut ray_space,
-        &mut pane_space,
-    )
+    let mut ray_space: [u64; PANES] = filled_with(TOTAL);
+    let mut pane_space: [u64; PANES] = filled_with(TOTAL);
+    put_node(case, &mut record[..bytes]);
+    fill_rays(case, &mut rays[..floats]);
+    let priced = Priced {
+        record: &record[..bytes],
+        list: &list[..positions],
+        panes: word(case, 2) as usize,
+        losses: &losses[..taken],
+    };
+    let spaces = Spaces {
+        rays: &mut ray_space,
+        panes: &mut pane_space,
+    };
+    compared(case, priced, &rays[..floats], spaces)
 }
 
 // Bytes of the record, index words, panes, losses, floats of rays, words lent for the totals of rays, and of panes; the index word, the loss, the

@@ -1,42 +1,59 @@
-// Totals of 64 bits, two words of a case each, and the words that are lent for them.
-ghost use Rattle.std.specs.Prelude.{◌≤◌};
+// What a report is asked of, and the words that it is lent for totals of 64 bits, two words of a case each.
+use causes::Refusal;
+use stored::{untouched, wide, word, written};
 
-use stored::{all_are, wide};
-
-// What every lent word holds before.
-pub const BEFORE: u64 = 0xdead_beef_0bad_cafe;
-
-// The most totals that are compared with a case.
-const MOST_COMPARED: usize = 65536;
-
-// Whether these are the totals of a case from word `from` on.
-fn same_totals(case: &[u8], from: usize, totals: &[u64]) -> bool
-    requires { from ≤ 524288 }
-{
-    if totals.len() > MOST_COMPARED {
-        return false;
-    }
-    for i in 0..totals.len() {
-        if wide(case, from + i * 2) != totals[i] {
-            return false;
-        }
-    }
-    true
+// A record with its index words, and the losses of so many panes.
+#[derive(Clone, Copy)]
+pub struct Priced<'a> {
+    pub record: &'a [u8],
+    pub list: &'a [u32],
+    pub panes: usize,
+    pub losses: &'a [u32],
 }
 
-// Whether the first `count` totals are those of a case from word `from` on, and the others as they were lent.
-pub fn written(case: &[u8], from: usize, totals: &[u64], count: usize) -> bool
-    requires { from ≤ 524288 }
-{
-    stored::written(
-        totals,
-        BEFORE,
-        count,
-        |front| same_totals(case, from, front),
-    )
+// The words lent for the totals of rays and of panes, with guard words past them.
+#[derive(Drop)]
+pub struct Spaces<'a> {
+    pub rays: &'a mut [u64],
+    pub panes: &'a mut [u64],
 }
 
-// Whether the totals of rays and of panes are as they were lent.
-pub fn untouched(rays: &[u64], panes: &[u64]) -> bool {
-    all_are(rays, BEFORE) && all_are(panes, BEFORE)
+impl Spaces<'_> {
+    // What a report answers that is lent the first of these words, as many as a case says; none where it says more than there are.
+    pub fn report(
+        &mut self,
+        case: &[u8],
+        priced: Priced,
+        rays: &[f32],
+    ) -> Option<Result<u64, Refusal>> {
+        let ray_totals = self.rays.get_mut(..word(case, 5) as usize)?;
+        let pane_totals = self.panes.get_mut(..word(case, 6) as usize)?;
+        Some(loss::report(
+            priced.record,
+            priced.list,
+            priced.panes,
+            priced.losses,
+            rays,
+            ray_totals,
+            pane_totals,
+        ))
+    }
+
+    // Whether all words are as they were lent.
+    pub fn untouched(&self) -> bool {
+        untouched(self.rays) && untouched(self.panes)
+    }
+}
+
+// Whether a case starts with these totals.
+fn same_totals(case: &[u8], totals: &[u64]) -> bool {
+    totals
+        .iter()
+        .enumerate()
+        .all(|(i, total)| wide(case, i * 2) == *total)
+}
+
+// Whether the first `count` totals are those that a case starts with, and the others as they were lent.
+pub fn written_totals(case: &[u8], totals: &[u64], count: usize) -> bool {
+    written(totals, count, |front| same_totals(case, front))
 }

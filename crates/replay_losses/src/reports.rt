@@ -1,10 +1,8 @@
 // The stored cases of losses: a record with index words, losses and rays; a report's answer, and the single call's for each ray.
-ghost use Rattle.std.specs.Prelude.{◌≤◌};
-
-use crate::lent::BEFORE;
-use crate::{lent, single};
+use crate::lent::{Priced, Spaces, written_totals};
+use crate::single;
 use causes::Refusal;
-use stored::{copy_bytes, copy_words, wide, word};
+use stored::{TOTAL, behind, copy_bytes, copy_words, wide, word};
 
 // Room for the bytes of a record, its index words, its losses and the floats of its rays.
 const MOST_BYTES: usize = 49152;
@@ -25,142 +23,74 @@ fn same_head(case: &[u8], number: u32, tests: u64) -> bool {
     word(case, 7) == number && wide(case, 8) == tests
 }
 
-// Whether this is the stored answer of a report, and leaves in the words, those past the lent ones too, what it should: the totals of so many rays
-// and of so many panes, stored from word `at` on, or beside a refusal all as it was.
+// Whether this is the stored answer of a report, and leaves in the words, those past the lent ones too, what it should: the totals of rays and of
+// panes that `totals` starts with, or beside a refusal all as it was.
 fn same_answer(
     case: &[u8],
-    at: usize,
+    totals: &[u8],
     answer: Result<u64, Refusal>,
-    count: usize,
-    panes: usize,
-    ray_totals: &[u64],
-    pane_totals: &[u64],
-) -> bool
-    requires at_bound { at ≤ 65536 }
-    requires count_bound { count ≤ 65536 }
-{
+    rays: &[f32],
+    spaces: Spaces,
+) -> bool {
+    let count = rays.len() / 8;
     match answer {
         Ok(tests) => {
             same_head(case, 0, tests)
-                && lent::written(case, at, ray_totals, count)
-                && lent::written(case, at + count * 2, pane_totals, panes)
+                && written_totals(totals, spaces.rays, count)
+                && written_totals(
+                    behind(totals, count * 2),
+                    spaces.panes,
+                    word(case, 2) as usize,
+                )
         }
-        Err(refusal) => {
-            same_head(case, u32::from(refusal), 0) && lent::untouched(ray_totals, pane_totals)
-        }
+        Err(refusal) => same_head(case, u32::from(refusal), 0) && spaces.untouched(),
     }
 }
 
-// Whether a report answers as stored, where it is lent the first of these words.
-fn answers(
-    case: &[u8],
-    at: usize,
-    record: &[u8],
-    list: &[u32],
-    losses: &[u32],
-    rays: &[f32],
-    ray_space: &mut [u64],
-    pane_space: &mut [u64],
-) -> bool
-    requires { at ≤ 65536 }
-{
-    let panes = word(case, 2) as usize;
-    let ray_room = word(case, 5) as usize;
-    let pane_room = word(case, 6) as usize;
-    let count = rays.len() / 8;
-    if ray_room > ray_space.len() || pane_room > pane_space.len() || count > 65536 {
-        return false;
+// Whether a report answers as stored.
+fn answers(case: &[u8], totals: &[u8], priced: Priced, rays: &[f32]) -> bool {
+    let mut ray_space = [TOTAL; RAY_SPACE];
+    let mut pane_space = [TOTAL; PANE_SPACE];
+    let mut spaces = Spaces {
+        rays: &mut ray_space,
+        panes: &mut pane_space,
+    };
+    match spaces.report(case, priced, rays) {
+        Some(answer) => same_answer(case, totals, answer, rays, spaces),
+        None => false,
     }
-    let answer = loss::report(
-        record,
-        list,
-        panes,
-        losses,
-        rays,
-        &mut ray_space[..ray_room],
-        &mut pane_space[..pane_room],
-    );
-    same_answer(case, at, answer, count, panes, ray_space, pane_space)
 }
 
-// The words of the totals of so many rays and so many panes: none in a case that is refused.
-fn totals_words(case: &[u8], count: usize, panes: usize) -> usize
-    requires count_bound { count ≤ 65536 }
-    requires panes_bound { panes ≤ 4294967295 }
-    ensures { result ≤ 8590065662 }
-{
+// The words of the totals of rays and panes: none in a case that is refused.
+fn totals_words(case: &[u8], rays: &[f32]) -> usize {
     if word(case, 7) > 0 {
         0
     } else {
-        (count + panes) * 2
+        (rays.len() / 8 + word(case, 2) as usize) * 2
     }
 }
 
-// Whether the single call answers as stored for each of so many rays, whose floats stand from word `from` on and whose answers end the case.
-fn same_losses(
-    case: &[u8],
-    from: usize,
-    at: usize,
-    count: usize,
-    record: &[u8],
-    list: &[u32],
-    losses: &[u32],
-) -> bool
-    requires from_bound { from ≤ 65536 }
-    requires at_bound { at ≤ 1099511627776 }
-    requires count_bound { count ≤ 65536 }
-{
-    let panes = word(case, 2) as usize;
-    let words = case.len() / 4;
-    for i in 0..count {
-        let ray = from + i * 8;
-        let answer = at + i * 4;
-        if ray > words || answer > words {
-            return false;
-        }
-        let floats = &case[ray * 4..];
-        if !single::same_loss(floats, &case[answer * 4..], record, list, panes, losses) {
-            return false;
-        }
-    }
-    at + count * 4 == words
+// Whether the single call answers as stored for each ray, whose eight floats stand in `floats`.
+fn same_losses(floats: &[u8], answers: &[u8], priced: Priced) -> bool {
+    floats
+        .chunks_exact(32)
+        .zip(answers.chunks_exact(16))
+        .all(|(ray, answer)| single::same_loss(ray, answer, priced))
 }
 
-// Whether the report and the single calls answer as stored, where the floats of the rays stand from word `from` on.
-fn compared(
-    case: &[u8],
-    from: usize,
-    record: &[u8],
-    list: &[u32],
-    losses: &[u32],
-    rays: &[f32],
-) -> bool
-    requires { from ≤ 32768 }
-{
-    if rays.len() > MOST_FLOATS {
-        return false;
-    }
-    let at = from + rays.len();
-    let count = rays.len() / 8;
-    let mut ray_space = [BEFORE; RAY_SPACE];
-    let mut pane_space = [BEFORE; PANE_SPACE];
-    if !answers(
-        case,
-        at,
-        record,
-        list,
-        losses,
-        rays,
-        &mut ray_space,
-        &mut pane_space,
-    ) {
-        return false;
-    }
-    let past = at + totals_words(case, count, word(case, 2) as usize);
-    same_losses(case, from, past, count, record, list, losses)
+// Whether the report and the single calls answer as stored, where the case's floats of the rays stand first in `floats`, then the totals, and the
+// single call's answers end it.
+fn compared(case: &[u8], floats: &[u8], priced: Priced, rays: &mut [f32]) -> bool {
+    let totals = copy_words(floats, rays);
+    let written = totals_words(case, rays);
+    let last = behind(totals, written);
+    written <= totals.len() / 4
+        && last.len() == rays.len() / 8 * 16
+        && answers(case, totals, priced, rays)
+        && same_losses(floats, last, priced)
 }
 
-// The same, where the record, index words, losses and floats of a case go to these.
+// The same, where the record, index words and losses of a case go to these.
 fn copied(
     case: &[u8],
     record: &mut [u8],
@@ -168,17 +98,16 @@ fn copied(
     losses: &mut [u32],
     rays: &mut [f32],
 ) -> bool {
-    if record.len() > MOST_BYTES || list.len() > MOST_POSITIONS || losses.len() > MOST_LOSSES {
-        return false;
-    }
-    let positions = 10 + (record.len() + 3) / 4;
-    let taken = positions + list.len();
-    let from = taken + losses.len();
     copy_bytes(case, 40, record);
-    copy_words(case, positions, list);
-    copy_words(case, taken, losses);
-    copy_words(case, from, rays);
-    compared(case, from, record, list, losses, rays)
+    let taken = copy_words(behind(case, 10 + (record.len() + 3) / 4), list);
+    let floats = copy_words(taken, losses);
+    let priced = Priced {
+        record,
+        list,
+        panes: word(case, 2) as usize,
+        losses,
+    };
+    compared(case, floats, priced, rays)
 }
 
 // Bytes of the record, index words, panes, losses, floats of rays, words lent for the totals of rays, and of panes; the report's number and its node

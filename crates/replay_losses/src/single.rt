@@ -1,16 +1,18 @@
 // The loss of one ray by itself.
+use crate::lent::Priced;
 use stored::{beam, wide, word};
 
-// Whether the single call answers as stored for a ray's eight floats: the number of a refusal, the sum and the node tests, each 0 where there is none.
-pub fn same_loss(
-    floats: &[u8],
-    answer: &[u8],
-    record: &[u8],
-    list: &[u32],
-    panes: usize,
-    losses: &[u32],
-) -> bool {
-    let (number, sum, tests) = match loss::loss(record, list, panes, losses, beam(floats, 0)) {
+// Whether the single call answers as stored for a ray's eight floats: a refusal's number, the sum and the node tests, 0 where there is none.
+pub fn same_loss(ray: &[u8], answer: &[u8], priced: Priced) -> bool {
+    let beam = beam(ray, 0);
+    let found = loss::loss(
+        priced.record,
+        priced.list,
+        priced.panes,
+        priced.losses,
+        beam,
+    );
+    let (number, sum, tests) = match found {
         Ok(found) => (0, found.loss, found.tests),
         Err(refusal) => (u32::from(refusal), 0, 0),
     };

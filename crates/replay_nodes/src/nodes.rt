@@ -2,6 +2,7 @@
 ghost use Rattle.std.specs.Prelude.{◌*◌, ◌+◌, ◌<◌, ◌≤◌, length};
 
 use node::NodeRef;
+use node_slot::Aim;
 use ray::Ray;
 use stored::{beam, copy_bytes, same_vector, wide, word};
 
@@ -47,9 +48,8 @@ fn masks(case: &[u8]) -> bool {
         return false;
     }
     let node = node::node_ref(case, 0);
-    let r = Ray::new(beam(case, 20));
-    let e = node_slot::near_ends(r.direction);
-    node_slot::intersect_ray(node, node.metas(), r, e, octant) == word(case, 29)
+    let aim = Aim::new(Ray::new(beam(case, 20)), octant);
+    node_slot::intersect_ray(node, &aim) == word(case, 29)
 }
 
 // The number of the node in a slot, for a ray of octant 0; none where its meta's low five bits are below 24.
@@ -85,15 +85,8 @@ fn slots(case: &[u8]) -> bool {
     }
     let node = node::node_ref(case, 0);
     let [ex, ey, ez] = node.exponents();
-    if !same_vector(case, 20, node_slot::compute_extent(ex, ey, ez)) {
-        return false;
-    }
-    for slot in 0..8 {
-        if !same_slot(case, node, slot) {
-            return false;
-        }
-    }
-    true
+    same_vector(case, 20, node_slot::compute_extent(ex, ey, ez))
+        && (0..8).all(|slot| same_slot(case, node, slot))
 }
 
 // Whether the library agrees with a case, whose kind the file tells by a number.

@@ -1,7 +1,7 @@
 // Any-hit on a stored question: a ray's eight floats, the number of positions, the words lent, and the answer.
 use crate::head::same_head;
 use any_hit::{AnyHit, AnyHitError};
-use stored::{WORD, all_are, beam, word, written_words};
+use stored::{WORD, beam, behind, untouched, word, written_words};
 
 // Room for the words lent with guard words past them.
 const SPACE: usize = 1600;
@@ -14,13 +14,13 @@ fn same_answer(asked: &[u8], found: Result<AnyHit, AnyHitError>, space: &[u32]) 
     match found {
         Ok(found) => {
             same_head(asked, 10, 0, found.tests, found.count)
-                && written_words(asked, 13, space, WORD, found.count as usize)
+                && written_words(behind(asked, 13), space, found.count as usize)
         }
         Err(AnyHitError::Short(needed)) => {
-            same_head(asked, 10, SHORT, 0, 1) && word(asked, 13) == needed && all_are(space, WORD)
+            same_head(asked, 10, SHORT, 0, 1) && word(asked, 13) == needed && untouched(space)
         }
         Err(AnyHitError::Refused(refusal)) => {
-            same_head(asked, 10, u32::from(refusal), 0, 0) && all_are(space, WORD)
+            same_head(asked, 10, u32::from(refusal), 0, 0) && untouched(space)
         }
     }
 }
@@ -36,7 +36,7 @@ fn answers(asked: &[u8], record: &[u8], space: &mut [u32]) -> bool {
     same_answer(asked, found, space)
 }
 
-// Whether any-hit answers as stored.
+// Whether any-hit answers as stored; the words are lent to another function, as in other programs, whose calls differ.
 pub fn same_any_hit(asked: &[u8], record: &[u8]) -> bool {
     let mut space = [WORD; SPACE];
     answers(asked, record, &mut space)

@@ -6,6 +6,7 @@ use stored::{real, word};
 use traverse::{Answer, Group, Walk, Walker};
 
 // Calls that are no steps: the next word is the distance told, or the number of positions, or the bytes of the record that are lent.
+// They are numbers, as the files have them: an enum would be made of a word only to be matched at once.
 const TELL: u32 = 0xc010_0000;
 
 const POSITIONS: u32 = 0xc020_0000;
@@ -70,11 +71,7 @@ fn stepped(run: Run, call: u32, record: &[u8]) -> Option<Run> {
     let lent = record.get(..run.bytes)?;
     let s = run.walker.step(lent, run.n);
     let walker = s.walker;
-    if same_step(s.answer, call, run.bytes, run.walker, walker) {
-        Some(Run { walker, ..run })
-    } else {
-        None
-    }
+    same_step(s.answer, call, run.bytes, run.walker, walker).then_some(Run { walker, ..run })
 }
 
 // How many words a call has.

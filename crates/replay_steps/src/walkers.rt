@@ -1,6 +1,6 @@
 // Walkers: how a stored walk starts, whether two are the same, and whether one is what a walk came to.
 use ray::{Ray, Vec3};
-use stored::{OneWord, beam, real, same, vector, word};
+use stored::{OneWord, beam, behind, real, same, vector, word};
 use traverse::{Group, Walk, Walker};
 
 // The groups of a walker's stack.
@@ -17,11 +17,9 @@ pub struct Start {
 
 // A group in the words at i and after it: its base and its bits.
 fn group_at(walk: &[u8], i: usize) -> Group {
-    if i > 1000 {
-        return Group { base: 0, bits: 0 };
-    }
-    let base = word(walk, i);
-    let bits = word(walk, i + 1);
+    let two = behind(walk, i);
+    let base = word(two, 0);
+    let bits = word(two, 1);
     Group { base, bits }
 }
 
@@ -76,11 +74,7 @@ fn begun(walk: &[u8]) -> Option<Start> {
         Ok(walker) => (walker, 0),
         Err(refusal) => (walker_of(&[]), u32::from(refusal)),
     };
-    if number == word(walk, 9) {
-        Some(Start { walker, words: 10 })
-    } else {
-        None
-    }
+    (number == word(walk, 9)).then_some(Start { walker, words: 10 })
 }
 
 // The walker of a stored walk, if it came about as stored.

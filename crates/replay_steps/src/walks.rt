@@ -1,17 +1,13 @@
 // The stored cases of walks: a record, and walkers with their calls.
-ghost use Rattle.std.specs.Prelude.{◌≤◌, IfSome};
-
 use crate::calls::{Run, all_called};
 use crate::walkers::{came_to, starting};
-use stored::{RECORD_BYTES, copy_bytes, filled_with, word};
+use stored::{RECORD_BYTES, copy_bytes, filled_with, same_parts, word};
 
 // The words that tell what a walk came to.
 const END_WORDS: usize = 5;
 
 // The words of a walk, if its calls are as stored and it comes to what is stored.
-fn walk_words(walk: &[u8], record: &[u8], bytes: usize, n: usize) -> Option<usize>
-    ensures { IfSome result (λ long. long ≤ 1099511627776) }
-{
+fn walk_words(walk: &[u8], record: &[u8], bytes: usize, n: usize) -> Option<usize> {
     let begun = starting(walk)?;
     let calls = begun.words as usize;
     let from = calls + 1;
@@ -21,27 +17,7 @@ fn walk_words(walk: &[u8], record: &[u8], bytes: usize, n: usize) -> Option<usiz
     }
     let walker = begun.walker;
     let last = all_called(Run { walker, bytes, n }, &walk[from * 4..end * 4], record)?;
-    if came_to(&walk[end * 4..], last) {
-        Some(end + END_WORDS)
-    } else {
-        None
-    }
-}
-
-// Whether all of so many walks are as stored from word `from` on, where the case ends with them.
-fn same_walks(case: &[u8], from: usize, walks: u32, record: &[u8], bytes: usize, n: usize) -> bool {
-    let words = case.len() / 4;
-    let mut at = from;
-    for _ in 0..walks {
-        if at >= words {
-            return false;
-        }
-        let Some(long) = walk_words(&case[at * 4..], record, bytes, n) else {
-            return false;
-        };
-        at += long;
-    }
-    at == words
+    came_to(&walk[end * 4..], last).then_some(end + END_WORDS)
 }
 
 // Whether the walks of a case are as stored, where its stored bytes go to the front of these zeros.
@@ -55,7 +31,7 @@ fn walked_on(case: &[u8], record: &mut [u8]) -> bool {
         return false;
     }
     copy_bytes(case, 20, &mut record[..bytes]);
-    same_walks(case, from, walks, record, lent, n)
+    same_parts(case, from, walks, |walk| walk_words(walk, record, lent, n))
 }
 
 // Bytes of the record, how many of them are stored, bytes lent at first, number of positions at first, walks; the record, and the walks.

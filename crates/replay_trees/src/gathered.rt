@@ -1,12 +1,12 @@
 // The stored cases of children: for each leaf limit and each node of a tree, what it opens into, gathered and by slots.
 ghost use Rattle.std.specs.Prelude.{◌<◌, ◌≤◌};
-ghost use Rattle.bvh2.specs.Causes.{Accepted};
-ghost use Rattle.children.specs.Tabled.{Tabled};
 
-use crate::trees::{MOST_WORDS, is_accepted, node_count};
+use crate::trees::{MOST_WORDS, accepted, node_count};
 use aabb::Aabb;
 use bvh2::Link;
-use stored::{copy_words, word};
+use bvh2_check::AcceptedBvh2;
+use children::Branch;
+use stored::{behind, copy_words, word};
 
 // A node number as the byte that stands for it in a case, 255 for none; a greater number has no byte.
 fn code(number: u32) -> Option<u8> {
@@ -40,7 +40,7 @@ fn box_or(words: &[u32], number: u32, other: Aabb) -> Aabb {
     }
 }
 
-// Whether the children found stand, ordered, in the slots that are stored from word `at` on.
+// Whether the children found, an array with a count as they are gathered, stand, ordered, in the slots that are stored from word `at` on.
 fn same_slots(
     case: &[u8],
     at: usize,
@@ -55,69 +55,56 @@ fn same_slots(
     same_numbers(case, at, order::order_children(parent, boxes, found, count))
 }
 
-// Whether node v opens into what is stored from word `at` on: how many children, these in gathered order, and these by slots.
-fn same_children(
-    case: &[u8],
-    at: usize,
-    words: &[u32],
-    decisions: &[u32],
-    v: usize,
-    depth: u32,
-) -> bool
-    requires { (at < 1000000) × Tabled words.now decisions.now depth v }
+// Whether a branch's node opens into what is stored from word `at` on: how many children, these in gathered order, and these by slots.
+fn same_children(case: &[u8], at: usize, branch: Branch<'_>) -> bool
+    requires { at < 1000000 }
 {
     let mut found = [0xffff_ffffu32; 8];
-    let count = children::get_children(words, decisions, v, depth, &mut found);
-    let parent = bvh2::node_box(words, v);
+    let count = children::get_children(branch, &mut found);
+    let parent = branch.node_box();
     count == word(case, at) as usize
         && same_numbers(case, at + 1, found)
-        && same_slots(case, at + 3, words, parent, found, count)
+        && same_slots(case, at + 3, branch.words, parent, found, count)
 }
 
-// The same for node v and every node below it, five words for each from word `from` on.
-fn same_below(
-    case: &[u8],
-    from: usize,
-    words: &[u32],
-    decisions: &[u32],
-    v: usize,
-    depth: u32,
-) -> bool
-    requires { (from ≤ 65536) × Tabled words.now decisions.now depth v }
+// The same for a branch's node and every node below it, five words for each from word `from` on.
+fn same_below(case: &[u8], from: usize, branch: Branch<'_>) -> bool
+    requires { from ≤ 65536 }
 {
-    if !same_children(case, from + v * 5, words, decisions, v, depth) {
+    if !same_children(case, from + branch.node * 5, branch) {
         return false;
     }
-    let Link::Children(first) = bvh2::node_link(words, v) else {
+    let Link::Children(first) = branch.link() else {
         return true;
     };
-    same_below(case, from, words, decisions, first, depth - 1)
-        && same_below(case, from, words, decisions, first + 1, depth - 1)
+    same_below(case, from, branch.left(first)) && same_below(case, from, branch.right(first))
 }
 
 // The same for every node of a tree, by its tables for a leaf limit.
-fn same_tree(case: &[u8], from: usize, words: &[u32], n: usize, limit: u32) -> bool
-    requires { (from ≤ 65536) × (0 < n) × Accepted words.now n }
+fn same_tree(case: &[u8], from: usize, accepted: AcceptedBvh2, limit: u32) -> bool
+    requires { (from ≤ 65536) × (0 < accepted.tree.leaves) }
 {
+    let words = accepted.tree.words;
     if words.len() > MOST_WORDS {
         return false;
     }
     let mut decisions = [0xffff_ffffu32; MOST_WORDS];
     let mut costs = [1f32; MOST_WORDS];
     cost::calculate_cost(words, 0, 127, limit, &mut decisions, &mut costs);
-    same_below(case, from, words, &decisions, 0, 127)
+    let root = Branch {
+        words,
+        decisions: &decisions,
+        node: 0,
+        depth: 127,
+    };
+    same_below(case, from, root)
 }
 
 // The same for the leaf limits 0 to 3, `size` words for each from word `from` on.
-fn same_limits(case: &[u8], from: usize, size: usize, words: &[u32], n: usize) -> bool
-    requires { (from ≤ 2048) × (size ≤ 2048) × (0 < n) × Accepted words.now n }
+fn same_limits(case: &[u8], from: usize, size: usize, accepted: AcceptedBvh2) -> bool
+    requires { (from ≤ 2048) × (size ≤ 2048) × (0 < accepted.tree.leaves) }
 {
-    for limit in 0..4 {
-        if !same_tree(case, from + limit as usize * size, words, n, limit) {
-            return false;
-        }
-    }
-    true
+    (0..4u32).all(|limit| same_tree(case, from + limit as usize * size, accepted, limit))
 }
 
 // Leaves; node words; for each limit and each node the children.
@@ -132,6 +119,9 @@ pub fn children(case: &[u8]) -> bool {
     }
     let mut space = [0u32; MOST_WORDS];
     let words: &mut [u32] = &mut space[..nodes * 7];
-    copy_words(case, 1, words);
-    is_accepted(words, n) && same_limits(case, 1 + nodes * 7, nodes * 5, words, n)
+    copy_words(behind(case, 1), words);
+    match accepted(words, n) {
+        Some(tree) => same_limits(case, 1 + nodes * 7, nodes * 5, tree),
+        None => false,
+    }
 }

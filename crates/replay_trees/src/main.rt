@@ -7,7 +7,7 @@ mod trees;
 
 use std::io;
 
-// Whether the library agrees with a case.
+// Whether the library agrees with a case, whose kind the file tells by a number.
 fn agrees(kind: u32, case: &[u8]) -> bool {
     match kind {
         19 => gathered::children(case),

@@ -1,15 +1,14 @@
 // What a tree of a stored case is accepted or refused for.
-ghost use Rattle.std.specs.Prelude.{◌≡◌, ◌≤◌, true};
-ghost use Rattle.bvh2.specs.Causes.{Accepted};
+ghost use Rattle.std.specs.Prelude.{◌≡◌, ◌<◌, ◌≤◌, IfSome};
 ghost use Rattle.bvh2.specs.Words.{tree_nodes};
 
-use bvh2_check::{sizes, structure};
+use bvh2_check::{AcceptedBvh2, sizes, structure};
 use stored::all_are;
 
 // Room for the words of a stored tree, seven for each node.
 pub const MOST_WORDS: usize = 2048;
 
-// The nodes of n leaves.
+// The nodes of n leaves. Counted here, so that what is replayed is not measured by its own counting.
 pub fn node_count(n: usize) -> usize
     requires { n ≤ 512 }
     ensures { result ≡ tree_nodes n }
@@ -17,14 +16,13 @@ pub fn node_count(n: usize) -> usize
     if n == 0 { 0 } else { 2 * n - 1 }
 }
 
-// Whether a tree has none of causes 1, 2, 5, 6 and 7, and the check for these leaves its marks zero.
-pub fn is_accepted(words: &[u32], n: usize) -> bool
+// A tree with leaves of which none of causes 1, 2, 5, 6 and 7 holds, if the check for it leaves its marks zero.
+pub fn accepted(words: &[u32], n: usize) -> Option<AcceptedBvh2<'_>>
     requires { n ≤ 512 }
-    ensures { result ≡ true → Accepted words.now n }
+    ensures { IfSome result (λ a. 0 < a.tree.leaves) }
 {
-    if sizes(words, n).is_err() {
-        return false;
-    }
+    let tree = sizes(words, n).ok()?;
     let mut marks = [0u32; MOST_WORDS];
-    structure(words, n, &mut marks).is_ok() && all_are(&marks, 0)
+    let accepted = structure(tree, &mut marks).ok()?;
+    (tree.leaves > 0 && all_are(&marks, 0)).then_some(accepted)
 }

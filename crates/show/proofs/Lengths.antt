@@ -4,8 +4,13 @@ use mathlib.Core.List.{List, [], ◌∷◌}
 use Prim.Native.Nat.{ℕ, zero, suc, ◌+◌, ◌*◌, ◌^◌, ◌≤◌, ◌<◌}
 use native.Mathlib.Omega.{arith}
 use lib.ListN.{length, take, drop, get_or, length-append, length-take}
+use lib.Seq.{length-take-le}
+use Rattle.std.specs.Borrow.{MutBor}
+use Rattle.text.specs.Put.{Starts, HasRoom}
 use Rattle.text.specs.Text.{chars, decimal}
+use Rattle.text.specs.declared.Writer.{Writer}
 use Rattle.text.proofs.Decimal.{decimal_most, decimal-word}
+use Rattle.text.proofs.Put.{starts_room}
 use Rattle.show.specs.Show.{node_line, node_lines, spaced, indices_line, record_text, numbered_line}
 use Rattle.show.proofs.Lines.{length_node, length_indices}
 
@@ -47,3 +52,14 @@ take_words zero l h k = omega arith
 take_words (suc n) [] h k = h k
 take_words (suc n) (x ∷ l) h zero = h 0
 take_words (suc n) (x ∷ l) h (suc k) = take_words n l (λ j. h (suc j)) k
+
+-- a record's text and a line have room in a buffer as long as they are at most
+module _ {out : MutBor (List ℕ)} {w : Writer} (starts : Starts out w) where
+  pub record_room : (bytes : List ℕ) (m n : ℕ) (l : List ℕ) → m ≤ 65535 → n ≤ length l → ((k : ℕ) → get_or l k 0 < 2 ^ 32)
+      → 167 * m + 11 * n + 8 ≤ length out.now → HasRoom w (record_text bytes m (take n l))
+  record_room bytes m n l h taken words room =
+      let most = record_most bytes m (take n l) h (take_words n l words) in
+      starts_room _ starts (omega (arith, room, most, length-take-le n l taken))
+
+  pub numbered_room : (word : List ℕ) (k : ℕ) → k < 2 ^ 32 → length word + 11 ≤ length out.now → HasRoom w (numbered_line word k)
+  numbered_room word k h room = starts_room _ starts (omega (arith, room, length_numbered word k, decimal-word k h))

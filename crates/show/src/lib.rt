@@ -4,12 +4,13 @@
 ghost use Rattle.std.specs.Prelude.{◌≡◌, ◌++◌, ◌+◌, ◌*◌, ◌≤◌, length, take};
 ghost use Rattle.causes.specs.Refusal.{cause_number};
 ghost use Rattle.lists.specs.Splice.{splice};
-ghost use Rattle.text.specs.Put.{Put};
+ghost use Rattle.text.specs.Put.{HasRoom, Put};
 ghost use Rattle.text.specs.Text.{chars, decimal};
 ghost use Rattle.show.specs.Input.{input_words};
 ghost use Rattle.show.specs.Show.{node_line, node_lines, spaced, indices_line, record_text, numbered_line, refusal_text, sound_text, unsound_text};
 
 use causes::Refusal;
+use text::Writer;
 
 // Reads words from a place of the input on.
 pub fn read_words(input: &[u8], from: usize, count: usize, words: &mut [u32])
@@ -22,63 +23,59 @@ pub fn read_words(input: &[u8], from: usize, count: usize, words: &mut [u32])
 }
 
 // Writes the line of node i.
-#[tactic(auto, using(crate::proofs::Lines::length_node))]
-fn put_node(out: &mut [u8], at: usize, i: u32, node: &[u8]) -> usize
-    requires { at + length (node_line i node.now) ≤ length out.old }
-    ensures { Put out.old at (node_line i node.now) result out.new }
+#[tactic(auto, using(crate::proofs::Lines::length_node), unfolding(text::specs::Text::chars))]
+fn put_node(w: &mut Writer, i: u32, node: &[u8])
+    requires { HasRoom w.old (node_line i node.now) }
+    ensures { Put w.old (node_line i node.now) w.new }
 {
-    let p = text::put_decimal(out, at, i);
-    let q = text::put_byte(out, p, b' ');
-    let r = text::put_hex(out, q, node);
-    text::put_byte(out, r, b'\n')
+    w.put_decimal(i);
+    w.put_byte(b' ');
+    w.put_hex(node);
+    w.put_byte(b'\n');
 }
 
 // Writes the lines of m nodes.
-fn put_nodes(out: &mut [u8], at: usize, record: &[u8], m: usize) -> usize
+fn put_nodes(w: &mut Writer, record: &[u8], m: usize)
     requires m_in_bounds { (80 * m ≤ length «record».now) × (m ≤ 65535) }
-    requires m_in_bounds_2 { at + length (node_lines «record».now 0 m) ≤ length out.old }
-    ensures { Put out.old at (node_lines «record».now 0 m) result out.new }
+    requires m_in_bounds_2 { HasRoom w.old (node_lines «record».now 0 m) }
+    ensures { Put w.old (node_lines «record».now 0 m) w.new }
 {
-    let mut p = at;
     for i in 0..m {
         let start = node::BYTES * i;
         let end = start + node::BYTES;
-        p = put_node(out, p, i as u32, &record[start..end]);
+        put_node(w, i as u32, &record[start..end]);
     }
-    p
 }
 
 // Writes an index behind a space.
 #[tactic(auto, unfolding(text::specs::Text::chars))]
-fn put_index(out: &mut [u8], at: usize, index: u32) -> usize
-    requires { at + length (chars " " ++ decimal index) ≤ length out.old }
-    ensures { Put out.old at (chars " " ++ decimal index) result out.new }
+fn put_index(w: &mut Writer, index: u32)
+    requires { HasRoom w.old (chars " " ++ decimal index) }
+    ensures { Put w.old (chars " " ++ decimal index) w.new }
 {
-    let p = text::put_byte(out, at, b' ');
-    text::put_decimal(out, p, index)
+    w.put_byte(b' ');
+    w.put_decimal(index);
 }
 
 // Writes indices, a space before each.
-fn put_spaced(out: &mut [u8], at: usize, indices: &[u32]) -> usize
-    requires { at + length (spaced indices.now) ≤ length out.old }
-    ensures { Put out.old at (spaced indices.now) result out.new }
+fn put_spaced(w: &mut Writer, indices: &[u32])
+    requires { HasRoom w.old (spaced indices.now) }
+    ensures { Put w.old (spaced indices.now) w.new }
 {
-    let mut p = at;
     for &index in indices {
-        p = put_index(out, p, index);
+        put_index(w, index);
     }
-    p
 }
 
 // Writes the line of the index list.
-#[tactic(auto, using(crate::proofs::Lines::length_indices))]
-fn put_indices(out: &mut [u8], at: usize, indices: &[u32]) -> usize
-    requires { at + length (indices_line indices.now) ≤ length out.old }
-    ensures { Put out.old at (indices_line indices.now) result out.new }
+#[tactic(auto, using(crate::proofs::Lines::length_indices), unfolding(text::specs::Text::chars))]
+fn put_indices(w: &mut Writer, indices: &[u32])
+    requires { HasRoom w.old (indices_line indices.now) }
+    ensures { Put w.old (indices_line indices.now) w.new }
 {
-    let p = text::put_bytes(out, at, b"indices");
-    let q = put_spaced(out, p, indices);
-    text::put_byte(out, q, b'\n')
+    w.put_bytes(b"indices");
+    put_spaced(w, indices);
+    w.put_byte(b'\n');
 }
 
 // Prints a record of m nodes and its n indices, at most 167 bytes a node and 11 an index.
@@ -88,8 +85,10 @@ pub fn print_record(record: &[u8], m: usize, indices: &[u32], n: usize, out: &mu
     ensures value { result ≡ length (record_text «record».now m (take n indices.now)) }
     ensures out_after { out.new ≡ splice out.old 0 (record_text «record».now m (take n indices.now)) }
 {
-    let p = put_nodes(out, 0, record, m);
-    put_indices(out, p, &indices[..n])
+    let mut w = Writer::new(out);
+    put_nodes(&mut w, record, m);
+    put_indices(&mut w, &indices[..n]);
+    w.written().len()
 }
 
 // Prints a word and a number.
@@ -98,12 +97,14 @@ fn print_numbered(word: &[u8], k: u32, out: &mut [u8]) -> usize
     ensures value { result ≡ length (numbered_line word.now k) }
     ensures out_after { out.new ≡ splice out.old 0 (numbered_line word.now k) }
 {
-    let p = text::put_bytes(out, 0, word);
-    let q = text::put_decimal(out, p, k);
-    text::put_byte(out, q, b'\n')
+    let mut w = Writer::new(out);
+    w.put_bytes(word);
+    w.put_decimal(k);
+    w.put_byte(b'\n');
+    w.written().len()
 }
 
-// Prints a refusal.
+// Prints a refusal. The room asked for is that of the longest line: the buffer is the caller's, who may lend more.
 pub fn print_refusal(refusal: Refusal, out: &mut [u8]) -> usize
     requires { 19 ≤ length out.old }
     ensures value { result ≡ length (refusal_text (cause_number refusal)) }
@@ -127,5 +128,7 @@ pub fn print_unsound(out: &mut [u8]) -> usize
     ensures value { result ≡ length unsound_text }
     ensures out_after { out.new ≡ splice out.old 0 unsound_text }
 {
-    text::put_bytes(out, 0, b"unsound\n")
+    let mut w = Writer::new(out);
+    w.put_bytes(b"unsound\n");
+    w.written().len()
 }

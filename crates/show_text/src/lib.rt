@@ -8,7 +8,7 @@ ghost use Rattle.show_text.specs.Room.{TextRoom};
 
 use causes::Refusal;
 
-// How many words the tree of n leaves has.
+// How many words the tree of n leaves has: counted here, since the input is read by it before there are words of a tree.
 fn tree_size(n: usize) -> usize
     requires { n ≤ most_leaves }
     ensures { result ≡ tree_size n }
@@ -16,7 +16,8 @@ fn tree_size(n: usize) -> usize
     if n == 0 { 0 } else { (2 * n - 1) * 7 }
 }
 
-// Converts a tree and writes its record and index list, or the number of the cause of refusal.
+// Converts a tree and writes its record and index list, or the number of the cause of refusal. The slices and `ordered` are the conversion's own
+// arguments, as the requirements give them, and go on to it one by one.
 fn tree_text(
     words: &[u32],
     indices: &[u32],

@@ -2,8 +2,6 @@
 // tree's record, a line a node, and its index list, or `refused NUMBER`. It reads one byte further than the longest input that is taken.
 #![tactic(auto)]
 
-ghost use Rattle.std.specs.Prelude.{◌≤◌, length};
-
 use std::io;
 
 // The most leaves.
@@ -21,10 +19,8 @@ const MOST_RECORD: usize = 20400;
 // 255 lines of at most 167 characters, and a line of 256 indices of at most 11.
 const MOST_TEXT: usize = 45409;
 
-// Answers the first got bytes.
-fn answer(rt: &impl Print, bytes: &[u8], got: usize) -> io::Result<()>
-    requires { got ≤ length bytes.now }
-{
+// Answers these bytes.
+fn answer(rt: &impl Print, bytes: &[u8]) -> io::Result<()> {
     let mut words = [0u32; MOST_WORDS];
     let mut indices = [0u32; MOST_LEAVES];
     let mut decisions = [0u32; MOST_WORDS];
@@ -33,7 +29,7 @@ fn answer(rt: &impl Print, bytes: &[u8], got: usize) -> io::Result<()>
     let mut list = [0u32; MOST_LEAVES];
     let mut text = [0u8; MOST_TEXT];
     let long = show_text::show_text(
-        &bytes[..got],
+        bytes,
         &mut words,
         &mut indices,
         &mut decisions,
@@ -48,5 +44,5 @@ fn answer(rt: &impl Print, bytes: &[u8], got: usize) -> io::Result<()>
 fn main(rt: HostRuntime) -> io::Result<()> {
     let mut bytes = [0u8; MOST_BYTES];
     let got = check_text::read_full(&mut rt.stdin(), &mut bytes)?;
-    answer(&rt, &bytes, got)
+    answer(&rt, &bytes[..got])
 }

@@ -11,12 +11,13 @@ ghost use Rattle.stored.specs.Given.{own_length, ConsumesSome, GivesNext};
 ghost use Rattle.std.specs.Io.KnownBytes.{Consumes};
 
 pub use cases::{
-    OneWord, RECORD_BYTES, beam, copy_bytes, copy_words, filled_up, filled_with, real, same,
-    same_vector, vector, wide, word,
+    OneWord, RECORD_BYTES, beam, behind, copy_bytes, copy_words, filled_up, filled_with, real,
+    same, same_parts, same_vector, vector, wide, word,
 };
 pub use digests::{digest_of, digest_of_bytes, digest_with};
 pub use lent::{
-    WORD, all_are, cleared_words, digested_words, same_bytes, same_words, written, written_words,
+    BYTE, COST, Lent, TOTAL, WORD, all_are, cleared_words, digested_words, untouched, written,
+    written_bytes, written_words,
 };
 use std::env::Env;
 use std::fs::Files;
@@ -135,7 +136,7 @@ fn replay_group<R: Print, G: Read, F: FnMut(u32, &[u8]) -> io::Result<bool>>(
     Ok(agreed == count)
 }
 
-// Runs each case of the file that argument i names by a test, which takes the kind and the bytes, and answers whether all agreed and the file is whole.
+// Runs each case of the file that argument i names by a test, which takes the kind and the bytes: whether all agreed and the file is whole.
 pub fn replay<R: Files + Env + Print + AllocGlobal, F: FnMut(u32, &[u8]) -> io::Result<bool>>(
     rt: &R,
     i: usize,
@@ -159,7 +160,7 @@ pub fn replay<R: Files + Env + Print + AllocGlobal, F: FnMut(u32, &[u8]) -> io::
     Ok(false)
 }
 
-// Prints the last line.
+// Prints the last line. Apart from `replay`, since a program may replay two files: so the programs' `main` are alike.
 pub fn print_verdict(rt: &impl Print, all: bool) -> io::Result<()> {
     if all {
         println!(rt; "all agreed")

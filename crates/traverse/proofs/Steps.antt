@@ -2,12 +2,10 @@
 use mathlib.Core.Path.{◌≡◌, refl, sym, ap, ◌∙◌, subst}
 use mathlib.Core.Bool.{Bool, true, false, ◌||◌, cond}
 use mathlib.Core.List.{List, [], ◌∷◌}
-use Prim.Native.Nat.{ℕ, ◌%◌}
-use native.Mathlib.Omega.{arith}
+use Prim.Native.Nat.{ℕ, ◌%◌, ◌<◌}
 use lib.Dec.{eqb, ltb, T}
 use lib.ListN.{length}
 use lib.Ieee.{Float}
-use borrow.Author.Tests.{ltb-false}
 use Rattle.ray.specs.Ray.{reaching, counts}
 use Rattle.lists.proofs.Tells.{tells_true, eqb_tells}
 use Rattle.std.specs.Prelude.{Result, Ok, Err}
@@ -16,8 +14,6 @@ use Rattle.causes.specs.Refusal.{cause_in}
 use Rattle.causes.specs.Causes.{◌unless◌, first_cause}
 use Rattle.causes.specs.Sizes.{sizes_fit, record_conditions, record_cause}
 use Rattle.causes.proofs.Sizes.{Fit, sizes_tell}
-use Rattle.node_slot.specs.declared.Ends.{Ends}
-use Rattle.node_slot.specs.Parts.{ends_of}
 use Rattle.record_shape.specs.Record.{node_count}
 use Rattle.walk.specs.Step as S
 use Rattle.walk.specs.WordStep.{WalkerWords, SteppedWords, stay_words, emptied_words, advance_words, step_words}
@@ -25,7 +21,6 @@ use Rattle.walk_record.specs.WalkRay.{WalkRay, forged_ray, by_boxes}
 use Rattle.walk_record.proofs.WalkRay.{walk_ray_laws}
 use Rattle.walk_record.specs.Record.{node_words_at}
 use Rattle.walk_record.specs.Walk.{step_at}
-use Rattle.advance.specs.Turn.{Walkable}
 use Rattle.traverse.specs.Walker.{step_bytes, is_forged, is_over, told_walker}
 
 -- ---- telling
@@ -108,16 +103,6 @@ module _ (bytes : List ℕ) (n : ℕ) (w : WalkerWords WalkRay) where
     own_say false true c e = absurd (subst T e tt)
     own_say true b c e = absurd (subst T e tt)
 
-    -- what the core asks, of a walker that is not forged
-    pub walks : forged ≡ false → (e : Ends) → e ≡ ends_of w.ray.ray.direction → Walkable bytes n w.ray.ray e w.ray.octant w.depth 32
-    walks h e q =
-        let o = own_say (forged_ray w.ray) (ltb 32 w.depth) (ltb m w.tests) h in
-        record {
-          whole = f.whole;
-          nodes = f.small;
-          positions = f.few;
-          ends = q;
-          eight = walk_ray_laws.octant_lt w.ray o.0;
-          deep = ltb-false 32 w.depth o.1;
-          stack = omega arith;
-        }
+    -- the octant of a walker that is not forged
+    pub octant_lt : forged ≡ false → w.ray.octant < 8
+    octant_lt h = walk_ray_laws.octant_lt w.ray (own_say (forged_ray w.ray) (ltb 32 w.depth) (ltb m w.tests) h).0

@@ -8,14 +8,13 @@ ghost use Rattle.record_shape.specs.Record.{node_count};
 ghost use Rattle.walk.specs.WordStep.{emptied_words, report_words, advance_words};
 ghost use Rattle.walk_record.specs.Record.{node_words_at};
 ghost use Rattle.ray.specs.declared.Ray as declared;
-ghost use Rattle.node_slot.specs.declared.Ends as slots;
-ghost use Rattle.node_slot.specs.Parts.{ends_of};
-ghost use Rattle.advance.specs.Turn.{group_of, walker_of, turned, Walkable};
+ghost use Rattle.advance.specs.Turn.{group_of, walker_of, turned};
 ghost use Rattle.traverse.specs.Walker.{walker_words, stepped_of, started_of, started, told_walker, step_bytes, is_forged, is_over};
 
-use advance::Turn;
+use advance::{CwBvh, Stack, Turn};
 pub use advance::{Answer, Group, Walk};
 use causes::Refusal;
+use node_slot::Aim;
 use ray::{Beam, Ray};
 
 // A ray under way: its current reach is ray.tmax. Of the stack's words, a group each, `depth` wait.
@@ -24,7 +23,7 @@ pub struct Walker {
     pub ray: Ray,
     pub octant: u32,
     pub walk: Walk,
-    pub stack: [u64; 32],
+    pub stack: Stack,
 }
 
 // The walker after a step, and what the step did.
@@ -45,6 +44,7 @@ fn own_inverse(ray: Ray) -> bool
 }
 
 // Whether a ray with an octant is none that a walker just begun holds.
+// Ray and octant by themselves: until a walker is known not to be forged, no Aim can hold both.
 fn is_forged_ray(ray: Ray, octant: u32) -> bool
     ensures { result ≡ forged_ray (record { ray = ray; octant = octant }) }
 {
@@ -92,6 +92,7 @@ fn emptied(w: Walker) -> Stepped
 }
 
 // Reports the highest of the positions in hand, on a record taken to have n positions.
+#[tactic(auto, using(crate::proofs::Reports::report_past, crate::proofs::Reports::report_made), unfolding(advance::specs::Turn::step_answer))]
 fn report(walk: Walk, n: usize) -> Turn
     requires { (0 < walk.positions.bits) × (n ≤ 65536) }
     ensures { (ray : declared.Ray) (octant : ℕ) (stack : List ℕ) → turned ray octant result stack
@@ -112,17 +113,17 @@ fn report(walk: Walk, n: usize) -> Turn
     }
 }
 
-// One turn of a walk whose stack is an array: a report where positions are in hand, else one test.
-fn turn(walk: Walk, ray: Ray, octant: u32, stack: &mut [u64; 32], record: &[u8], n: usize) -> Turn
-    requires { (e : slots.Ends) → e ≡ ends_of ray.direction → Walkable «record».now n ray e octant walk.depth 32 }
-    ensures { turned ray octant result stack.new
-        ≡ advance_words (node_count «record».now) (node_words_at «record».now by_boxes) n
+// One turn of a walk: a report where positions are in hand, else one test.
+fn turn(walk: Walk, ray: Ray, octant: u32, stack: &mut Stack, bvh: CwBvh) -> Turn
+    requires { octant < 8 }
+    ensures { let bytes = bvh.entry.bytes.now in turned ray octant result stack.new
+        ≡ advance_words (node_count bytes) (node_words_at bytes by_boxes) bvh.entry.positions
         (walker_of ray octant walk stack.old) }
 {
     if walk.positions.bits > 0 {
-        return report(walk, n);
+        return report(walk, bvh.positions);
     }
-    let e = node_slot::near_ends(ray.direction);
+    let aim = Aim::new(ray, octant);
     advance::seek(
         walk.tests,
         walk.positions.base,
@@ -130,17 +131,15 @@ fn turn(walk: Walk, ray: Ray, octant: u32, stack: &mut [u64; 32], record: &[u8],
         walk.current.bits,
         walk.depth,
         0,
-        ray,
-        e,
-        octant,
+        &aim,
         stack,
-        record,
-        n,
+        bvh,
     )
 }
 
 impl Walker {
     // A walker that has the first node before it, for a ray with zeros as +0.0.
+    #[tactic(auto, using(crate::proofs::Begun::starts, crate::proofs::Begun::refuses))]
     pub fn new(beam: Beam) -> Result<Walker, Refusal>
         ensures { started_of result ≡ started (ray_from beam) }
     {
@@ -179,7 +178,11 @@ impl Walker {
             return emptied(self);
         }
         let mut stack = self.stack;
-        let t = turn(walk, self.ray, self.octant, &mut stack, record, n);
+        let bvh = CwBvh {
+            bytes: record,
+            positions: n,
+        };
+        let t = turn(walk, self.ray, self.octant, &mut stack, bvh);
         Stepped {
             walker: Walker {
                 walk: t.walk,

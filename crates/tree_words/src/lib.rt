@@ -22,7 +22,7 @@ fn put_corner(words: &mut [u32], at: usize, p: Vec3)
     words[at + 2] = p.z.to_bits();
 }
 
-// Node v: an accepted box and the link word.
+// Node v: an accepted box and the link word. The two are no struct, since a copied node has the box of another one.
 pub fn put_node(words: &mut [u32], v: usize, b: Aabb, link: u32)
     requires { (v * 7 + 7 ≤ length words.old) × (accepted_box b ≡ true) }
     ensures { words.new ≡ splice words.old (v * 7) (boxed_words b link) }

@@ -12,7 +12,7 @@ ghost use Rattle.validate.specs.Marks.{MarkRoom, WorkSized, Ruled, Start, Fill, 
 
 use causes::Refusal;
 
-// Set k words from a on to v, unless one of them is not zero.
+// Set k words from a on to v, unless one of them is not zero. By index: how far it came tells which words are set.
 fn fill(work: &mut [u32], a: usize, k: usize, v: u32) -> bool
     requires { MarkRoom a k (length work.old) }
     ensures { Fill result work.old a k v work.new }
@@ -39,6 +39,9 @@ fn leaf_count(imask: u8, slot: u32, meta: u8) -> u32
     }
 }
 
+// The working words are lent on from call to call with the node that they serve: a struct of both would hold a `&mut`, and each contract would have
+// to say that it is still the same one. `record`, `m` and `n` stand in each of them with the length of these words, and so by themselves.
+
 // Mark the positions of a slot of node i, past the words of the m nodes, unless one of them is marked.
 fn mark_slot(record: &[u8], i: usize, slot: usize, m: usize, n: usize, work: &mut [u32]) -> bool
     requires { Ruled «record».now n i m (length work.old) × (slot < 8) }
@@ -51,7 +54,7 @@ fn mark_slot(record: &[u8], i: usize, slot: usize, m: usize, n: usize, work: &mu
     fill(work, m + start, count as usize, 1)
 }
 
-// Mark the positions of node i's eight slots, unless one of them is marked.
+// Mark the positions of node i's eight slots, unless one of them is marked. No `.all`: its closure would hold the working words that it writes.
 fn mark_positions(record: &[u8], i: usize, m: usize, n: usize, work: &mut [u32]) -> bool
     requires { Ruled «record».now n i m (length work.old) }
     ensures { MarksPositions result (shape_at «record».now n) i work.old work.new }

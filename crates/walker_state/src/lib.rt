@@ -1,7 +1,8 @@
 // Internal: a walker kept in words that a caller lends: it begins there, steps, and is told distances. Any words hold some walker.
+// They are two arrays, as the C interface lends them.
 #![tactic(auto)]
 
-ghost use Rattle.std.specs.Prelude.{◌≡◌, not, List, ℕ, ◌<◌, ◌+◌, ◌%◌, ◌^◌, eqb};
+ghost use Rattle.std.specs.Prelude.{◌≡◌, not, List, ℕ, ◌<◌, ◌+◌, ◌%◌, ◌^◌, eqb, get_or};
 ghost use Rattle.std.specs.Float.Ieee.{of_bits};
 ghost use Rattle.std.specs.Float.{binary32};
 ghost use Rattle.causes.specs.Refusal.{cause_in};
@@ -110,41 +111,31 @@ fn pattern(x: f32) -> u64
 }
 
 // The patterns of three floats.
-#[derive(Clone, Copy)]
-struct Triple {
-    x: u64,
-    y: u64,
-    z: u64,
-}
-
-fn patterns(v: Vec3) -> Triple
-    ensures { Patterns result.x result.y result.z v }
+fn patterns(v: Vec3) -> [u64; 3]
+    ensures { Patterns (get_or result 0 0) (get_or result 1 0) (get_or result 2 0) v }
 {
-    let x = pattern(v.x);
-    let y = pattern(v.y);
-    let z = pattern(v.z);
-    Triple { x, y, z }
+    [pattern(v.x), pattern(v.y), pattern(v.z)]
 }
 
 // The words of all but the stack.
 fn head_of(ray: Ray, octant: u32, walk: Walk) -> [u64; 18]
     ensures { (t : List ℕ) → walker_in result t ≡ walker_of ray octant walk t }
 {
-    let origin = patterns(ray.origin);
-    let direction = patterns(ray.direction);
-    let inverse = patterns(ray.inverse);
+    let [ox, oy, oz] = patterns(ray.origin);
+    let [dx, dy, dz] = patterns(ray.direction);
+    let [ix, iy, iz] = patterns(ray.inverse);
     let tmin = pattern(ray.tmin);
     let tmax = pattern(ray.tmax);
     [
-        origin.x,
-        origin.y,
-        origin.z,
-        direction.x,
-        direction.y,
-        direction.z,
-        inverse.x,
-        inverse.y,
-        inverse.z,
+        ox,
+        oy,
+        oz,
+        dx,
+        dy,
+        dz,
+        ix,
+        iy,
+        iz,
         tmin,
         tmax,
         u64::from(octant),

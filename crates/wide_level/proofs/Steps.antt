@@ -2,9 +2,11 @@
 use mathlib.Core.Path.{◌≡◌, sym, ap, ap₂, ◌∙◌}
 use mathlib.Core.Bool.{Bool}
 use mathlib.Core.List.{List}
-use Prim.Native.Nat.{ℕ, ◌+◌, ◌*◌, ◌-◌, ◌/◌, ◌%◌, ◌≤◌, ◌<◌, max}
+use mathlib.Core.Logic.{∥∥₁_elim}
+use Prim.Native.Nat.{ℕ, ◌+◌, ◌*◌, ◌-◌, ◌/◌, ◌%◌, ◌≤◌, max}
 use native.Mathlib.Omega.{arith}
 use lib.ListN.{get_or}
+use Rattle.std.proofs.Props.{props}
 use Rattle.aabb.specs.declared.Aabb.{Aabb}
 use Rattle.bvh2.specs.Tree.{Tree, leaf, inner}
 use Rattle.bvh2.specs.declared.Link.{Link as Read}
@@ -13,7 +15,7 @@ use Rattle.bvh2.specs.Said.{said}
 use Rattle.bvh2.specs.Words.{children, position, link_at, box_at, tree_at}
 use Rattle.bvh2.proofs.Decoded.{subtree_leaves}
 use Rattle.bvh2.proofs.Reading.{tree_leaf}
-use Rattle.bvh2.proofs.Subtree.{Inner, inner_link}
+use Rattle.bvh2.proofs.Subtree.{inner_link}
 use Rattle.cost.specs.declared.Kind.{Kind as Told}
 use Rattle.cost.specs.declared.Kind.TheVariants as K
 use Rattle.cost.specs.Said.{kind_said, kind_in}
@@ -21,8 +23,11 @@ use Rattle.cost.specs.Table.{Kind, LEAF, table, word_of}
 use Rattle.cost.specs.Rows.{RowsHold}
 use Rattle.cost.proofs.Splits.{leaf_distribute, internal_leaf, leaf_kind}
 use Rattle.cost.proofs.Steps.{no_children}
+use Rattle.children.specs.declared.branch.Branch.{Branch}
+use Rattle.children.specs.Branches.{subtree_of, DecidedBy, Below}
 use Rattle.children.specs.Tabled.{Tabled}
-use Rattle.children.proofs.Steps.{says, told, left_tabled, right_tabled}
+use Rattle.children.proofs.Branches.{of_below, word_kind}
+use Rattle.children.proofs.Steps.{says, told}
 use Rattle.wide_layout.specs.Layout.{level}
 use Rattle.wide_tree.specs.Ordered.{placing, wide_tree}
 use Rattle.wide_tree.proofs.WideTree.{Fine}
@@ -30,9 +35,9 @@ use Rattle.wide_tree.proofs.Ordered.{places}
 use Rattle.wide_level.specs.Levels.{added_as, levels, added}
 use Rattle.wide_level.proofs.Levels.{wide_level}
 
--- r is what node v adds at entry i, by the tables that ds holds
-abbrev pub Adds : (ws ds : List ℕ) → (e v i r : ℕ) → Type 0
-Adds ws ds e v i r = (limit : ℕ) → RowsHold (word_of limit) 0 ds (tree_at ws e v) → r ≡ added limit (tree_at ws e v) i
+-- r is what a tree adds at entry i, by the tables that ds holds
+abbrev pub Adds : (i r : ℕ) → List ℕ → Tree ℕ → Type 0
+Adds i r ds t = (limit : ℕ) → RowsHold (word_of limit) 0 ds t → r ≡ added limit t i
 
 -- the rows below an inner tree
 rows_below : (limit : ℕ) (ds : List ℕ) (t : Tree ℕ) (v : ℕ) (box : Aabb) (a b : Tree ℕ) → t ≡ inner v box a b → RowsHold (word_of limit) 0 ds t
@@ -51,35 +56,21 @@ levels_leaf : (limit : ℕ) (t : Tree ℕ) (v : ℕ) (box : Aabb) (p i : ℕ) �
 unfolding levels
 levels_leaf limit t v box p i q = rw q
 
--- ---- a node that is opened: what each call asks, and the levels from what they give
-pub record Down (ws ds : List ℕ) (e v i f l r : ℕ) : Type 0 where
-  pub deep : 0 < e
-  pub left : Tabled ws ds (e - 1) f
-  pub left_entry : l ≤ 6
-  pub right : Tabled ws ds (e - 1) (f + 1)
-  pub right_entry : r ≤ 6
-  pub joined : (x y : ℕ) → Adds ws ds (e - 1) f l x → Adds ws ds (e - 1) (f + 1) r y
-      → (limit : ℕ) → RowsHold (word_of limit) 0 ds (tree_at ws e v) → max x y ≡ levels limit (tree_at ws e v) i
-
-halves : {ws ds : List ℕ} {e v : ℕ} (h : Tabled ws ds e v) (f : ℕ) (p : Inner ws h.n e v f) (i : ℕ) → i ≤ 6
-    → Down ws ds e v i f (get_or ds (v * 7 + i) 0 / 256 % 256) (get_or ds (v * 7 + i) 0 % 256)
-halves {ws} {ds} {e} {v} h f p i u =
-    let t = tree_at ws e v in
-    let L = tree_at ws (e - 1) f in
-    let R = tree_at ws (e - 1) (f + 1) in
-    let s = says h h.limit h.holds i u in
-    record {
-      deep = p.deep;
-      left = left_tabled h f p;
-      left_entry = omega (arith, s.left, s.few);
-      right = right_tabled h f p;
-      right_entry = omega (arith, s.right, s.few);
-      joined = λ x y g k limit z. (
-          let s = says h limit z i u in
-          let b = rows_below limit ds t v (box_at ws v) L R p.tree z in
-          ap₂ (λ (m n : ℕ). max m n) (g limit b.0 ∙ ap (added limit L) s.left) (k limit b.1 ∙ ap (added limit R) s.right)
-          ∙ sym (levels_inner limit t v (box_at ws v) L R i p.tree));
-    }
+-- the levels of a node that is opened, from what its two children add
+pub joined : {b L R : Branch} {f l r i x y : ℕ} → i ≤ 6 → children f ≡ link_at b.words.now b.node
+    → l ≡ get_or b.decisions.now (b.node * 7 + i) 0 / 256 % 256 → r ≡ get_or b.decisions.now (b.node * 7 + i) 0 % 256
+    → Below b f L → Adds l x L.decisions.now (subtree_of L) → Below b (f + 1) R → Adds r y R.decisions.now (subtree_of R)
+    → (limit : ℕ) → DecidedBy limit b → max x y ≡ levels limit (subtree_of b) i
+joined {b} {f = f} {l} {r} {i} {x} {y} u q c d m g n k limit z = ∥∥₁_elim b.tabled (hlevel props) (λ h.
+    let ws = b.words.now in
+    let T = tree_at ws (b.depth - 1) f in
+    let U = tree_at ws (b.depth - 1) (f + 1) in
+    let p = inner_link ws h.n b.depth b.node f h.tree (sym q) in
+    let s = says h limit z i u in
+    let w = rows_below limit b.decisions.now (subtree_of b) b.node (box_at ws b.node) T U p.tree z in
+    ap₂ (λ (m n : ℕ). max m n) (of_below m (Adds l x) g limit w.0 ∙ ap (added limit T) (c ∙ s.left))
+    (of_below n (Adds r y) k limit w.1 ∙ ap (added limit U) (d ∙ s.right))
+    ∙ sym (levels_inner limit (subtree_of b) b.node (box_at ws b.node) T U i p.tree))
 
 -- a node whose link is none to children is a leaf child
 childless_leaf : {ws ds : List ℕ} {e v : ℕ} {l : Read} → Tabled ws ds e v → (i : ℕ) → i ≤ 6 → said l ≡ link_at ws v
@@ -89,10 +80,6 @@ childless_leaf {ws} {ds} {e} {v} h i u q k =
   where
     leaf_said : (t : Tree ℕ) (box : Aabb) (p : ℕ) → t ≡ leaf v box p → (table h.limit t i).kind ≡ LEAF
     leaf_said t box p q = rw q (leaf_kind h.limit v box p i)
-
-pub down : {ws ds : List ℕ} {e v i f l r : ℕ} → Tabled ws ds e v → i ≤ 6 → children f ≡ link_at ws v → l ≡ get_or ds (v * 7 + i) 0 / 256 % 256
-    → r ≡ get_or ds (v * 7 + i) 0 % 256 → Down ws ds e v i f l r
-down {ws} {e = e} {v = v} {i = i} {f = f} h u q b c = rw (b, c) (halves h f (inner_link ws h.n e v f h.tree (sym q)) i u)
 
 -- ---- what a node adds by its kind: the levels of its own
 pub record Own (kind : Told) (n : ℕ) : Type 0 where
@@ -106,38 +93,37 @@ own_inner q z = rw (q, z) (record { few = omega arith; no_leaf = internal_leaf; 
 pub own_opened : {kind : Told} {n : ℕ} → kind ≡ K.Distribute → n ≡ 0 → Own kind n
 own_opened q z = rw (q, z) (record { few = omega arith; no_leaf = λ y. leaf_distribute (sym y); adds = λ m. omega arith })
 
-table_kind : {ws ds : List ℕ} {e v i : ℕ} (kind : Told) → Tabled ws ds e v → i ≤ 6 → kind_said kind ≡ kind_in (get_or ds (v * 7 + i) 0)
-    → (limit : ℕ) → RowsHold (word_of limit) 0 ds (tree_at ws e v) → kind_said kind ≡ (table limit (tree_at ws e v) i).kind
-table_kind {i = i} kind h u read limit k = read ∙ told h limit k i u
+table_kind : (b : Branch) {i : ℕ} (kind : Told) → i ≤ 6 → kind_said kind ≡ kind_in (get_or b.decisions.now (b.node * 7 + i) 0)
+    → (limit : ℕ) → DecidedBy limit b → kind_said kind ≡ (table limit (subtree_of b) i).kind
+table_kind b {i} kind u read limit k = read ∙ word_kind b limit k i u
 
-module _ {ws ds : List ℕ} {e v i : ℕ} {kind : Told} (h : Tabled ws ds e v) (u : i ≤ 6)
-    (read : kind_said kind ≡ kind_in (get_or ds (v * 7 + i) 0)) where
-  pub as_leaf_lem : kind ≡ K.Leaf → Adds ws ds e v i 0
-  as_leaf_lem z limit k = ap (λ (x : Kind). added_as x (levels limit (tree_at ws e v) i)) (sym (ap kind_said z) ∙ table_kind kind h u read limit k)
+module _ (b : Branch) {i : ℕ} {kind : Told} (u : i ≤ 6) (read : kind_said kind ≡ kind_in (get_or b.decisions.now (b.node * 7 + i) 0)) where
+  pub as_leaf_lem : kind ≡ K.Leaf → Adds i 0 b.decisions.now (subtree_of b)
+  as_leaf_lem z limit k = ap (λ (x : Kind). added_as x (levels limit (subtree_of b) i)) (sym (ap kind_said z) ∙ table_kind b kind u read limit k)
 
-  pub has_children : {n : ℕ} {l : Read} → Own kind n → said l ≡ link_at ws v → ((f : ℕ) → l ≡ V.Children f → ⊥) → ⊥
-  has_children o q k = o.no_leaf (read ∙ childless_leaf h i u q k)
+  pub has_children : {n : ℕ} {l : Read} → Own kind n → said l ≡ link_at b.words.now b.node → ((f : ℕ) → l ≡ V.Children f → ⊥) → ⊥
+  has_children o q k = ∥∥₁_elim b.tabled (hlevel props) (λ h. o.no_leaf (read ∙ childless_leaf h i u q k))
 
-  pub as_own : {n f l r x y : ℕ} → Own kind n → Down ws ds e v i f l r → Adds ws ds (e - 1) f l x → Adds ws ds (e - 1) (f + 1) r y
-      → Adds ws ds e v i (max x y + n)
-  as_own {n} {x = x} {y = y} o d a b limit k =
-      let m = levels limit (tree_at ws e v) i in
-      ap (λ (z : ℕ). z + n) (d.joined x y a b limit k) ∙ o.adds m ∙ ap (λ (z : Kind). added_as z m) (table_kind kind h u read limit k)
+  pub as_own : {n m : ℕ} → Own kind n → ((limit : ℕ) → DecidedBy limit b → m ≡ levels limit (subtree_of b) i)
+      → Adds i (m + n) b.decisions.now (subtree_of b)
+  as_own {n} o d limit k =
+      let x = levels limit (subtree_of b) i in
+      ap (λ (z : ℕ). z + n) (d limit k) ∙ o.adds x ∙ ap (λ (z : Kind). added_as z x) (table_kind b kind u read limit k)
 
 -- ---- the root, opened whatever its decision says
 root_fine : {ws ds : List ℕ} {e v : ℕ} → Tabled ws ds e v → Fine (tree_at ws e v)
 root_fine h = record { boxes = h.tree.boxes; few = omega (arith, subtree_leaves h.tree, h.tree.few) }
 
-pub root_level : {ws ds : List ℕ} {e v : ℕ} → Tabled ws ds e v → (limit : ℕ) (ordered : Bool) → level (wide_tree ordered limit (tree_at ws e v))
-    ≡ levels limit (tree_at ws e v) 0
-root_level {ws} {e = e} {v = v} h limit ordered = wide_level (placing ordered) limit (places ordered) (tree_at ws e v) (root_fine h)
+root_level : (b : Branch) (limit : ℕ) (ordered : Bool) → level (wide_tree ordered limit (subtree_of b)) ≡ levels limit (subtree_of b) 0
+root_level b limit ordered = ∥∥₁_elim b.tabled (hlevel props)
+    (λ h. wide_level (placing ordered) limit (places ordered) (subtree_of b) (root_fine h))
 
-pub root_leaf : {ws ds : List ℕ} {e v p : ℕ} → Tabled ws ds e v → position p ≡ link_at ws v
-    → (limit : ℕ) (ordered : Bool) → 0 ≡ level (wide_tree ordered limit (tree_at ws e v))
-root_leaf {ws} {e = e} {v = v} {p = p} h q limit ordered =
-    sym (root_level h limit ordered ∙ levels_leaf limit (tree_at ws e v) v (box_at ws v) p 0 (tree_leaf ws e v p (sym q)))
+pub root_leaf : (b : Branch) {p : ℕ} → position p ≡ link_at b.words.now b.node
+    → (limit : ℕ) (ordered : Bool) → 0 ≡ level (wide_tree ordered limit (subtree_of b))
+root_leaf b {p} q limit ordered =
+    sym (root_level b limit ordered
+    ∙ levels_leaf limit (subtree_of b) b.node (box_at b.words.now b.node) p 0 (tree_leaf b.words.now b.depth b.node p (sym q)))
 
-pub root_joined : {ws ds : List ℕ} {e v f l r x y : ℕ} → Tabled ws ds e v → Down ws ds e v 0 f l r → Adds ws ds (e - 1) f l x
-    → Adds ws ds (e - 1) (f + 1) r y
-    → (limit : ℕ) (ordered : Bool) → RowsHold (word_of limit) 0 ds (tree_at ws e v) → max x y ≡ level (wide_tree ordered limit (tree_at ws e v))
-root_joined {x = x} {y = y} h d a b limit ordered k = d.joined x y a b limit k ∙ sym (root_level h limit ordered)
+pub root_joined : (b : Branch) {m : ℕ} → ((limit : ℕ) → DecidedBy limit b → m ≡ levels limit (subtree_of b) 0)
+    → (limit : ℕ) (ordered : Bool) → DecidedBy limit b → m ≡ level (wide_tree ordered limit (subtree_of b))
+root_joined b d limit ordered k = d limit k ∙ sym (root_level b limit ordered)

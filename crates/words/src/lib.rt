@@ -61,7 +61,7 @@ fn bytes_at<const N: usize>(s: &[u8], at: usize) -> [u8; N]
     s[at..at + N].try_into().unwrap()
 }
 
-// The word at a place of a slice.
+// The word at a place of a slice. Two widths, a line each: std has no trait with `from_le_bytes`.
 pub fn load_u32(s: &[u8], at: usize) -> u32
     requires { at + 4 ≤ length s.now }
     ensures { Loaded 4 s.now at result }

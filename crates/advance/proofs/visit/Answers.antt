@@ -9,7 +9,8 @@ pub returns-then-lacks_room : goal.returns-then-lacks_room
 unfolding step_answer
 returns-then-lacks_room c =
     let a = c.args in
-    turn_crowded a.«record».now a.n a.ray a.octant a.walk a.stack.now (group_of a.g.group) a.g.depth
+    let aim = a.aim.now in
+    turn_crowded a.bvh.bytes.now a.bvh.positions aim.ray aim.octant a.walk a.stack.now (group_of a.g.group) a.g.depth
     (group_of c.rest_of-rest.result) c.first_child-child.result
     c.rest_of-rest.ensures c.first_child-child.ensures (sym c.lacks_room.ensures ∙ c.if-lacks_room.true)
 
@@ -17,22 +18,24 @@ pub returns-then-is_past : goal.returns-then-is_past
 unfolding step_answer
 returns-then-is_past c =
     let a = c.args in
-    turn_past a.«record».now a.n a.ray a.octant a.walk a.stack.now (group_of a.g.group) a.g.depth
+    let aim = a.aim.now in
+    turn_past a.bvh.bytes.now a.bvh.positions aim.ray aim.octant a.walk a.stack.now (group_of a.g.group) a.g.depth
     (group_of c.rest_of-rest.result) c.first_child-child.result
     c.rest_of-rest.ensures c.first_child-child.ensures (sym c.lacks_room.ensures ∙ c.if-lacks_room.false)
     (sym c.is_past.ensures ∙ c.if-is_past.true)
 
 pub test_node-requires : goal.test_node-requires
 test_node-requires c =
-    let h = not_past c.first_child-child.result c.args.walk.tests (node_count c.args.«record».now)
+    let h = not_past c.first_child-child.result c.args.walk.tests (node_count c.args.bvh.bytes.now)
     (sym c.is_past.ensures ∙ c.if-is_past.false) in
-    (omega (arith, h.0), c.requires.0.ends, c.requires.0.eight)
+    omega (arith, h.0)
 
 pub returns-in_default : goal.returns-in_default
 unfolding step_answer
 returns-in_default c =
     let a = c.args in
-    turn-broken a.«record».now a.n a.ray a.octant a.walk a.stack.now (group_of a.g.group) a.g.depth
+    let aim = a.aim.now in
+    turn-broken a.bvh.bytes.now a.bvh.positions aim.ray aim.octant a.walk a.stack.now (group_of a.g.group) a.g.depth
     (group_of c.rest_of-rest.result) c.first_child-child.result
     c.rest_of-rest.ensures c.first_child-child.ensures (sym c.lacks_room.ensures ∙ c.if-lacks_room.false)
     (sym c.is_past.ensures ∙ c.if-is_past.false)
@@ -40,21 +43,22 @@ returns-in_default c =
 
 pub overflow_cast-result : goal.overflow_cast-result
 overflow_cast-result c =
-    let h = not_past c.first_child-child.result c.args.walk.tests (node_count c.args.«record».now)
+    let h = not_past c.first_child-child.result c.args.walk.tests (node_count c.args.bvh.bytes.now)
     (sym c.is_past.ensures ∙ c.if-is_past.false) in
-    omega (arith, h.0, c.requires.0.nodes)
+    omega (arith, h.0, c.args.bvh.fit.small)
 
 pub follow-requires : goal.follow-requires
 follow-requires c =
-    let h = not_past c.first_child-child.result c.args.walk.tests (node_count c.args.«record».now)
+    let h = not_past c.first_child-child.result c.args.walk.tests (node_count c.args.bvh.bytes.now)
     (sym c.is_past.ensures ∙ c.if-is_past.false) in
-    omega (arith, h.1, c.requires.0.nodes)
+    omega (arith, h.1, c.args.bvh.fit.small)
 
 pub returns : goal.returns
 unfolding step_answer
 returns c =
     let a = c.args in
-    turn-tested a.«record».now a.n a.ray a.octant a.walk a.stack.now (group_of a.g.group) a.g.depth
+    let aim = a.aim.now in
+    turn-tested a.bvh.bytes.now a.bvh.positions aim.ray aim.octant a.walk a.stack.now (group_of a.g.group) a.g.depth
     (group_of c.rest_of-rest.result) c.first_child-child.result
     c.rest_of-rest.ensures c.first_child-child.ensures (sym c.lacks_room.ensures ∙ c.if-lacks_room.false)
     (sym c.is_past.ensures ∙ c.if-is_past.false)

@@ -1,7 +1,8 @@
-use Rattle.std.proofs.Common.{◌≡◌, ◌≤◌, true, length, ◌++◌, drop, replicate, ◌∙◌, arith, rules}
+use Rattle.std.proofs.Common.{◌≡◌, ◌≤◌, ℕ, List, true, length, ◌++◌, drop, replicate, ◌∙◌, arith, rules}
 use lib.ListN.{length-append, length-take, length-drop}
 use Rattle.causes.specs.Refusal.{cause_number}
 use Rattle.advance.specs.Turn.{walker_of}
+use Rattle.query.proofs.Begins.{sized_of}
 use Rattle.query.specs.Result.{unanswered}
 use Rattle.any_hit.specs.AnyHit.{refused, any_hit_answer, result_of}
 use Rattle.any_hit.specs.Gather.{Stands}
@@ -13,48 +14,49 @@ use Rattle.any_hit.proofs.walk_on.Goals.{In_ok-rest}
 
 -- ---- after the walk has gone on
 
-done : (c : In_ok-rest) → let a = c.args in let g = c.in_ok-rest.rest in
-    Stands a.«record».now a.n a.ray true 0xffff_0000 (walker_of a.ray a.octant g.walk c.gather.new.stack) g.count
-    (c.copy_from_slice.new.self ++ drop a.first.count (replicate 1024 0)) c.gather.new.found
+done : (c : In_ok-rest) → let bvh = c.args.query.bvh in let aim = c.args.query.aim in let g = c.in_ok-rest.rest in
+    Stands bvh.bytes.now bvh.positions aim.ray true 0xffff_0000 (walker_of aim.ray aim.octant g.walk c.gather.new.stack) g.count
+    (c.copy_from_slice.new.self ++ drop c.args.first.count (replicate 1024 0)) c.gather.new.found
 done c =
-    let a = c.args in
+    let query = c.args.query in
+    let bvh = query.bvh in
+    let aim = query.aim in
     let g = c.in_ok-rest.rest in
-    counted_only a.«record».now a.n a.ray g.done 0xffff_0000 _ g.count _ c.gather.new.found c.requires.record_sized.0 (omega arith)
+    counted_only bvh.bytes.now bvh.positions aim.ray g.done 0xffff_0000 _ g.count _ c.gather.new.found (sized_of _ _ bvh.fit query.some) (omega arith)
     c.in_ok-rest.ensures.1
 
 pub gather-requires : goal.gather-requires
 gather-requires c =
-    let p = c.requires.bits_value in
-    record {
-      record_sized = (
-        c.requires.record_sized.0,
-        walk_moved c.requires.walking p.1 (replicate 1024 0) p.2 _
-            (copied (replicate 1024 0) c.args.found.now c.copy_from_slice.new.self c.args.first.count p.1 c.copy_from_slice.ensures.after),
-      );
-      e_value = (c.near_ends-e.ensures, p.0, omega (arith, p.2));
-    }
+    let p = c.requires.between in
+    let more : List ℕ = replicate 1024 0 in (
+      p.0,
+      omega (arith, p.2),
+      walk_moved c.requires.walking p.1 more p.2 _
+          (copied more c.args.found.now c.copy_from_slice.new.self c.args.first.count p.1 c.copy_from_slice.ensures.after),
+    )
 
 pub walk_again-requires : goal.walk_again-requires
-walk_again-requires c = record {
-  record_sized = c.requires.record_sized;
-  counted = (done (goal.at.walk_again-requires c).In_ok-rest).0;
-}
+walk_again-requires c = (done (goal.at.walk_again-requires c).In_ok-rest).0
 
 pub returns-in_err-rest : goal.returns-in_err-rest
 unfolding any_hit_answer result_of
 returns-in_err-rest c =
     let a = c.args in
+    let bvh = a.query.bvh in
+    let aim = a.query.aim in
     let f = c.in_err-rest.field-0.0 in
     let own : result_of c.from_residual.result ≡ unanswered (refused (cause_number f)) = search rules in
-    let e = ends_refused a.«record».now a.n a.ray a.list.now (cause_number f) c.in_err-rest.ensures in
+    let e = ends_refused bvh.bytes.now bvh.positions aim.ray a.list.now (cause_number f) c.in_err-rest.ensures in
     record { result_value = own ∙ e.0; list_after = e.1 }
 
 pub returns : goal.returns
 returns c =
     let a = c.args in
+    let bvh = a.query.bvh in
+    let aim = a.query.aim in
     let d = done (goal.at.returns c).In_ok-rest in
     let l : length c.gather.new.found ≡ 1024 =
     c.gather.auto.found ∙ simp (length-append, c.copy_from_slice.ensures.len, length-take, length-drop) (omega arith) in
     let h : c.in_ok-rest.rest.count ≤ length c.gather.new.found = omega (arith, c.if-rest-gt1024.false, l) in
-    let q = ends_kept a.«record».now a.n a.ray a.list.now d.0 _ c.gather.new.found d.1 h in
+    let q = ends_kept bvh.bytes.now bvh.positions aim.ray a.list.now d.0 _ c.gather.new.found d.1 h in
     record { result_value = c.deliver.ensures.result_value ∙ q.0; list_after = c.deliver.ensures.list_after ∙ q.1 }

@@ -14,7 +14,7 @@ visit-requires t c =
 pub overflow_add-first : goal.overflow_add-first
 overflow_add-first t c =
     let g = at_fork c.args.depth _ c.requires c.in-Children.ensures c.if-depth-eq0.false in
-    let few = c.requires.sized.few in
+    let few = c.args.tree.sized.few in
     omega (arith, g.right.node)
 
 pub visit-requires-then-visit : goal.visit-requires-then-visit
@@ -25,13 +25,13 @@ visit-requires-then-visit t c =
 pub overflow_add-place : goal.overflow_add-place
 overflow_add-place t c =
     let g = at_leaf c.args.depth _ c.requires c.in-Position.ensures in
-    let few = c.requires.sized.few in
+    let few = c.args.tree.sized.few in
     omega (arith, g.held)
 
 pub offset_bounds-marks-place : goal.offset_bounds-marks-place
 offset_bounds-marks-place t c =
     let g = at_leaf c.args.depth _ c.requires c.in-Position.ensures in
-    let few = c.requires.sized.few in
+    let few = c.args.tree.sized.few in
     omega (arith, g.held)
 
 pub bounds-marks-place : goal.bounds-marks-place
@@ -42,12 +42,12 @@ bounds-marks-place t c =
 pub returns-then-met : goal.returns-then-met
 returns-then-met t c =
     let g = at_leaf c.args.depth _ c.requires c.in-Position.ensures in
-    held_before _ _ _ _ _ c.if-marks-node-ne0.false _ _ g.tree g.ends c.if-met.true
+    held_before _ _ _ _ _ c.if-marks-node-ne0.false c.nodes.ensures _ _ g.tree g.ends c.if-met.true
 
 pub offset_bounds-marks-place-in-Position : goal.offset_bounds-marks-place-in-Position
 offset_bounds-marks-place-in-Position t c =
     let g = at_leaf c.args.depth _ c.requires c.in-Position.ensures in
-    let few = c.requires.sized.few in
+    let few = c.args.tree.sized.few in
     omega (arith, g.held)
 
 pub bounds-marks-place-in-Position : goal.bounds-marks-place-in-Position
@@ -76,4 +76,4 @@ returns-else-visit t c =
 pub returns-else-met : goal.returns-else-met
 returns-else-met t c =
     let g = at_leaf c.args.depth _ c.requires c.in-Position.ensures in
-    held_now _ _ _ _ _ c.if-marks-node-ne0.false _ _ g.tree g.ends c.if-met.false
+    held_now _ _ _ _ _ c.if-marks-node-ne0.false c.nodes.ensures _ _ g.tree g.ends c.if-met.false

@@ -6,4 +6,6 @@ use Rattle.lists.proofs.Ranges.{all_in_range}
 use Rattle.bvh2_check.proofs.links_inside.Goals as goal
 
 pub returns : goal.returns
-returns c = all_in_range (λ v. is_inside c.args.n (link_at c.args.words.now v)) _ c.all.ensures.ran refl (λ x b q k. search rules)
+returns c =
+    let t = c.args.tree in
+    all_in_range (λ v. is_inside t.leaves (link_at t.words.now v)) _ c.all.ensures.ran (rw c.nodes.ensures refl) (λ x b q k. search rules)

@@ -4,8 +4,8 @@ use Rattle.bvh2_tables.specs.Tables.{record_size}
 use Rattle.bvh2_tables.proofs.Room.{size_none, size_some}
 use Rattle.bvh2_tables.proofs.record_size.Goals as goal
 
-pub returns-then-n-eq0 : goal.returns-then-n-eq0
-returns-then-n-eq0 c = sym (ap record_size c.if-n-eq0.true ∙ size_none)
+pub returns-then-tree-eq0 : goal.returns-then-tree-eq0
+returns-then-tree-eq0 c = sym (ap record_size c.if-tree-eq0.true ∙ size_none)
 
-pub returns-else-n-eq0 : goal.returns-else-n-eq0
-returns-else-n-eq0 c = let s = size_some c.args.n (omega arith) in omega arith
+pub returns-else-tree-eq0 : goal.returns-else-tree-eq0
+returns-else-tree-eq0 c = let s = size_some c.args.tree.leaves (omega arith) in omega arith

@@ -9,6 +9,7 @@ use Rattle.bvh2_to_cwbvh.specs.Conversion.{refused}
 use Rattle.bvh2_to_cwbvh.specs.Answer.{conversion_answer}
 use Rattle.bvh2_to_cwbvh.proofs.Endings.{Prepares, ended, early_ends, empty_ends, level_ready, emit_ready, few_leaves, words_room, costs_room}
 use Rattle.bvh2_to_cwbvh.proofs.Endings.{deep_ends, written_ends, nodes_fit}
+use Rattle.bvh2_to_cwbvh.proofs.Ready.{is_root}
 use Rattle.bvh2_to_cwbvh.proofs.bvh2_to_cwbvh.Goals as goal
 use Rattle.bvh2_to_cwbvh.proofs.bvh2_to_cwbvh.Goals.{In_ok-prepare, Else-empty}
 
@@ -49,10 +50,10 @@ pub returns-then-empty : goal.returns-then-empty
 unfolding conversion_answer
 returns-then-empty c = empty_ends (prepared (goal.at.returns-then-empty c).In_ok-prepare) c.if-empty.true
 
-pub deepest_level-deepest-requires : goal.deepest_level-deepest-requires
-deepest_level-deepest-requires c =
-    let p = goal.at.deepest_level-deepest-requires c in
-    level_ready (prepared p.In_ok-prepare) (some p.Else-empty)
+pub invariant_of-root : goal.invariant_of-root
+invariant_of-root c =
+    let p = goal.at.invariant_of-root c in
+    record { tabled = ∣ level_ready (prepared p.In_ok-prepare) (some p.Else-empty) ∣₁ }
 
 pub clear_tables-requires : goal.clear_tables-requires
 clear_tables-requires c =
@@ -72,14 +73,14 @@ returns-then-deep c =
 pub emit-written-requires : goal.emit-written-requires
 emit-written-requires c =
     let p = goal.at.emit-written-requires c in
-    emit_ready (prepared p.In_ok-prepare) (some p.Else-empty)
+    emit_ready (prepared p.In_ok-prepare) (some p.Else-empty) _ is_root
 
 pub overflow_cast-result : goal.overflow_cast-result
 overflow_cast-result c =
     let p = goal.at.overflow_cast-result c in
     let r = c.deepest_level-deepest in
     let o = c.emit-written in
-    omega (arith, nodes_fit (prepared p.In_ok-prepare) (some p.Else-empty) r.result r.ensures _ _ o.result o.ensures)
+    omega (arith, nodes_fit (prepared p.In_ok-prepare) (some p.Else-empty) r.result r.ensures _ is_root _ _ o.result o.ensures)
 
 pub returns : goal.returns
 unfolding conversion_answer
@@ -87,4 +88,4 @@ returns c =
     let p = goal.at.returns c in
     let r = c.deepest_level-deepest in
     let o = c.emit-written in
-    written_ends (prepared p.In_ok-prepare) (some p.Else-empty) r.result r.ensures c.if-deep.false o.new.bytes o.new.out o.result o.ensures
+    written_ends (prepared p.In_ok-prepare) (some p.Else-empty) r.result r.ensures c.if-deep.false _ is_root o.new.bytes o.new.out o.result o.ensures

@@ -1,73 +1,89 @@
 -- What the definitions say one step down is in proofs/Steps.
+use mathlib.Core.Logic.{∥∥₁_elim, ∥∥₁_map}
+use mathlib.Core.List.{List}
 use Prim.Native.Nat.{ℕ}
 use native.Mathlib.Omega.{arith}
-use Rattle.bvh2.specs.Words.{tree_at}
-use Rattle.children.specs.Gather.{gather}
-use Rattle.children.proofs.Steps.{here, slot_left, stay, divides, contributes, not_childless, Down, down}
+use Rattle.std.proofs.Props.{props}
+use Rattle.bvh2.specs.Tree.{Tree}
+use Rattle.cost.specs.Table.{word_of}
+use Rattle.cost.specs.Rows.{RowsHold}
+use Rattle.children.specs.Gather.{part}
+use Rattle.children.specs.Tabled.{Gathered}
+use Rattle.children.proofs.Branches.{here, open_at, place_left, divide_at, room_opened, room_below, of_below}
+use Rattle.children.proofs.Steps.{stay, divides, contributes, not_childless, down}
 use Rattle.children.proofs.+open_child_open_node.Goals as goal
-use Rattle.children.proofs.+open_child_open_node.Goals.{open_node-After-decision_at-decision}
 
-pub open_child-decision_at-requires : goal.open_child-decision_at-requires
-open_child-decision_at-requires t c = let h = here c.requires.opens.tabled in omega (arith, c.requires.opens.entry)
+pub open_child-unreachable-requires : goal.open_child-unreachable-requires
+open_child-unreachable-requires t c = ∥∥₁_elim (open_at c.args.branch c.requires.bound c.requires.room) (hlevel props)
+    (λ o. not_childless o.tabled o.entry c.decision.ensures.kind c.in-Distribute.is c.link.ensures.says c.in_default-link.not-Children)
 
 pub open_child-open_node-requires : goal.open_child-open_node-requires
-open_child-open_node-requires t c =
-    (omega (arith, c.decreases), (c.requires.in_bounds, divides c.requires.opens c.decision_at.ensures.kind c.in-Distribute.is))
+open_child-open_node-requires t c = (
+  omega (arith, c.decreases),
+  (
+    c.in-Children.ensures.says,
+    (
+      c.requires.bound,
+      ∥∥₁_map (open_at c.args.branch c.requires.bound c.requires.room)
+          (λ o. room_opened {b = c.args.branch} (divides o c.decision.ensures.kind c.in-Distribute.is)),
+    ),
+  ),
+)
 
-pub open_child-returns-in-Distribute : goal.open_child-returns-in-Distribute
-open_child-returns-in-Distribute t c =
-    contributes c.requires.opens c.decision_at.ensures.kind c.in-Distribute.is c.args.children.now _ _ c.open_node.ensures
+pub open_child-returns-in-Children : goal.open_child-returns-in-Children
+open_child-returns-in-Children t c = λ limit k. ∥∥₁_elim (open_at c.args.branch c.requires.bound c.requires.room) (hlevel props)
+    (λ o. contributes o c.decision.ensures.kind c.in-Distribute.is _ _ _ c.open_node.ensures limit k)
 
-pub open_child-overflow_cast-children : goal.open_child-overflow_cast-children
-open_child-overflow_cast-children t c = let h = here c.requires.opens.tabled in omega arith
+pub open_child-overflow_cast-found : goal.open_child-overflow_cast-found
+open_child-overflow_cast-found t c = omega (arith, (here c.args.branch).number)
 
-pub open_child-bounds-children-count : goal.open_child-bounds-children-count
-open_child-bounds-children-count t c =
-    let h = slot_left c.requires.opens c.decision_at.ensures.kind c.in_default.not-Distribute in omega (arith, c.requires.in_bounds)
+pub open_child-offset_bounds-found-count : goal.open_child-offset_bounds-found-count
+open_child-offset_bounds-found-count t c =
+    omega (arith, place_left c.args.branch c.requires.bound c.requires.room c.decision.ensures.kind c.in_default.not-Distribute)
+
+pub open_child-bounds-found-count : goal.open_child-bounds-found-count
+open_child-bounds-found-count t c =
+    place_left c.args.branch c.requires.bound c.requires.room c.decision.ensures.kind c.in_default.not-Distribute
+
+pub open_child-overflow_add-result : goal.open_child-overflow_add-result
+open_child-overflow_add-result t c =
+    omega (arith, place_left c.args.branch c.requires.bound c.requires.room c.decision.ensures.kind c.in_default.not-Distribute)
 
 pub open_child-returns-in_default : goal.open_child-returns-in_default
-open_child-returns-in_default t c =
-    λ limit h. stay c.requires.opens c.args.children.now c.requires.in_bounds c.decision_at.ensures.kind c.in_default.not-Distribute limit h
+open_child-returns-in_default t c = λ limit k. ∥∥₁_elim (open_at c.args.branch c.requires.bound c.requires.room) (hlevel props)
+    (λ o. stay o c.args.found.now (omega arith) c.decision.ensures.kind c.in_default.not-Distribute limit k)
 
--- what an opened node's fields give
-below : (t : ℕ) (c : open_node-After-decision_at-decision t) → let x = c.args in let d = c.decision_at-decision.result in
-    Down x.words.now x.decisions.now x.depth x.v c.in-Children.first d.left d.right x.count
-    (λ limit. gather limit (tree_at x.words.now x.depth x.v) x.entry)
-below t c = let e = c.decision_at-decision.ensures in down c.requires.divides c.in-Children.ensures e.left e.right
-
-pub open_node-node_link-requires : goal.open_node-node_link-requires
-open_node-node_link-requires t c = let h = here c.requires.divides.tabled in omega arith
-
-pub open_node-unreachable-requires : goal.open_node-unreachable-requires
-open_node-unreachable-requires t c = not_childless c.requires.divides c.node_link.ensures c.in_default.not-Children
-
-pub open_node-decision_at-decision-requires : goal.open_node-decision_at-decision-requires
-open_node-decision_at-decision-requires t c =
-    let h = here c.requires.divides.tabled in omega (arith, c.requires.divides.entry)
-
-pub open_node-overflow_sub-depth : goal.open_node-overflow_sub-depth
-open_node-overflow_sub-depth t c = (below t (goal.at.open_node-overflow_sub-depth t c).After-decision_at-decision).deep
+-- what a child contributes, by its decision words and its subtree
+abbrev Gives : (l count : ℕ) (before after : List ℕ) (r : ℕ) → List ℕ → Tree ℕ → Type 0
+Gives l count before after r ds t = (limit : ℕ) → RowsHold (word_of limit) 0 ds t → Gathered (part limit t l) count before after r
 
 pub open_node-open_child-half-requires : goal.open_node-open_child-half-requires
 open_node-open_child-half-requires t c =
-    let h = below t (goal.at.open_node-open_child-half-requires t c).After-decision_at-decision in
-    (omega (arith, c.decreases, h.deep), (c.requires.in_bounds, h.left))
-
-pub open_node-overflow_add-first : goal.open_node-overflow_add-first
-open_node-overflow_add-first t c =
-    let h = below t (goal.at.open_node-overflow_add-first t c).After-decision_at-decision in
-    let k = here (h.right _ _ _ c.open_child-half.ensures).tabled in
-    omega (arith, k.number)
-
-pub open_node-overflow_sub-depth-2 : goal.open_node-overflow_sub-depth-2
-open_node-overflow_sub-depth-2 t c = (below t (goal.at.open_node-overflow_sub-depth-2 t c).After-decision_at-decision).deep
+    let o = divide_at c.args.branch c.requires.bound c.requires.room in
+    let e = c.decision-decision.ensures in (
+      omega (arith, c.decreases, c.left-left.ensures.depth),
+      (
+        omega (arith, e.few),
+        ∥∥₁_map o (λ h. room_below c.left-left.ensures (down h c.requires.inner e.left e.right).left),
+      ),
+    )
 
 pub open_node-open_child-requires : goal.open_node-open_child-requires
 open_node-open_child-requires t c =
-    let h = below t (goal.at.open_node-open_child-requires t c).After-decision_at-decision in
-    (omega (arith, c.decreases, h.deep), (rw c.open_child-half.auto.children c.requires.in_bounds, h.right _ _ _ c.open_child-half.ensures))
+    let o = divide_at c.args.branch c.requires.bound c.requires.room in
+    let e = c.decision-decision.ensures in
+    let g = of_below c.left-left.ensures (Gives _ _ _ _ _) c.open_child-half.ensures in (
+      omega (arith, c.decreases, c.right.ensures.depth),
+      (
+        omega (arith, e.few),
+        ∥∥₁_map o (λ h. room_below c.right.ensures ((down h c.requires.inner e.left e.right).right _ _ _ g)),
+      ),
+    )
 
 pub open_node-returns : goal.open_node-returns
 open_node-returns t c =
-    let h = below t (goal.at.open_node-returns t c).After-decision_at-decision in
-    h.joined _ _ _ _ _ c.requires.in_bounds c.open_child-half.ensures c.open_child.ensures
+    let o = divide_at c.args.branch c.requires.bound c.requires.room in
+    let e = c.decision-decision.ensures in
+    let g = of_below c.left-left.ensures (Gives _ _ _ _ _) c.open_child-half.ensures in
+    let k = of_below c.right.ensures (Gives _ _ _ _ _) c.open_child.ensures in
+    λ limit z. ∥∥₁_elim o (hlevel props) (λ h. (down h c.requires.inner e.left e.right).joined _ _ _ _ _ (omega arith) g k limit z)

@@ -3,7 +3,7 @@ use Prim.Native.Nat.{◌+◌, ◌*◌}
 use Rattle.children.proofs.+open_child_open_node.Given as goal
 
 abbrev pub decreases-open_child : goal.decreases-open_child
-decreases-open_child l = 2 * l.depth + 1
+decreases-open_child l = 2 * l.branch.depth + 1
 
 abbrev pub decreases-open_node : goal.decreases-open_node
-decreases-open_node l = 2 * l.depth
+decreases-open_node l = 2 * l.branch.depth

@@ -3,13 +3,13 @@ use Rattle.closest.specs.Panes.{pane_of_met}
 use Rattle.closest.proofs.Panes.{position_there, position_past}
 use Rattle.closest.proofs.position_met.Goals as goal
 
-pub returns-then-p-indices : goal.returns-then-p-indices
-returns-then-p-indices c =
+pub returns-then-p-on : goal.returns-then-p-on
+returns-then-p-on c =
     let a = c.args in
-    c.pane_met.ensures ∙ sym (position_there a.indices.now a.panes.now a.p a.ray c.if-p-indices.true)
+    c.pane_met.ensures ∙ sym (position_there a.on.indices.now a.on.panes.now a.p a.ray c.if-p-on.true)
 
-pub returns-else-p-indices : goal.returns-else-p-indices
+pub returns-else-p-on : goal.returns-else-p-on
 unfolding pane_of_met
-returns-else-p-indices c =
+returns-else-p-on c =
     let a = c.args in
-    sym (position_past a.indices.now a.panes.now a.p a.ray c.if-p-indices.false)
+    sym (position_past a.on.indices.now a.on.panes.now a.p a.ray c.if-p-on.false)

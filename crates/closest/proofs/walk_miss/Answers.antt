@@ -1,12 +1,16 @@
-use Rattle.std.proofs.Common.{◌≡◌, length, refl, sym, ap, ◌∙◌, arith, rules}
+use Rattle.std.proofs.Common.{ℕ, ◌≡◌, length, refl, sym, ap, ◌∙◌, arith, rules}
 use Rattle.causes.specs.Refusal.{cause_number}
 use Rattle.walk.specs.Queries.{none, miss}
-use Rattle.walk_record.proofs.Laws.{bytes_fit}
+use Rattle.record_shape.specs.Record.{node_count}
+use Rattle.walk.specs.WordStep.{seek_words}
+use Rattle.walk_record.specs.WalkRay.{by_boxes}
+use Rattle.walk_record.specs.Record.{node_words_at}
+use Rattle.advance.specs.Turn.{walker_of, seeking}
 use Rattle.query.specs.Result.{unanswered}
-use Rattle.query.proofs.Begins.{walkable, leads_begun}
+use Rattle.query.proofs.Begins.{leads_begun}
 use Rattle.closest.specs.declared.Occlusion.{Occlusion}
 use Rattle.closest.specs.Panes.{pane_of, nearer, refused_miss, miss_found, miss_walk, miss_answer, miss_result}
-use Rattle.closest.proofs.Queries.{Setting, setting_of, miss_in, AtPosition, AfterSearch, after_search}
+use Rattle.closest.proofs.Queries.{Setting, setting_over, miss_in, AtPosition, AfterSearch, after_search}
 use Rattle.closest.proofs.Queries.{ends_done, ends_refused, miss_fails, miss_blocks, miss_passes}
 use Rattle.closest.proofs.Queries.{search_tested, search_done, search_refused, search_no_position}
 use Rattle.closest.proofs.walk_miss.Goals as goal
@@ -17,11 +21,10 @@ use Rattle.closest.proofs.walk_miss.Goals.{After-position_met, After-walk_after-
 module _ (c : After-position_met) where
   -- what the walk is over
   abbrev setting : Setting
-  setting =
-      let a = c.args in
-      setting_of a.bytes.now a.indices.now a.panes.now c.octant-octant.result c.requires.0 (bytes_fit _ (λ j. (c.type_inv.bytes j).fits))
+  setting = let q = c.args.query in setting_over q c.args.on.indices.now c.args.on.panes.now q.aim.octant c.requires
 
-  at : AtPosition setting (miss_in setting) (miss_walk c.args.bytes.now c.args.indices.now c.args.panes.now c.args.ray) c.args.ray
+  at : let a = c.args in
+      AtPosition setting (miss_in setting) (miss_walk a.query.bvh.bytes.now a.on.indices.now a.on.panes.now a.query.aim.ray) a.query.aim.ray
       c.loop-walk.walk c.walk.stack none c.first_position-p.result c.position_met.result
   at = record {
     leads = c.loop-walk.invariant.2;
@@ -34,22 +37,28 @@ module _ (c : After-position_met) where
 
 module _ (c : After-walk_after-next) where
   abbrev setting_then : Setting
-  setting_then =
-      let a = c.args in
-      setting_of a.bytes.now a.indices.now a.panes.now c.octant-octant.result c.requires.0 (bytes_fit _ (λ j. (c.type_inv.bytes j).fits))
+  setting_then = let q = c.args.query in setting_over q c.args.on.indices.now c.args.on.panes.now q.aim.octant c.requires
 
-  after : AfterSearch setting_then (miss_in setting_then) (miss_walk c.args.bytes.now c.args.indices.now c.args.panes.now c.args.ray) c.args.ray
-      c.loop-walk.walk c.walk.stack none (record { answer = c.seek-turn.result.answer; walk = c.walk_after-next.result }) c.seek-turn.new.stack
-  after = after_search 0xffff_ffff c.loop-walk.invariant.2 c.loop-walk-test.false _ _ c.walk_after-next.ensures _ c.seek-turn.ensures
+  after : let a = c.args in
+      AfterSearch setting_then (miss_in setting_then) (miss_walk a.query.bvh.bytes.now a.on.indices.now a.on.panes.now a.query.aim.ray)
+      a.query.aim.ray c.loop-walk.walk c.walk.stack none (record { answer = c.seek-turn.result.answer; walk = c.walk_after-next.result })
+      c.seek-turn.new.stack
+  after =
+      let q = c.args.query in
+      let w = c.loop-walk.walk in
+      let from = walker_of q.aim.ray q.aim.octant (seeking w.tests w.positions.base w.current.base w.current.bits w.depth) c.walk.stack in
+      let seeks = seek_words (node_count q.bvh.bytes.now) (node_words_at q.bvh.bytes.now by_boxes) 0xffff_ffff in
+      after_search 0xffff_ffff c.loop-walk.invariant.2 c.loop-walk-test.false _ _ c.walk_after-next.ensures _
+      (c.seek-turn.ensures ∙ ap (λ (n : ℕ). seeks n from) c.requires)
 
 pub walk-init : goal.walk-init
 unfolding miss_walk
 walk-init c =
-    let a = c.args in
-    let fit = bytes_fit _ (λ j. (c.type_inv.bytes j).fits) in (
+    let q = c.args.query in
+    let on = c.args.on in (
       refl,
-      leads_begun a.bytes.now (length a.indices.now) fit (miss (pane_of a.indices.now a.panes.now) nearer) none
-          a.ray c.requires.1 c.octant-octant.result c.octant-octant.ensures c.begin-walk.result c.begin-walk.ensures,
+      leads_begun q.bvh.bytes.now (length on.indices.now) q.fields (miss (pane_of on.indices.now on.panes.now) nearer) none
+          q.aim.ray q.accepted q.aim.octant q.own c.begin-walk.result c.begin-walk.ensures,
     )
 
 pub loop-walk-smaller : goal.loop-walk-smaller
@@ -71,9 +80,6 @@ returns-in_err-distance c =
     let f = c.in_err-distance.field-0.0 in
     let own : miss_result c.from_residual.result ≡ unanswered (refused_miss (cause_number f)) = search rules in
     own ∙ miss_fails (at k) f c.in_err-distance.was
-
-pub seek-turn-requires : goal.seek-turn-requires
-seek-turn-requires c = walkable _ _ c.requires.0 _ c.loop-walk.invariant.2.way c.near_ends-e.result c.near_ends-e.ensures
 
 pub walk-smaller : goal.walk-smaller
 walk-smaller c =

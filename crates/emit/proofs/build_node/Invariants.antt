@@ -8,4 +8,5 @@ abbrev pub invariant-loop-i : goal.invariant-loop-i
 invariant-loop-i l =
     (length l.out ≡ length l.initial.out)
     × (made (record { metas = l.metas; boxes = l.boxes; imask = l.imask; inner = l.inner; at = l.at }) l.out
-    ≡ first_slots l.indices (box_at l.words l.v) l.start (λ j. cell_of l.words l.decisions l.depth (get_or l.slots j 0)) l.i l.initial.out)
+    ≡ first_slots l.indices (box_at l.branch.words.now l.branch.node) l.start
+    (λ j. cell_of l.branch.words.now l.branch.decisions.now l.branch.depth (get_or l.slots j 0)) l.i l.initial.out)

@@ -6,10 +6,10 @@ use Rattle.emit_tree.proofs.Emitting.{Loop}
 use Rattle.emit_tree.proofs.+emit_node.Given as goal
 
 abbrev pub decreases-emit_node : goal.decreases-emit_node
-decreases-emit_node l = l.depth
+decreases-emit_node l = l.branch.depth
 
 abbrev pub invariant-loop-w : goal.invariant-loop-w
 invariant-loop-w l =
     (length l.bytes ≡ length l.initial.bytes) × (length l.out ≡ length l.initial.out)
-    × Loop l.words l.decisions l.indices l.depth l.v l.number l.ordered l.initial.bytes l.initial.out l.initial.free l.initial.child
+    × Loop l.branch l.indices l.number l.ordered l.initial.bytes l.initial.out l.initial.free l.initial.child
     l.bytes l.out l.free l.child (8 - l.w-index) l.w-index

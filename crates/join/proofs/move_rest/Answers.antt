@@ -11,4 +11,4 @@ loop-v-init c = sym (splice_none _ _)
 
 pub loop-v-preserved : goal.loop-v-preserved
 loop-v-preserved c =
-    rest_next _ _ _ _ _ c.loop-v.v (omega arith) c.loop-v.invariant _ (omega (arith, c.requires.4)) c.move_node.ensures
+    rest_next _ _ _ _ _ c.loop-v.v (omega arith) c.loop-v.invariant _ (omega (arith, c.requires.1)) c.move_node.ensures

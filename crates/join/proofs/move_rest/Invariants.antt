@@ -6,4 +6,5 @@ use Rattle.join.specs.Join.{moved_node}
 use Rattle.join.proofs.move_rest.Given as goal
 
 abbrev pub invariant-loop-v : goal.invariant-loop-v
-invariant-loop-v l = l.words ≡ splice l.initial.words ((1 + l.nodes) * 7) (in_turn (λ u. moved_node l.from l.nodes l.positions (u + 1)) (l.v - 1))
+invariant-loop-v l = l.words ≡ splice l.initial.words ((1 + l.by.nodes) * 7)
+    (in_turn (λ u. moved_node l.from.tree.words.now l.by.nodes l.by.positions (u + 1)) (l.v - 1))

@@ -4,7 +4,8 @@ use lib.Dec.{leb}
 use Rattle.std.proofs.Common.{rules}
 use Rattle.std.proofs.lemmas.Iterator.{YieldsList-from_slice}
 use Rattle.std.proofs.lemmas.Iterator.Search.{all_from_yields_List}
-use Rattle.join.proofs.Sums.{each_below, saturated}
+use Rattle.lists.proofs.Each.{each_below}
+use Rattle.join.proofs.Sums.{saturated}
 use Rattle.join.proofs.sums_fit.Goals as goal
 
 pub returns : goal.returns

@@ -4,6 +4,7 @@ use Rattle.causes.proofs.Refusals.{some_number}
 use Rattle.ray.specs.declared.Ray.{Ray}
 use Rattle.ray.specs.Ray.{ray_from}
 use Rattle.walk_record.specs.WalkRay.{walk_ray, forged_ray}
+use Rattle.walk_record.proofs.Laws.{bytes_fit}
 use Rattle.walk_record.proofs.WalkRay.{begun_accepted}
 use Rattle.query.specs.Entry.{entry_cause}
 use Rattle.query.specs.Result.{unanswered}
@@ -42,18 +43,24 @@ returns-in_err-check_entry c =
     own ∙ by_cause refused (cause_number f) _ (loss_walked a.«record».now a.indices.now a.panes a.losses.now (made k)) (sym same ∙ found k)
     (omega (arith, some_number f))
 
+pub invariant_of-scene : goal.invariant_of-scene
+invariant_of-scene c =
+    let h = enters (goal.at.invariant_of-scene c).After-check_entry (ap cause_in c.in_ok-check_entry.was) in
+    record {
+      sizes = h.sizes;
+      fitting = cause_fits c.args.panes c.args.losses.now h.none;
+      fields = bytes_fit _ (λ j. (c.type_inv.record j).fits);
+    }
+
 pub ray_loss-requires : goal.ray_loss-requires
 ray_loss-requires c =
     let a = c.args in
-    let h = enters (goal.at.ray_loss-requires c).After-check_entry (ap cause_in c.in_ok-check_entry.was) in (
-      h.sizes,
-      record {
-        accepted = subst (λ (r : Ray). forged_ray (walk_ray r) ≡ false) (sym c.new-ray.ensures)
-            (begun_accepted a.beam.origin a.beam.direction a.beam.tmin a.beam.tmax h.accepted);
-        fitting = cause_fits a.panes a.losses.now h.none;
-        spare = λ k l. omega arith;
-      },
-    )
+    let h = enters (goal.at.ray_loss-requires c).After-check_entry (ap cause_in c.in_ok-check_entry.was) in
+    record {
+      accepted = subst (λ (r : Ray). forged_ray (walk_ray r) ≡ false) (sym c.new-ray.ensures)
+          (begun_accepted a.beam.origin a.beam.direction a.beam.tmin a.beam.tmax h.accepted);
+      spare = λ k l. omega arith;
+    }
 
 pub returns : goal.returns
 unfolding loss_of

@@ -1,14 +1,35 @@
-use Rattle.std.proofs.Common.{arith}
-use Rattle.walk_record.proofs.Laws.{bytes_fit}
-use Rattle.loss.specs.Loss.{loss_result}
+use Rattle.std.proofs.Common.{◌≡◌, length, sym, subst, ap, ◌∙◌, arith, rules}
+use Rattle.ray.specs.declared.Ray.{Ray}
+use Rattle.loss.specs.Loss.{loss_result, loss_walked}
+use Rattle.loss.specs.Charged.{Ready, Charges}
 use Rattle.loss.proofs.Adding.{walk_empty}
 use Rattle.loss.proofs.ray_loss.Goals as goal
 
-pub returns-then-record-eq0 : goal.returns-then-record-eq0
+pub returns-then-is_empty : goal.returns-then-is_empty
 unfolding loss_result
-returns-then-record-eq0 c =
-    let a = c.args in
-    let fit = bytes_fit _ (λ j. (c.type_inv.record j).fits) in
-    let e = walk_empty a.«record».now a.indices.now a.panes a.losses.now a.ray fit
-    c.requires.1.accepted (omega (arith, c.if-record-eq0.true)) c.requires.0.few a.totals.now in
+returns-then-is_empty c =
+    let s = c.args.scene in
+    let empty : length s.bytes.now ≡ 0 = search rules in
+    let e = walk_empty s.bytes.now s.indices.now s.panes s.losses.now c.args.ray s.fields
+    c.requires.accepted (omega (arith, empty)) s.sizes.few c.args.totals.now in
     record { result_value = e.0; charges = e.1 }
+
+pub walk_losses-requires : goal.walk_losses-requires
+walk_losses-requires c =
+    let s = c.args.scene in
+    let full : length s.bytes.now ≡ 0 → ⊥ = search rules in
+    let e = c.new-aim.ensures in (
+      omega (arith, s.sizes.whole, full),
+      search rules,
+      subst (λ (r : Ray). Ready s.panes r c.args.totals.now) (sym e.0) c.requires,
+    )
+
+pub returns : goal.returns
+returns c =
+    let s = c.args.scene in
+    let e = c.new-aim.ensures.0 in
+    let w = c.walk_losses in
+    record {
+      result_value = w.ensures.result_value ∙ ap (loss_walked s.bytes.now s.indices.now s.panes s.losses.now) e;
+      charges = subst (λ (r : Ray). Charges s.bytes.now s.indices.now s.losses.now r w.result c.args.totals.now w.new.totals) e w.ensures.charges;
+    }

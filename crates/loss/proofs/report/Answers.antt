@@ -1,6 +1,7 @@
 use Rattle.std.proofs.Common.{◌≡◌, length, ◌∙◌, rules}
 use Rattle.causes.specs.Refusal.{cause_number}
 use Rattle.causes.proofs.Refusals.{ok_none, err_number, some_number}
+use Rattle.walk_record.proofs.Laws.{bytes_fit}
 use Rattle.loss.specs.Loss.{refused_report, totals_answer}
 use Rattle.loss.proofs.Causes.{Entering, none_entering, report_entry, report_fault, none_walks, report_totals}
 use Rattle.loss.proofs.report.Goals as goal
@@ -16,6 +17,11 @@ returns-in_err-check_report c =
     let f = c.in_err-check_report.field-0.0 in
     let own : totals_answer c.from_residual.result ≡ refused_report (cause_number f) = search rules in
     rw own (report_entry _ _ _ _ _ _ _ (cause_number f) (err_number c.in_err-check_report.was c.check_report.ensures) (some_number f))
+
+pub invariant_of-scene : goal.invariant_of-scene
+invariant_of-scene c =
+    let h = entering (goal.at.invariant_of-scene c).In_ok-check_report in
+    record { sizes = h.sizes; fitting = h.fitting; fields = bytes_fit _ (λ j. (c.type_inv.record j).fits) }
 
 pub check_walks-requires : goal.check_walks-requires
 check_walks-requires c = (entering (goal.at.check_walks-requires c).In_ok-check_report).entered

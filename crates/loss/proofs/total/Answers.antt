@@ -15,75 +15,77 @@ use Rattle.loss.proofs.total.Goals as goal
 use Rattle.loss.proofs.total.Goals.{At-loop-i}
 
 module _ (c : At-loop-i) where
-  cleared-length : length c.fill.new.self ≡ c.args.panes
+  cleared-length : length c.fill.new.self ≡ c.args.scene.panes
   cleared-length =
-      ap length (c.fill.ensures.after (λ y h. h)) ∙ length-replicate (length (take c.args.panes c.args.pane_totals.now)) 0
-      ∙ length-take-le c.args.panes c.args.pane_totals.now c.requires.rays_in_bounds.1
+      ap length (c.fill.ensures.after (λ y h. h)) ∙ length-replicate (length (take c.args.scene.panes c.args.pane_totals.now)) 0
+      ∙ length-take-le c.args.scene.panes c.args.pane_totals.now c.requires.rays_in_bounds.1
 
   -- the pane totals as they were cleared have room
-  room : c.args.panes ≤ length (c.fill.new.self ++ drop c.args.panes c.args.pane_totals.now)
+  room : c.args.scene.panes ≤ length (c.fill.new.self ++ drop c.args.scene.panes c.args.pane_totals.now)
   room =
-      let d = drop c.args.panes c.args.pane_totals.now in
+      let d = drop c.args.scene.panes c.args.pane_totals.now in
       omega (
         arith,
         cleared-length,
         length-append c.fill.new.self d,
-        length-drop c.args.panes c.args.pane_totals.now,
+        length-drop c.args.scene.panes c.args.pane_totals.now,
         c.requires.rays_in_bounds.1,
       )
 
 pub loop-i-init : goal.loop-i-init
 loop-i-init c =
     let a = c.args in
-    let l = length-take-le a.panes a.pane_totals.now c.requires.rays_in_bounds.1 in
+    let l = length-take-le a.scene.panes a.pane_totals.now c.requires.rays_in_bounds.1 in
     let e = c.fill.ensures.after (λ y h. h) ∙ ap (λ (j : ℕ). replicate j 0) l in (
       omega arith,
-      totals_begin a.«record».now a.indices.now a.panes a.losses.now a.rays.now a.ray_totals.now a.pane_totals.now
+      totals_begin a.scene.bytes.now a.scene.indices.now a.scene.panes a.scene.losses.now a.rays.now a.ray_totals.now a.pane_totals.now
           c.fill.new.self e c.requires.rays_in_bounds.1,
     )
 
-pub total_ray-made-requires : goal.total_ray-made-requires
+pub total_ray-requires : goal.total_ray-requires
 unfolding walks_by
-total_ray-made-requires c =
+total_ray-requires c =
     let a = c.args in
-    let s = c.requires.entered in
+    let s = a.scene in
+    let E = c.requires.entered in
     let b = c.requires.rays_in_bounds in
     let t = c.loop-i.invariant.1 in
     let h = c.loop-i-test.true in
     let e = sym c.ray_at-ray.ensures in
-    let r = room (goal.at.total_ray-made-requires c).At-loop-i in
-    let w = all_at (walks_by a.«record».now a.indices.now a.panes a.losses.now a.rays.now) (ray_count a.rays.now) b.2 c.loop-i.i h in (
-      s.sizes,
-      subst (λ (r : Ray). Ready a.panes a.losses.now r c.loop-i.pane_totals) e
-          (ray_ready a.«record».now a.indices.now a.panes a.losses.now a.rays.now s c.loop-i.i h c.loop-i.pane_totals
-          (totals_spare a.«record».now a.indices.now a.panes a.losses.now a.rays.now t r s.fitting s.sizes.small (omega (arith, h, s.few)))),
-      subst (λ (r : Ray). is_summed (loss_walked a.«record».now a.indices.now a.panes a.losses.now r).answer ≡ true) e w,
-      omega (arith, h, b.0, ray_words a.«record».now a.indices.now a.panes a.losses.now a.rays.now t r (omega (arith, h, b.0))),
+    let r = room (goal.at.total_ray-requires c).At-loop-i in
+    let w = all_at (walks_by s.bytes.now s.indices.now s.panes s.losses.now a.rays.now) (ray_count a.rays.now) b.2 c.loop-i.i h in (
+      subst (λ (r : Ray). Ready s.panes r c.loop-i.pane_totals) e
+          (ray_ready s.bytes.now s.indices.now s.panes s.losses.now a.rays.now E c.loop-i.i h c.loop-i.pane_totals
+          (totals_spare s.bytes.now s.indices.now s.panes s.losses.now a.rays.now t r s.fitting s.sizes.small
+          (omega (arith, h, E.few)))),
+      subst (λ (r : Ray). is_summed (loss_walked s.bytes.now s.indices.now s.panes s.losses.now r).answer ≡ true) e w,
+      omega (arith, h, b.0, ray_words s.bytes.now s.indices.now s.panes s.losses.now a.rays.now t r (omega (arith, h, b.0))),
     )
 
 pub loop-i-preserved : goal.loop-i-preserved
 unfolding walks_by
 loop-i-preserved c =
     let a = c.args in
+    let s = a.scene in
     let b = c.requires.rays_in_bounds in
     let h = c.loop-i-test.true in
     let e = c.ray_at-ray.ensures in
-    let w = all_at (walks_by a.«record».now a.indices.now a.panes a.losses.now a.rays.now) (ray_count a.rays.now) b.2 c.loop-i.i h in
-    let y = summed_faultless a.«record».now a.indices.now a.panes a.losses.now (ray_in a.rays.now c.loop-i.i) w in
-    let m : Ray → List ℕ = λ r. positions_met a.«record».now (length a.indices.now) r in
-    let g = c.total_ray-made in (
+    let w = all_at (walks_by s.bytes.now s.indices.now s.panes s.losses.now a.rays.now) (ray_count a.rays.now) b.2 c.loop-i.i h in
+    let y = summed_faultless s.bytes.now s.indices.now s.panes s.losses.now (ray_in a.rays.now c.loop-i.i) w in
+    let m : Ray → List ℕ = λ r. positions_met s.bytes.now (length s.indices.now) r in
+    let g = c.total_ray in (
       omega (arith, g.type_inv, c.loop-i.invariant.0),
-      totals_next a.«record».now a.indices.now a.panes a.losses.now a.rays.now c.loop-i.invariant.1
+      totals_next s.bytes.now s.indices.now s.panes s.losses.now a.rays.now c.loop-i.invariant.1
           (room (goal.at.loop-i-preserved c).At-loop-i) (omega (arith, h, b.0)) y.there _ _ g.result
-          (g.ensures.value ∙ ap (tests_made a.«record».now (length a.indices.now)) e)
+          (g.ensures.value ∙ ap (tests_made s.bytes.now (length s.indices.now)) e)
           (g.ensures.ray_totals_after
-          ∙ ap (λ (r : Ray). set c.loop-i.ray_totals c.loop-i.i (sum_over (loss_at a.indices.now a.losses.now) (m r))) e)
-          (g.ensures.pane_totals_after ∙ ap (λ (r : Ray). charged a.losses.now c.loop-i.pane_totals (panes_met a.indices.now (m r))) e),
+          ∙ ap (λ (r : Ray). set c.loop-i.ray_totals c.loop-i.i (sum_over (loss_at s.indices.now s.losses.now) (m r))) e)
+          (g.ensures.pane_totals_after ∙ ap (λ (r : Ray). charged s.losses.now c.loop-i.pane_totals (panes_met s.indices.now (m r))) e),
     )
 
 pub returns : goal.returns
 returns c =
     let a = c.args in
-    totals_end a.«record».now a.indices.now a.panes a.losses.now a.rays.now c.loop-i.tests a.ray_totals.now a.pane_totals.now
+    totals_end a.scene.bytes.now a.scene.indices.now a.scene.panes a.scene.losses.now a.rays.now c.loop-i.tests a.ray_totals.now a.pane_totals.now
     c.fill.new.self c.loop-i.ray_totals c.loop-i.pane_totals (cleared-length (goal.at.returns c).At-loop-i) c.loop-i.i
     (omega (arith, c.loop-i.auto.i-end, c.loop-i-test.false)) c.loop-i.invariant.1

@@ -13,14 +13,17 @@ steps_by bytes octant ray v stack = steps_left_words (node_count bytes) (walker_
 
 abbrev pub invariant-loop-walk-2 : goal.invariant-loop-walk-2
 invariant-loop-walk-2 l =
-    (steps_by l.bytes l.octant l.ray l.walk l.stack ≤ steps_by l.bytes l.octant l.ray l.initial.walk l.stack)
-    × Adding l.bytes l.indices l.panes l.losses l.ray (walker_of l.ray l.octant l.walk l.stack) l.sum l.fn.totals l.totals
+    (steps_by l.scene.bytes.now l.aim.octant l.aim.ray l.walk l.stack ≤ steps_by l.scene.bytes.now l.aim.octant l.aim.ray l.initial.walk l.stack)
+    × Adding l.scene.bytes.now l.scene.indices.now l.scene.panes l.scene.losses.now l.aim.ray (walker_of l.aim.ray l.aim.octant l.walk l.stack)
+    l.sum l.fn.totals l.totals
 
 abbrev pub decreases-loop-walk-2 : goal.decreases-loop-walk-2
-decreases-loop-walk-2 l = steps_by l.bytes l.octant l.ray l.walk l.stack
+decreases-loop-walk-2 l = steps_by l.scene.bytes.now l.aim.octant l.aim.ray l.walk l.stack
 
 abbrev pub invariant-loop-walk : goal.invariant-loop-walk
-invariant-loop-walk l = Adding l.bytes l.indices l.panes l.losses l.ray (walker_of l.ray l.octant l.walk l.stack) l.sum l.fn.totals l.totals
+invariant-loop-walk l =
+    Adding l.scene.bytes.now l.scene.indices.now l.scene.panes l.scene.losses.now l.aim.ray (walker_of l.aim.ray l.aim.octant l.walk l.stack)
+    l.sum l.fn.totals l.totals
 
 abbrev pub decreases-loop-walk : goal.decreases-loop-walk
-decreases-loop-walk l = steps_by l.bytes l.octant l.ray l.walk l.stack
+decreases-loop-walk l = steps_by l.scene.bytes.now l.aim.octant l.aim.ray l.walk l.stack

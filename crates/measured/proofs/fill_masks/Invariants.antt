@@ -1,8 +1,7 @@
 -- `fill_masks`: the answers keep their length.
 use mathlib.Core.Path.{◌≡◌}
 use lib.ListN.{length}
-use Rattle.node_slot.specs.Parts.{ends_of}
 use Rattle.measured.proofs.fill_masks.Given as goal
 
 abbrev pub invariant-loop-i : goal.invariant-loop-i
-invariant-loop-i l = (length l.out ≡ length l.initial.out) × (l.e ≡ ends_of l.ray.direction)
+invariant-loop-i l = length l.out ≡ length l.initial.out

@@ -7,4 +7,4 @@ use Rattle.node_slot.proofs.marks.Given as goal
 
 abbrev pub invariant-loop-k : goal.invariant-loop-k
 invariant-loop-k l =
-    (length l.marks ≡ 8) × ((j : ℕ) → j < l.k → get_or l.marks j 0 ≡ only_if (slot_passes l.node.bytes.now 0 l.e l.g l.near l.tmax j) 7)
+    (length l.marks ≡ 8) × ((j : ℕ) → j < l.k → get_or l.marks j 0 ≡ only_if (slot_passes l.node.bytes.now 0 l.e l.g j) 7)

@@ -1,30 +1,30 @@
-use mathlib.Core.List.{[], ◌++◌}
-use mathlib.Core.Path.{refl}
 use native.Mathlib.Omega.{arith}
-use Rattle.text.specs.Text.{chars, decimal}
-use Rattle.text.proofs.Decimal.{decimal-word}
-use Rattle.text.proofs.Put.{put_first, rest_all, rest_put, rest_none}
+use Rattle.std.proofs.Common.{rules}
+use Rattle.text.specs.Text.{chars}
+use Rattle.text.proofs.Put.{room_first, room_next, put_first, put_then}
 use Rattle.show.specs.Show.{numbered_line}
-use Rattle.show.proofs.Lengths.{length_numbered}
+use Rattle.show.proofs.Lengths.{numbered_room}
 use Rattle.show.proofs.print_numbered.Goals as goal
 
-pub put_decimal-q-requires : goal.put_decimal-q-requires
-put_decimal-q-requires c =
-    let h = decimal-word c.args.k (omega arith) in omega arith
+pub put_decimal-requires : goal.put_decimal-requires
+unfolding numbered_line
+put_decimal-requires c =
+    let a = c.args in
+    let room = numbered_room c.new-w.ensures a.word.now a.k (omega arith) (omega arith) in
+    room_first c.put_bytes.new.self _ _ (room_next _ room c.put_bytes.ensures)
 
 pub put_byte-requires : goal.put_byte-requires
+unfolding numbered_line chars
 put_byte-requires c =
-    let h = decimal-word c.args.k (omega arith) in omega arith
+    let a = c.args in
+    let room = numbered_room c.new-w.ensures a.word.now a.k (omega arith) (omega arith) in
+    room_next _ (room_next _ room c.put_bytes.ensures) c.put_decimal.ensures
 
 pub returns : goal.returns
 unfolding numbered_line chars
 returns c =
     let a = c.args in
-    let word = a.word.now in
-    let h = decimal-word a.k (omega arith) in
-    let fits = length_numbered word a.k in
-    let whole = rest_all a.out.now 0 (numbered_line word a.k) (omega arith) in
-    let number = rest_put whole word (decimal a.k ++ chars "\n") refl c.put_bytes-p.ensures in
-    let end = rest_put number (decimal a.k) (chars "\n") refl c.put_decimal-q.ensures in
-    let p = put_first (rest_none (rest_put end (chars "\n") [] refl c.put_byte.ensures) refl) in
-    record { value = p.0; out_after = p.1 }
+    let room = numbered_room c.new-w.ensures a.word.now a.k (omega arith) (omega arith) in
+    let p = put_first c.new-w.ensures
+    (put_then room c.put_bytes.ensures (λ r. put_then r c.put_decimal.ensures (λ _. c.put_byte.ensures))) in
+    search rules

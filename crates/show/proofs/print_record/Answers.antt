@@ -1,32 +1,31 @@
 use native.Mathlib.Omega.{arith}
-use lib.ListN.{take}
-use lib.Seq.{length-take-le}
-use Rattle.text.proofs.Put.{put_first, put_next}
+use Rattle.std.proofs.Common.{rules}
+use Rattle.text.proofs.Put.{room_first, room_next, put_first, put_then}
 use Rattle.show.specs.Show.{record_text}
-use Rattle.show.proofs.Lengths.{lines_most, spaced_most, take_words}
-use Rattle.show.proofs.Lines.{length_indices}
+use Rattle.show.proofs.Lengths.{record_room}
 use Rattle.show.proofs.print_record.Goals as goal
 
-pub put_nodes-p-requires : goal.put_nodes-p-requires
-put_nodes-p-requires c =
+pub put_nodes-requires-clause-m_in_bounds_2 : goal.put_nodes-requires-clause-m_in_bounds_2
+unfolding record_text
+put_nodes-requires-clause-m_in_bounds_2 c =
     let a = c.args in
-    omega (arith, lines_most a.«record».now a.m 0 (omega arith))
+    let room = record_room c.new-w.ensures a.«record».now a.m a.n a.indices.now (omega arith) (omega arith)
+    (λ k. (c.type_inv.indices k).fits) (omega arith) in
+    room_first c.new-w.result _ _ room
 
 pub put_indices-requires : goal.put_indices-requires
+unfolding record_text
 put_indices-requires c =
     let a = c.args in
-    let l = take a.n a.indices.now in
-    let lines = lines_most a.«record».now a.m 0 (omega arith) in
-    let list = spaced_most l (take_words a.n a.indices.now (λ k. (c.type_inv.indices k).fits)) in
-    omega (arith, length-take-le a.n a.indices.now (omega arith), length_indices l)
+    let room = record_room c.new-w.ensures a.«record».now a.m a.n a.indices.now (omega arith) (omega arith)
+    (λ k. (c.type_inv.indices k).fits) (omega arith) in
+    room_next _ room c.put_nodes.ensures
 
 pub returns : goal.returns
 unfolding record_text
 returns c =
     let a = c.args in
-    let l = take a.n a.indices.now in
-    let lines = lines_most a.«record».now a.m 0 (omega arith) in
-    let list = spaced_most l (take_words a.n a.indices.now (λ k. (c.type_inv.indices k).fits)) in
-    let taken = length-take-le a.n a.indices.now (omega arith) in
-    let p = put_first (put_next (omega (arith, length_indices l)) c.put_nodes-p.ensures c.put_indices.ensures) in
-    record { value = p.0; out_after = p.1 }
+    let room = record_room c.new-w.ensures a.«record».now a.m a.n a.indices.now (omega arith) (omega arith)
+    (λ k. (c.type_inv.indices k).fits) (omega arith) in
+    let p = put_first c.new-w.ensures (put_then room c.put_nodes.ensures (λ _. c.put_indices.ensures)) in
+    search rules

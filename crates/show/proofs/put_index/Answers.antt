@@ -1,9 +1,7 @@
-use native.Mathlib.Omega.{arith}
 use Rattle.text.specs.Text.{chars}
-use Rattle.text.proofs.Put.{put_next}
+use Rattle.text.proofs.Put.{put_then}
 use Rattle.show.proofs.put_index.Goals as goal
 
 pub returns : goal.returns
 unfolding chars
-returns c =
-    put_next (omega arith) c.put_byte-p.ensures c.put_decimal.ensures
+returns c = put_then c.requires c.put_byte.ensures (λ _. c.put_decimal.ensures)

@@ -4,4 +4,4 @@ use Rattle.show.specs.Show.{spaced}
 use Rattle.show.proofs.put_spaced.Given as goal
 
 abbrev pub invariant-loop-index : goal.invariant-loop-index
-invariant-loop-index l = Rest l.initial.out l.at (spaced l.indices) l.p (spaced (drop l.index-index l.indices)) l.out
+invariant-loop-index l = Rest l.initial.w (spaced l.indices) (spaced (drop l.index-index l.indices)) l.w

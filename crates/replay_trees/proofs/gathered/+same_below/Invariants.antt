@@ -1,5 +1,5 @@
--- `same_below`: the measure is the depth. What holds one step down is in proofs/Below.
+-- `same_below`: the measure is the depth.
 use Rattle.replay_trees.proofs.gathered.+same_below.Given as goal
 
 abbrev pub decreases-same_below : goal.decreases-same_below
-decreases-same_below l = l.depth
+decreases-same_below l = l.branch.depth

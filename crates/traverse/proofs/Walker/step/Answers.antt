@@ -1,11 +1,11 @@
-use mathlib.Core.Path.{refl, sym, ◌∙◌}
+use mathlib.Core.Path.{sym, ◌∙◌}
 use lib.ListN.{length}
 use Rattle.causes.specs.Refusal.{cause_number}
 use Rattle.causes.proofs.Refusals.{some_number}
 use Rattle.causes.proofs.Sizes.{Fit, none_record}
 use Rattle.advance.specs.Turn.{step_answer}
 use Rattle.traverse.specs.Walker.{walker_words}
-use Rattle.traverse.proofs.Steps.{no_error, step_sizes, step_forged, step_over, step_advances, walks}
+use Rattle.traverse.proofs.Steps.{no_error, step_sizes, step_forged, step_over, step_advances, octant_lt}
 use Rattle.traverse.proofs.Walker.step.Goals as goal
 use Rattle.traverse.proofs.Walker.step.Goals.{In_default}
 
@@ -30,7 +30,7 @@ pub is_over-requires : goal.is_over-requires
 is_over-requires c =
     let a = c.args in
     let f = fit (goal.at.is_over-requires c).In_default in
-    (walks a.«record».now a.n (walker_words a.self) f (sym c.is_forged.ensures ∙ c.if-is_forged.false) _ refl).eight
+    octant_lt a.«record».now a.n (walker_words a.self) f (sym c.is_forged.ensures ∙ c.if-is_forged.false)
 
 pub returns-then-is_over : goal.returns-then-is_over
 returns-then-is_over c =
@@ -40,11 +40,14 @@ returns-then-is_over c =
     ∙ step_over a.«record».now a.n (walker_words a.self) f (sym c.is_forged.ensures ∙ c.if-is_forged.false)
     (sym c.is_over.ensures ∙ c.if-is_over.true)
 
+pub invariant_of-bvh : goal.invariant_of-bvh
+invariant_of-bvh c = record { fit = fit (goal.at.invariant_of-bvh c).In_default }
+
 pub turn-t-requires : goal.turn-t-requires
 turn-t-requires c =
     let a = c.args in
     let f = fit (goal.at.turn-t-requires c).In_default in
-    walks a.«record».now a.n (walker_words a.self) f (sym c.is_forged.ensures ∙ c.if-is_forged.false)
+    octant_lt a.«record».now a.n (walker_words a.self) f (sym c.is_forged.ensures ∙ c.if-is_forged.false)
 
 pub returns : goal.returns
 returns c =
