@@ -1,10 +1,11 @@
 -- How words are read: links by their kinds, trees by their links.
 use mathlib.Core.Path.{◌≡◌, refl}
 use mathlib.Core.List.{List}
-use Prim.Native.Nat.{ℕ, zero, suc, ◌+◌, ◌-◌, ◌/◌, ◌%◌, ◌≤◌, ◌<◌}
+use Prim.Native.Nat.{ℕ, zero, suc, ◌+◌, ◌-◌, ◌/◌, ◌%◌, ◌≤◌, ◌<◌, max}
 use native.Mathlib.Omega.{arith}
 use native.Mathlib.Numerals.{sub-one}
-use Rattle.bvh2.specs.Tree.{leaf, inner, label_of, box_of, depth}
+use Rattle.aabb.specs.declared.Aabb.{Aabb}
+use Rattle.bvh2.specs.Tree.{Tree, leaf, inner, label_of, box_of, depth}
 use Rattle.bvh2.specs.Words.{Link, children, position, malformed, link_of, link_at, box_at, read_link, tree_at}
 
 -- a link word by its kind
@@ -82,6 +83,11 @@ box_read ws (suc d) v malformed = refl
 
 pub box_is : (ws : List ℕ) (d v : ℕ) → box_of (tree_at ws d v) ≡ box_at ws v
 box_is ws d v = box_read ws d v (link_at ws v)
+
+-- a tree is deeper than its children
+pub depth_inner : {A : Type 0} (v : A) (b : Aabb) (l r : Tree A) → depth (inner v b l r) ≡ suc (max (depth l) (depth r))
+unfolding depth
+depth_inner v b l r = refl
 
 depth_read : (ws : List ℕ) (d v : ℕ) (l : Link) → depth (read_link ws d v l) ≤ d
 unfolding depth read_link

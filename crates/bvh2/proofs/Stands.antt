@@ -81,7 +81,7 @@ pub whole_stands : (ws : List ℕ) (d v : ℕ) → AllRead ws (tree_at ws d v) �
 whole_stands ws d v w = whole_stands_link ws d v (link_at ws v) refl w
 
 -- read whole to one depth, it is the same tree to any depth that it does not pass
-read_again : (ws : List ℕ) (d e v : ℕ) → AllRead ws (tree_at ws d v) → depth (tree_at ws d v) ≤ e → tree_at ws e v ≡ tree_at ws d v
+pub read_again : (ws : List ℕ) (d e v : ℕ) → AllRead ws (tree_at ws d v) → depth (tree_at ws d v) ≤ e → tree_at ws e v ≡ tree_at ws d v
 read_again ws d e v w h =
     subst (λ (u : ℕ). tree_at ws e u ≡ tree_at ws d v) (label_is ws d v) (stands_read ws (tree_at ws d v) e (whole_stands ws d v w) h)
 

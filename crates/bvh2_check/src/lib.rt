@@ -61,10 +61,10 @@ fn boxes_accepted(tree: Bvh2) -> bool
 
 // Mark the node and all below it, and each leaf's position after the marks of the nodes. A second mark, or an edge too many, stops the walk:
 // so no node is gone through twice, whatever the words.
-fn visit(tree: Bvh2, marks: &mut [u32], node: usize, depth: u32) -> bool
-    requires { MarkReady tree.words.now tree.leaves (length marks.old) node }
+fn visit(tree: &Bvh2, marks: &mut [u32], node: usize, depth: u32) -> bool
+    requires { MarkReady tree.now.words.now tree.now.leaves (length marks.old) node }
     ensures { marking_if result marks.new
-        ≡ walk tree.entry.words.now (tree_nodes tree.entry.leaves) (tree_at tree.entry.words.now depth node) marks.old }
+        ≡ walk tree.now.words.now (tree_nodes tree.now.leaves) (tree_at tree.now.words.now depth node) marks.old }
 {
     if marks[node] != 0 {
         return false;
@@ -108,7 +108,7 @@ fn judge(tree: Bvh2, marks: &mut [u32]) -> Result<(), Refusal>
     if !boxes_accepted(tree) {
         return Err(Refusal::BoxRefused);
     }
-    if !visit(tree, marks, 0, 127) || !all_marked(marks, 3 * tree.leaves - 1) {
+    if !visit(&tree, marks, 0, 127) || !all_marked(marks, 3 * tree.leaves - 1) {
         return Err(Refusal::NotOneTree);
     }
     Ok(())

@@ -139,7 +139,7 @@ module _ {c : Call} {ds₁ : List ℕ} {cs₁ : List Float} (p : Prepares c 0 ds
     few_leaves = tree.few
 
     -- the level pass and the emission have what they ask
-    pub level_ready : Tabled c.words ds₁ 127 0
+    pub level_ready : Tabled c.words ds₁ 0
     level_ready = tabled c ds₁ some parts p.decisions
 
     pub emit_ready : (b : Branch) → IsRoot b c.words ds₁ → EmitTree b (leaf_count c) c.ordered (length c.bytes) (length c.list)

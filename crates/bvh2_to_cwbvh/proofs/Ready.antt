@@ -1,19 +1,20 @@
 -- What the level pass and the emission ask holds where none of causes 1 to 7 does.
 use denote.Ref.{Bor}
-use mathlib.Core.Path.{◌≡◌, refl}
+use mathlib.Core.Path.{◌≡◌, refl, sym, subst}
 use mathlib.Core.List.{List}
 use Prim.Native.Nat.{ℕ, ◌*◌, ◌≤◌, ◌<◌}
 use native.Mathlib.Omega.{arith}
 use lib.ListN.{length}
-use Rattle.bvh2.specs.Words.{tree_nodes, tree_at, tree_of}
-use Rattle.bvh2.specs.Decoded.{Decoded}
+use Rattle.bvh2.specs.Words.{tree_nodes, tree_of}
+use Rattle.bvh2.specs.Decoded.{Decoded, Subtree}
 use Rattle.bvh2.proofs.Decoded.{accepted_decoded}
 use Rattle.bvh2.proofs.Subtree.{root}
 use Rattle.cost.specs.Table.{word_of}
 use Rattle.cost.specs.Rows.{RowsHold}
 use Rattle.children.specs.declared.branch.Branch.{Branch}
-use Rattle.children.specs.Branches.{subtree_of}
-use Rattle.children.specs.Tabled.{Tabled}
+use Rattle.children.specs.declared.branch.Bvh2Slices.{Bvh2Slices}
+use Rattle.children.specs.Branches.{words_of, decisions_of, subtree_of}
+use Rattle.children.specs.Tabled.{subtree_at, Tabled}
 use Rattle.wide_tree.proofs.Ordered.{index_count_lem, node-count}
 use Rattle.emit_tree.specs.Emission.{EmitTree}
 use Rattle.bvh2_tables.specs.Call.{Call, leaf_count}
@@ -24,17 +25,22 @@ use Rattle.bvh2_to_cwbvh.specs.Conversion.{Convertible}
 
 -- the branch of the whole tree
 pub record IsRoot (b : Branch) (ws ds : List ℕ) : Type 0 where
-  pub words : b.words.now ≡ ws
-  pub decisions : b.decisions.now ≡ ds
+  pub words : words_of b ≡ ws
+  pub decisions : decisions_of b ≡ ds
   pub node : b.node ≡ 0
-  pub depth : b.depth ≡ 127
 
-pub is_root : {w d : Bor (List ℕ)} {t : ∥ Tabled w.now d.now 127 0 ∥₁}
-    → IsRoot (record { words = w; decisions = d; node = 0; depth = 127; tabled = t }) w.now d.now
-is_root = record { words = refl; decisions = refl; node = refl; depth = refl }
+pub is_root : {t : Bor Bvh2Slices} {h : ∥ Tabled t.now.words.now t.now.decisions.now 0 ∥₁}
+    → IsRoot (record { tree = t; node = 0; tabled = h }) t.now.words.now t.now.decisions.now
+is_root = record { words = refl; decisions = refl; node = refl }
+
+-- what holds of the tree's root holds of it
+pub of_root : {b : Branch} {ws ds : List ℕ} → IsRoot b ws ds → (P : List ℕ → List ℕ → ℕ → Type 0) → P ws ds 0 → P (words_of b) (decisions_of b) b.node
+of_root {b} {ds = ds} r P x =
+    subst (P (words_of b) (decisions_of b)) (sym r.node) (subst (λ (d : List ℕ). P (words_of b) d 0) (sym r.decisions)
+    (subst (λ (w : List ℕ). P w ds 0) (sym r.words) x))
 
 pub root_tree : {b : Branch} {ws ds : List ℕ} → IsRoot b ws ds → subtree_of b ≡ tree_of ws
-root_tree r = λ i. tree_at (r.words i) (r.depth i) (r.node i)
+root_tree r = λ i. subtree_at (r.words i) (r.node i)
 
 module _ (c : Call) (ds₁ : List ℕ) (some : 0 < leaf_count c) (parts : Convertible c)
     (filled : ds₁ ≡ work_after 0 (word_of c.limit) c.words (leaf_count c) 0 c.decisions) where
@@ -49,7 +55,7 @@ module _ (c : Call) (ds₁ : List ℕ) (some : 0 < leaf_count c) (parts : Conver
       omega (arith, work_length 0 (word_of c.limit) c.words (leaf_count c) c.decisions ds₁ some tree filled parts.words, parts.words)
 
   -- the level pass
-  pub tabled : Tabled c.words ds₁ 127 0
+  pub tabled : Tabled c.words ds₁ 0
   tabled = record { n = leaf_count c; tree = root c.words (leaf_count c) tree; room = room; limit = c.limit; holds = holds }
 
   -- the emission
@@ -62,11 +68,11 @@ module _ (c : Call) (ds₁ : List ℕ) (some : 0 < leaf_count c) (parts : Conver
       let s = size_some (leaf_count c) some in
       record {
         at = record {
-          tree = rw (r.words, r.depth, r.node) (root c.words (leaf_count c) tree);
-          room = rw r.decisions room;
+          tree = of_root r (λ ws ds v. Subtree ws (leaf_count c) 127 v) (root c.words (leaf_count c) tree);
+          room = of_root r (λ ws ds v. tree_nodes (leaf_count c) * 7 ≤ length ds) room;
           limit = c.limit;
           small = parts.small;
-          holds = rw (r.words, r.decisions, r.depth, r.node) holds;
+          holds = of_root r (λ ws ds v. RowsHold (word_of c.limit) 0 ds (subtree_at ws v)) holds;
         };
         record_room = rw (root_tree r) (omega arith);
         list_room = rw (root_tree r) (omega (arith, parts.list));

@@ -6,7 +6,7 @@ ghost use Rattle.bvh2_to_cwbvh.specs.Conversion.{conversion_of};
 ghost use Rattle.bvh2_to_cwbvh.specs.Answer.{outcome_of};
 
 use causes::Refusal;
-use children::Branch;
+use children::{Branch, Bvh2Slices};
 
 // A record that was written: how many nodes it has, and its deepest level.
 #[derive(Clone, Copy, Debug, PartialEq, Eq)]
@@ -45,11 +45,10 @@ pub fn bvh2_to_cwbvh(
     if empty {
         return Ok(Converted { nodes: 0, level: 0 });
     }
+    let tree = Bvh2Slices { words, decisions };
     let root = Branch {
-        words,
-        decisions,
+        tree: &tree,
         node: 0,
-        depth: 127,
     };
     let deepest = wide_level::deepest_level(root);
     let deep = deepest > 31;

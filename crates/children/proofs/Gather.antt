@@ -5,8 +5,9 @@ use Prim.Native.Nat.{ℕ, ◌+◌, ◌^◌, ◌≤◌, ◌<◌}
 use native.Mathlib.Omega.{arith}
 use lib.ListN.{length, length-append}
 use Rattle.aabb.specs.declared.Aabb.{Aabb}
-use Rattle.bvh2.specs.Tree.{Tree, leaf, inner, leaves, positions}
+use Rattle.bvh2.specs.Tree.{Tree, leaf, inner, leaves, depth, positions}
 use Rattle.bvh2.specs.Decoded.{BoxesAccepted}
+use Rattle.bvh2.proofs.Reading.{depth_inner}
 use Rattle.cost.specs.Table.{Kind, LEAF, INTERNAL, DISTRIBUTE, table}
 use Rattle.cost.proofs.Bound.{first_splits}
 use Rattle.cost.proofs.Splits.{leaf_distribute, leaf_kind, distribute_splits}
@@ -118,9 +119,20 @@ module _ {A : Type 0} (limit : ℕ) where
         (part-each a d.left k.0 (gather-each a d.left k.0)) (part-each b d.right k.1 (gather-each b d.right k.1))
 
     -- for an inner node it is enough that it holds of its two children
-    pub gather_below_lem : (v : A) (box : Aabb) (a b : Tree A) (i : ℕ) → P a → P b → EachTree P (gather limit (inner v box a b) i)
+    gather_below_lem : (v : A) (box : Aabb) (a b : Tree A) (i : ℕ) → P a → P b → EachTree P (gather limit (inner v box a b) i)
     unfolding gather
     gather_below_lem v box a b i p q =
         let d = table limit (inner v box a b) i in
         each_append P (part limit a d.left) (part limit b d.right)
         (part-each a d.left p (gather-each a d.left p)) (part-each b d.right q (gather-each b d.right q))
+
+-- ---- an inner tree is deeper than each tree that it opens into
+pub gather_shallower : {A : Type 0} (limit : ℕ) (v : A) (box : Aabb) (a b : Tree A) (i : ℕ)
+    → EachTree (λ t. depth t < depth (inner v box a b)) (gather limit (inner v box a b) i)
+gather_shallower {A} limit v box a b i =
+    let q = depth_inner v box a b in
+    gather_below_lem limit (λ t. depth t < depth (inner v box a b)) below v box a b i (omega (arith, q)) (omega (arith, q))
+  where
+    below : (w : A) (c : Aabb) (l r : Tree A) → depth (inner w c l r) < depth (inner v box a b)
+        → (depth l < depth (inner v box a b)) × (depth r < depth (inner v box a b))
+    below w c l r k = let z = depth_inner w c l r in (omega (arith, z, k), omega (arith, z, k))

@@ -1,4 +1,5 @@
 pub mod Gather
+pub mod Deeper
 pub mod Steps
 pub mod Branches
 pub mod Reread

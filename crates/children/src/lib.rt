@@ -5,14 +5,14 @@ ghost use Rattle.std.specs.Prelude.{◌≡◌, ℕ, ◌≤◌};
 ghost use Rattle.bvh2.specs.Words.{children, link_at};
 ghost use Rattle.children.specs.Gather.{gather, part};
 ghost use Rattle.children.specs.Tabled.{Gathered};
-ghost use Rattle.children.specs.Branches.{subtree_of, DecidedBy, Room};
+ghost use Rattle.children.specs.Branches.{words_of, subtree_of, DecidedBy, Room};
 
 use bvh2::Link;
 use cost::Kind;
 
 mod branch;
 
-pub use branch::Branch;
+pub use branch::{Branch, Bvh2Slices};
 
 // Writes what a branch contributes at an entry behind `count` children: its node, or where the decision is DISTRIBUTE, what that opens into.
 // Returns the count after them. The children are an array with a count, since there is no heap.
@@ -48,7 +48,7 @@ fn open_node(
     found: &mut [u32; 8],
     count: usize,
 ) -> usize
-    requires inner { children first ≡ link_at branch.words.now branch.node }
+    requires inner { children first ≡ link_at (words_of branch) branch.node }
     requires bound { entry ≤ 6 }
     requires room { ∥ Room branch count (λ limit. gather limit (subtree_of branch) entry) ∥₁ }
     ensures { (limit : ℕ) → DecidedBy limit branch.entry

@@ -73,17 +73,11 @@ fn position_met(on: IndexedPanes, p: usize, ray: Ray) -> Result<f32, Refusal>
     }
 }
 
-// The same aim with a reach of its own: a hit lowers the reach.
-fn nearer(aim: Aim, tmax: f32) -> Aim
-    ensures { (result.ray ≡ reaching tmax aim.ray) × (result.octant ≡ aim.octant) }
+// A hit lowers the reach. It is written where it stands: an aim that is copied waits for the store of its new reach.
+fn set_reach(aim: &mut Aim, tmax: f32)
+    ensures { (aim.new.ray ≡ reaching tmax aim.old.ray) × (aim.new.octant ≡ aim.old.octant) }
 {
-    let ray = Ray { tmax, ..aim.ray };
-    // field by field: a struct with ghost fields takes no `..base`
-    Aim {
-        ray,
-        ends: aim.ends,
-        octant: aim.octant,
-    }
+    aim.ray.tmax = tmax;
 }
 
 // Closest's walk over a record with nodes, where nothing refuses it on entry.
@@ -105,7 +99,7 @@ fn walk_closest(query: Query, on: IndexedPanes) -> Result<ClosestFound, Refusal>
             walk = Walk { positions, ..walk };
             if aim.ray.counts(t) {
                 answer = ClosestHit::Hit(p as u32, t);
-                aim = nearer(aim, t);
+                set_reach(&mut aim, t);
             }
         }
         let tests = walk.tests;

@@ -1,15 +1,17 @@
 -- One step of writing a subtree's leaves: what each call asks, and what the two calls give together.
 use mathlib.Core.Path.{◌≡◌, refl, sym, ap, ◌∙◌}
 use mathlib.Core.List.{List, [], ◌∷◌, map-append}
-use Prim.Native.Nat.{ℕ, suc, ◌+◌, ◌-◌, ◌<◌, ◌≤◌}
+use Prim.Native.Nat.{ℕ, suc, ◌+◌, ◌<◌, ◌≤◌}
 use native.Mathlib.Omega.{arith}
 use lib.ListN.{length, get_or, set, length-append}
 use Rattle.lists.specs.Splice.{splice}
 use Rattle.lists.proofs.Splice.{splice_next, set-splice}
-use Rattle.bvh2.specs.Tree.{Tree, leaf, inner, leaves, positions}
-use Rattle.bvh2.specs.Words.{tree_nodes, children, position, malformed, link_at, tree_at}
-use Rattle.bvh2.proofs.Subtree.{leaf_link, inner_link, formed}
+use Rattle.bvh2.specs.Tree.{Tree, leaf, inner, leaves, depth, positions}
+use Rattle.bvh2.specs.Words.{tree_nodes, children, position, malformed, link_at}
+use Rattle.bvh2.proofs.Subtree.{leaf_link, formed}
 use Rattle.lists.specs.At.{words_at}
+use Rattle.children.specs.Tabled.{subtree_at}
+use Rattle.children.proofs.Deeper.{fork}
 use Rattle.emit.specs.Leaves.{LeavesReady, LeavesWritten}
 
 -- as many positions as leaves
@@ -23,36 +25,38 @@ words_length indices [] = refl
 words_length indices (p ∷ ps) = ap suc (words_length indices ps)
 
 -- ---- an inner node
-pub record Down (ws : List ℕ) (n m at depth v f : ℕ) : Type 0 where
-  pub deep : 0 < depth
+pub record Down (ws : List ℕ) (n m at v f : ℕ) : Type 0 where
   pub second : f + 1 < tree_nodes n
   pub few : n ≤ 65536
-  pub left : LeavesReady ws n m at (depth - 1) f
-  pub right : LeavesReady ws n m (at + leaves (tree_at ws (depth - 1) f)) (depth - 1) (f + 1)
-  pub tree : (b : _) × (tree_at ws depth v ≡ inner v b (tree_at ws (depth - 1) f) (tree_at ws (depth - 1) (f + 1)))
-  pub both : at + (leaves (tree_at ws (depth - 1) f) + leaves (tree_at ws (depth - 1) (f + 1))) ≤ m
+  pub left : LeavesReady ws n m at f
+  pub right : LeavesReady ws n m (at + leaves (subtree_at ws f)) (f + 1)
+  pub tree : (b : _) × (subtree_at ws v ≡ inner v b (subtree_at ws f) (subtree_at ws (f + 1)))
+  pub left_shallower : depth (subtree_at ws f) < depth (subtree_at ws v)
+  pub right_shallower : depth (subtree_at ws (f + 1)) < depth (subtree_at ws v)
+  pub both : at + (leaves (subtree_at ws f) + leaves (subtree_at ws (f + 1))) ≤ m
 
-pub down : {ws : List ℕ} {n m at depth v f : ℕ} → LeavesReady ws n m at depth v → children f ≡ link_at ws v → Down ws n m at depth v f
+pub down : {ws : List ℕ} {n m at v f : ℕ} → LeavesReady ws n m at v → children f ≡ link_at ws v → Down ws n m at v f
 unfolding leaves
-down {ws} {n} {m} {at} {depth} {v} {f} h e =
-    let i = inner_link ws n depth v f h.tree (sym e) in
-    let room : at + (leaves (tree_at ws (depth - 1) f) + leaves (tree_at ws (depth - 1) (f + 1))) ≤ m = rw i.tree at h.room in record {
-      deep = i.deep;
+down {ws} {n} {m} {at} {v} {f} h e =
+    let i = fork ws n v f h.tree (sym e) in
+    let room : at + (leaves (subtree_at ws f) + leaves (subtree_at ws (f + 1))) ≤ m = rw i.tree at h.room in record {
       second = i.second;
       few = h.tree.few;
       left = record { tree = i.left; room = omega arith };
       right = record { tree = i.right; room = omega arith };
       tree = (_, i.tree);
+      left_shallower = i.left_shallower;
+      right_shallower = i.right_shallower;
       both = room;
     }
 
-pub up : {indices : List ℕ} {ws : List ℕ} {n m at depth v f : ℕ} → Down ws n m at depth v f → {a b : ℕ} {o o₁ o₂ : List ℕ} → length o ≡ m
-    → LeavesWritten indices (tree_at ws (depth - 1) f) at a o o₁ → LeavesWritten indices (tree_at ws (depth - 1) (f + 1)) a b o₁ o₂
-    → LeavesWritten indices (tree_at ws depth v) at b o o₂
+pub up : {indices : List ℕ} {ws : List ℕ} {n m at v f : ℕ} → Down ws n m at v f → {a b : ℕ} {o o₁ o₂ : List ℕ} → length o ≡ m
+    → LeavesWritten indices (subtree_at ws f) at a o o₁ → LeavesWritten indices (subtree_at ws (f + 1)) a b o₁ o₂
+    → LeavesWritten indices (subtree_at ws v) at b o o₂
 unfolding leaves positions
-up {indices} {ws} {n} {m} {at} {depth} {v} {f} h {a} {b} {o} {o₁} {o₂} z x y =
-    let L = tree_at ws (depth - 1) f in
-    let R = tree_at ws (depth - 1) (f + 1) in
+up {indices} {ws} {n} {m} {at} {v} {f} h {a} {b} {o} {o₁} {o₂} z x y =
+    let L = subtree_at ws f in
+    let R = subtree_at ws (f + 1) in
     let p = words_at indices (positions L) in
     let q = words_at indices (positions R) in
     let lp : length p ≡ leaves L = words_length indices (positions L) ∙ positions-length L in
@@ -67,16 +71,16 @@ up {indices} {ws} {n} {m} {at} {depth} {v} {f} h {a} {b} {o} {o₁} {o₂} z x y
     })
 
 -- ---- a leaf
-pub record Last (ws indices : List ℕ) (at depth v p : ℕ) (o : List ℕ) : Type 0 where
+pub record Last (ws indices : List ℕ) (at v p : ℕ) (o : List ℕ) : Type 0 where
   pub held : p < length indices
   pub few : length indices ≤ 65536
   pub room : at < length o
-  pub written : LeavesWritten indices (tree_at ws depth v) at (at + 1) o (set o at (get_or indices p 0))
+  pub written : LeavesWritten indices (subtree_at ws v) at (at + 1) o (set o at (get_or indices p 0))
 
-pub last : {ws indices : List ℕ} {at depth v p : ℕ} {o : List ℕ} → LeavesReady ws (length indices) (length o) at depth v
-    → position p ≡ link_at ws v → Last ws indices at depth v p o
+pub last : {ws indices : List ℕ} {at v p : ℕ} {o : List ℕ} → LeavesReady ws (length indices) (length o) at v
+    → position p ≡ link_at ws v → Last ws indices at v p o
 unfolding leaves positions
-last {ws} {indices} {at} {depth} {v} {p} {o} h e =
+last {ws} {indices} {at} {v} {p} {o} h e =
     let i = leaf_link h.tree (sym e) in
     let room : at + 1 ≤ length o = rw i.tree at h.room in
     let r : at < length o = omega arith in record {
@@ -87,5 +91,5 @@ last {ws} {indices} {at} {depth} {v} {p} {o} h e =
     }
 
 -- ---- no link is malformed
-pub formed_link : {ws : List ℕ} {n m at depth v : ℕ} → LeavesReady ws n m at depth v → malformed ≡ link_at ws v → ⊥
-formed_link {ws} {depth = depth} {v = v} h e = formed ws depth v (sym e) h.tree.whole
+pub formed_link : {ws : List ℕ} {n m at v : ℕ} → LeavesReady ws n m at v → malformed ≡ link_at ws v → ⊥
+formed_link {ws} {v = v} h e = formed ws 127 v (sym e) h.tree.whole

@@ -2,10 +2,12 @@
 #![tactic(auto)]
 
 ghost use Rattle.std.specs.Prelude.{◌≡◌, ◌^◌, ◌<◌, ◌≤◌, length};
-ghost use Rattle.bvh2.specs.Words.{box_at, tree_at};
+ghost use Rattle.bvh2.specs.Words.{box_at};
 ghost use Rattle.record.specs.Record.{leaf_meta};
 ghost use Rattle.emit.specs.Leaves.{LeavesReady, LeavesWritten};
 ghost use Rattle.emit.specs.Grid.{grid_of, box_on};
+ghost use Rattle.children.specs.Tabled.{subtree_at};
+ghost use Rattle.children.specs.Branches.{words_of, decisions_of};
 ghost use Rattle.emit.specs.Own.{SlotReady, OwnReady, held_in, leaf_words_in, all_slots, BuiltAs, cell_of};
 
 use aabb::Aabb;
@@ -17,21 +19,14 @@ use ray::Vec3;
 
 // Writes the index words of the leaves below node v, left to right, from a place on; the place behind them. A struct of both would
 // hold a `&mut`, and each contract would say that it is still the same. And no Branch: leaves below a leaf child are found without decision words.
-pub fn write_leaves(
-    words: &[u32],
-    indices: &[u32],
-    out: &mut [u32],
-    v: usize,
-    at: usize,
-    depth: u32,
-) -> usize
-    requires { LeavesReady words.now (length indices.now) (length out.old) at depth v }
-    ensures { LeavesWritten indices.now (tree_at words.now depth v) at result out.old out.new }
+pub fn write_leaves(words: &[u32], indices: &[u32], out: &mut [u32], v: usize, at: usize) -> usize
+    requires { LeavesReady words.now (length indices.now) (length out.old) at v }
+    ensures { LeavesWritten indices.now (subtree_at words.now v) at result out.old out.new }
 {
     match bvh2::node_link(words, v) {
         Link::Children(first) => {
-            let next = write_leaves(words, indices, out, first, at, depth - 1);
-            write_leaves(words, indices, out, first + 1, next, depth - 1)
+            let next = write_leaves(words, indices, out, first, at);
+            write_leaves(words, indices, out, first + 1, next)
         }
         Link::Position(position) => {
             out[at] = indices[position];
@@ -129,12 +124,13 @@ fn own_slot(
     grid: Grid,
     at: usize,
 ) -> Held
-    requires { (i < 8) × SlotReady branch.words.now branch.decisions.now (length indices.now) (length out.old) branch.depth v start at }
+    requires { (i < 8) × SlotReady (words_of branch) (decisions_of branch) (length indices.now) (length out.old) v start at }
     ensures value { (b : Aabb) → grid ≡ grid_of b
-        → result ≡ held_in b start i at (cell_of branch.entry.words.now branch.entry.decisions.now branch.entry.depth v) }
-    ensures out_after { out.new ≡ leaf_words_in indices.now at (cell_of branch.entry.words.now branch.entry.decisions.now branch.entry.depth v)
+        → result ≡ held_in b start i at (cell_of (words_of branch.entry) (decisions_of branch.entry) v) }
+    ensures out_after { out.new ≡ leaf_words_in indices.now at (cell_of (words_of branch.entry) (decisions_of branch.entry) v)
         out.old }
 {
+    // all ones: no child, since each of the eight slots has a word
     if v == 0xffff_ffff {
         return Held {
             meta: 0,
@@ -144,13 +140,12 @@ fn own_slot(
             at,
         };
     }
-    let words = branch.words;
-    let decisions = branch.decisions;
+    let words = branch.tree.words;
     let child = v as usize;
     let b = bvh2::node_box(words, child);
     let corners = grid_box(grid, b);
-    if cost::decision_at(decisions, child, 0).kind == Kind::Leaf {
-        let next = write_leaves(words, indices, out, child, at, branch.depth);
+    if cost::decision_at(branch.tree.decisions, child, 0).kind == Kind::Leaf {
+        let next = write_leaves(words, indices, out, child, at);
         return Held {
             meta: leaf_meta(next - at, at - start),
             corners,
@@ -187,10 +182,10 @@ pub fn build_node(
     start: usize,
 ) -> Built
     requires { (count < 2 ^ 32) × (start < 2 ^ 32)
-        × OwnReady branch.words.now branch.decisions.now indices.now slots.now (box_at branch.words.now branch.node) (length out.old)
-        branch.depth start out.old }
-    ensures { BuiltAs branch.entry.words.now branch.entry.node count start
-        (all_slots branch.entry.words.now branch.entry.decisions.now indices.now slots.now branch.entry.node start branch.entry.depth out.old)
+        × OwnReady (words_of branch) (decisions_of branch) indices.now slots.now (box_at (words_of branch) branch.node) (length out.old)
+        start out.old }
+    ensures { BuiltAs (words_of branch.entry) branch.entry.node count start
+        (all_slots (words_of branch.entry) (decisions_of branch.entry) indices.now slots.now branch.entry.node start out.old)
         result out.new }
 {
     let b = branch.node_box();

@@ -2,21 +2,21 @@
 use mathlib.Core.Path.{◌≡◌, refl, sym, ap, ap₂, subst, ◌∙◌}
 use mathlib.Core.Bool.{Bool, true, false}
 use mathlib.Core.List.{List}
-use Prim.Native.Nat.{ℕ, suc, ◌+◌, ◌-◌, ◌*◌, ◌<◌}
+use Prim.Native.Nat.{ℕ, suc, ◌+◌, ◌*◌, ◌<◌}
 use native.Mathlib.Numerals.{add-one}
 use native.Mathlib.Omega.{arith}
 use lib.ListN.{length, get_or}
 use Rattle.aabb.specs.declared.Aabb.{Aabb}
-use Rattle.bvh2.specs.Tree.{Tree, label_of, box_of}
-use Rattle.bvh2.specs.Words.{box_at, tree_at}
+use Rattle.bvh2.specs.Tree.{Tree, depth, label_of, box_of}
+use Rattle.bvh2.specs.Words.{box_at}
 use Rattle.bvh2.specs.Decoded.{Subtree}
 use Rattle.bvh2.proofs.Reading.{box_is}
 use Rattle.bvh2.proofs.Subtree.{node}
 use Rattle.cost.specs.Table.{word_of}
 use Rattle.cost.specs.Rows.{RowsHold}
 use Rattle.children.specs.declared.branch.Branch.{Branch}
-use Rattle.children.specs.Branches.{subtree_of}
-use Rattle.children.specs.Tabled.{Tabled}
+use Rattle.children.specs.Branches.{words_of, decisions_of, subtree_of}
+use Rattle.children.specs.Tabled.{subtree_at, Tabled}
 use Rattle.wide_layout.specs.Wide.{Slots, inner}
 use Rattle.wide_layout.specs.Conversion.{State, convert, convert_node}
 use Rattle.wide_tree.specs.WideTree.{root_slots, slots_from}
@@ -30,43 +30,43 @@ use Rattle.emit_tree.proofs.Rolling.{put, Rolling, child_room, child_done, other
 module _ (root : Branch) (indices : List ℕ) (ordered : Bool) (h : EmitNode root (length indices)) (i x : ℕ) (l : i < 8)
     (q : x ≡ get_or (slot_words ordered h.limit (subtree_of root)) i 0) where
   abbrev Child_of : Type 0
-  Child_of = (0 < root.depth) × Subtree root.words.now (length indices) (root.depth - 1) x
-      × RowsHold (word_of h.limit) 0 root.decisions.now (tree_at root.words.now (root.depth - 1) x)
-      × (standing root (length indices) ordered h i ≡ inner_child (box_at root.words.now x) (root_slots (placing ordered) h.limit
-      (tree_at root.words.now (root.depth - 1) x)))
+  Child_of = (depth (subtree_at (words_of root) x) < depth (subtree_of root)) × Subtree (words_of root) (length indices) 127 x
+      × RowsHold (word_of h.limit) 0 (decisions_of root) (subtree_at (words_of root) x)
+      × (standing root (length indices) ordered h i ≡ inner_child (box_at (words_of root) x) (root_slots (placing ordered) h.limit
+      (subtree_at (words_of root) x)))
 
-  child_reached : is_inner root.decisions.now x ≡ true → Child_of
+  child_reached : is_inner (decisions_of root) x ≡ true → Child_of
   child_reached e =
-      let b = slot_below root (length indices) ordered h i l (subst (λ (y : ℕ). is_inner root.decisions.now y ≡ true) q e) in
-      let t = b.1.tree in
-      let r = b.1.reread in
-      let z : label_of t ≡ x = b.1.label ∙ sym q in
-      let u : tree_at root.words.now (root.depth - 1) x ≡ t = ap (tree_at root.words.now (root.depth - 1)) (sym z) ∙ r.tree in (
-        b.0,
-        subst (λ (y : ℕ). Subtree root.words.now (length indices) (root.depth - 1) y) z r.subtree,
-        subst (λ (y : Tree ℕ). RowsHold (word_of h.limit) 0 root.decisions.now y) (sym u) r.holds,
-        b.1.held ∙ ap₂ (λ (y : Aabb) (s : Slots 8). inner_child y s) (ap box_of (sym u) ∙ box_is root.words.now (root.depth - 1) x)
+      let b = slot_below root (length indices) ordered h i l (subst (λ (y : ℕ). is_inner (decisions_of root) y ≡ true) q e) in
+      let t = b.tree in
+      let r = b.reread in
+      let z : label_of t ≡ x = b.label ∙ sym q in
+      let u : subtree_at (words_of root) x ≡ t = ap (subtree_at (words_of root)) (sym z) ∙ r.tree in (
+        subst (λ (y : Tree ℕ). depth y < depth (subtree_of root)) (sym u) b.shallower,
+        subst (λ (y : ℕ). Subtree (words_of root) (length indices) 127 y) z r.subtree,
+        subst (λ (y : Tree ℕ). RowsHold (word_of h.limit) 0 (decisions_of root) y) (sym u) r.holds,
+        b.held ∙ ap₂ (λ (y : Aabb) (s : Slots 8). inner_child y s) (ap box_of (sym u) ∙ box_is (words_of root) 127 x)
             (ap (root_slots (placing ordered) h.limit) (sym u)),
       )
 
   -- its decision can be read
-  pub decided : (x ≡ 0xffff_ffff → ⊥) → x * 7 < length root.decisions.now
+  pub decided : (x ≡ 0xffff_ffff → ⊥) → x * 7 < length (decisions_of root)
   decided z =
       let s = slot_subtree root (length indices) ordered h i l (λ y. z (q ∙ y)) in
       let n = node s in
       omega (arith, q, n.below, h.room)
 
--- the branch of node v, one edge below
-abbrev pub TabledBelow : Branch → ℕ → Type 0
-TabledBelow b v = ∥ Tabled b.words.now b.decisions.now (b.depth - 1) v ∥₁
+-- the branch of node v of the same tree
+abbrev pub TabledAt : Branch → ℕ → Type 0
+TabledAt b v = ∥ Tabled (words_of b) (decisions_of b) v ∥₁
 
-abbrev pub branch_below : (b : Branch) (v : ℕ) → TabledBelow b v → Branch
-branch_below b v t = record { words = b.words; decisions = b.decisions; node = v; depth = b.depth - 1; tabled = t }
+abbrev pub branch_at : (b : Branch) (v : ℕ) → TabledAt b v → Branch
+branch_at b v t = record { tree = b.tree; node = v; tabled = t }
 
 pub record Child (b : Branch) (v : ℕ) (asked : Branch → Type 0) : Type 0 where
-  pub deep : 0 < b.depth
-  pub tabled : TabledBelow b v
-  pub asks : (t : TabledBelow b v) → asked (branch_below b v t)
+  pub shallower : depth (subtree_at (words_of b) v) < depth (subtree_of b)
+  pub tabled : TabledAt b v
+  pub asks : (t : TabledAt b v) → asked (branch_at b v t)
 
 abbrev goal_of : (root : Branch) (indices : List ℕ) (number : ℕ) (ordered : Bool) → EmitNode root (length indices)
     → (l : ℕ) (bytes out : List ℕ) (f : Next) (child : ℕ) → State Written
@@ -101,7 +101,7 @@ module _ {root : Branch} {indices : List ℕ} {number : ℕ} {ordered : Bool} {b
     word : (h : EmitNode root (length indices)) → get_or xs i 0 ≡ get_or (slot_words ordered h.limit (subtree_of root)) i 0
     word h = ap (λ (l : List ℕ). get_or l i 0) (q h)
 
-    pub loop_reads : (h : EmitNode root (length indices)) → (get_or xs i 0 ≡ 0xffff_ffff → ⊥) → get_or xs i 0 * 7 < length root.decisions.now
+    pub loop_reads : (h : EmitNode root (length indices)) → (get_or xs i 0 ≡ 0xffff_ffff → ⊥) → get_or xs i 0 * 7 < length (decisions_of root)
     loop_reads h = decided root indices ordered h i (get_or xs i 0) low (word h)
 
     module _ (h : EmitNode root (length indices)) (l : ℕ)
@@ -112,9 +112,9 @@ module _ {root : Branch} {indices : List ℕ} {number : ℕ} {ordered : Bool} {b
           (length bytes₀) (length out₀) bytes out f child)
           (rest_next root (length indices) ordered h i w) (k.rolls h l r)
 
-      at_inner : is_inner root.decisions.now (get_or xs i 0) ≡ true
-          → Rolling indices (inner (box_at root.words.now (get_or xs i 0)) (root_slots (placing ordered) h.limit (tree_at root.words.now
-          (root.depth - 1) (get_or xs i 0)))
+      at_inner : is_inner (decisions_of root) (get_or xs i 0) ≡ true
+          → Rolling indices (inner (box_at (words_of root) (get_or xs i 0)) (root_slots (placing ordered) h.limit (subtree_at (words_of root)
+          (get_or xs i 0)))
           (rest root (length indices) ordered h (suc i) w)) l number i (goal_of root indices number ordered h l bytes₀ out₀ f₀ child₀)
           (length bytes₀) (length out₀) bytes out f child
       at_inner e =
@@ -123,29 +123,29 @@ module _ {root : Branch} {indices : List ℕ} {number : ℕ} {ordered : Bool} {b
           (child_reached root indices ordered h i (get_or xs i 0) low (word h) e).3 at_put
 
       -- what the child's own emission asks
-      pub loop_child : is_inner root.decisions.now (get_or xs i 0) ≡ true → Child root (get_or xs i 0)
+      pub loop_child : is_inner (decisions_of root) (get_or xs i 0) ≡ true → Child root (get_or xs i 0)
           (λ b. Emits b (length indices) ordered (length bytes) (length out) child f)
       loop_child e =
           let c = child_reached root indices ordered h i (get_or xs i 0) low (word h) e in
           record {
-            deep = c.0;
+            shallower = c.0;
             tabled = ∣ record { n = length indices; tree = c.1; room = h.room; limit = h.limit; holds = c.2 } ∣₁;
             asks = λ t. record {
               at = record { tree = c.1; room = h.room; limit = h.limit; small = h.small; holds = c.2 };
               room = child_room indices (rest root (length indices) ordered h (suc i) w) l number i
                   (goal_of root indices number ordered h l bytes₀ out₀ f₀ child₀) (length bytes₀) (length out₀) bytes out f child
-                  (box_at root.words.now (get_or xs i 0)) (root_slots (placing ordered) h.limit (tree_at root.words.now (root.depth - 1)
+                  (box_at (words_of root) (get_or xs i 0)) (root_slots (placing ordered) h.limit (subtree_at (words_of root)
                   (get_or xs i 0)))
                   (at_inner e);
             };
           }
 
-    pub loop_inner : is_inner root.decisions.now (get_or xs i 0) ≡ true → (bytes₁ out₁ : List ℕ) (x : Next) → length bytes₁ ≡ length bytes
+    pub loop_inner : is_inner (decisions_of root) (get_or xs i 0) ≡ true → (bytes₁ out₁ : List ℕ) (x : Next) → length bytes₁ ≡ length bytes
         → length out₁ ≡ length out
-        → (t : TabledBelow root (get_or xs i 0)) → ((e : Emits (branch_below root (get_or xs i 0) t) (length indices) ordered (length bytes)
+        → (t : TabledAt root (get_or xs i 0)) → ((e : Emits (branch_at root (get_or xs i 0) t) (length indices) ordered (length bytes)
         (length out) child f) (l p j : ℕ)
-        → progress_of bytes₁ out₁ x ≡ convert_node (write_entry indices) (box_at root.words.now (get_or xs i 0))
-        (root_slots (placing ordered) e.at.limit (tree_at root.words.now (root.depth - 1) (get_or xs i 0))) l p j child (progress_of bytes out f))
+        → progress_of bytes₁ out₁ x ≡ convert_node (write_entry indices) (box_at (words_of root) (get_or xs i 0))
+        (root_slots (placing ordered) e.at.limit (subtree_at (words_of root) (get_or xs i 0))) l p j child (progress_of bytes out f))
         → Loop root indices number ordered bytes₀ out₀ f₀ child₀ bytes₁ out₁ x (child + 1) w (i + 1)
     unfolding loop_child
     loop_inner e bytes₁ out₁ x m o t g = record {
@@ -155,12 +155,12 @@ module _ {root : Branch} {indices : List ℕ} {number : ℕ} {ordered : Bool} {b
           (sym (add-one i))
           (child_done indices (rest root (length indices) ordered h (suc i) w) l number i
           (goal_of root indices number ordered h l bytes₀ out₀ f₀ child₀) (length bytes₀) (length out₀) bytes out f child
-          (box_at root.words.now (get_or xs i 0)) (root_slots (placing ordered) h.limit (tree_at root.words.now (root.depth - 1)
+          (box_at (words_of root) (get_or xs i 0)) (root_slots (placing ordered) h.limit (subtree_at (words_of root)
           (get_or xs i 0))) bytes₁ out₁ x (at_inner h l r e) m o
           (g ((loop_child h l r e).asks t) l number i));
     }
 
-    pub loop_other : is_inner root.decisions.now (get_or xs i 0) ≡ false
+    pub loop_other : is_inner (decisions_of root) (get_or xs i 0) ≡ false
         → Loop root indices number ordered bytes₀ out₀ f₀ child₀ bytes out f child w (i + 1)
     loop_other e = record {
       rolls = λ h l r.
@@ -169,7 +169,7 @@ module _ {root : Branch} {indices : List ℕ} {number : ℕ} {ordered : Bool} {b
           (other_done indices (rest root (length indices) ordered h (suc i) w) l number i
           (goal_of root indices number ordered h l bytes₀ out₀ f₀ child₀) (length bytes₀) (length out₀) bytes out f child
           (standing root (length indices) ordered h i)
-          (slot_other root (length indices) ordered h i low (subst (λ (y : ℕ). is_inner root.decisions.now y ≡ false) (word h) e)) (at_put h l r));
+          (slot_other root (length indices) ordered h i low (subst (λ (y : ℕ). is_inner (decisions_of root) y ≡ false) (word h) e)) (at_put h l r));
     }
 
 -- no slot left

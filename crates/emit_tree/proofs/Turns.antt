@@ -2,7 +2,7 @@
 use mathlib.Core.Path.{◌≡◌, refl, ap, ap₂, subst, ◌∙◌}
 use mathlib.Core.Bool.{Bool, true, false, not, ◌&&◌}
 use mathlib.Core.List.{List, [], ◌∷◌, map}
-use Prim.Native.Nat.{ℕ, zero, suc, ◌-◌, ◌*◌, ◌/◌, ◌≤◌, ◌<◌}
+use Prim.Native.Nat.{ℕ, zero, suc, ◌*◌, ◌/◌, ◌≤◌, ◌<◌}
 use native.Mathlib.Nat.{zero-add}
 use native.Mathlib.Decide.{ℕ_discrete}
 use native.Mathlib.Omega.{arith}
@@ -10,16 +10,17 @@ use lib.Dec.{eqb}
 use lib.ListN.{length, get_or}
 use borrow.Author.Tests.{eq-eqb, ne_eqb}
 use Rattle.aabb.specs.declared.Aabb.{Aabb}
-use Rattle.bvh2.specs.Tree.{Tree, leaf, inner, label_of, box_of}
-use Rattle.bvh2.specs.Words.{tree_nodes, box_at, tree_at}
+use Rattle.bvh2.specs.Tree.{Tree, leaf, inner, depth, label_of, box_of}
+use Rattle.bvh2.specs.Words.{tree_nodes, box_at}
 use Rattle.bvh2.specs.Decoded.{Subtree}
 use Rattle.cost.specs.Table.{Kind, LEAF, INTERNAL, DISTRIBUTE, code, table}
 use Rattle.cost.proofs.Splits.{leaf_kind}
 use Rattle.children.specs.declared.branch.Branch.{Branch}
-use Rattle.children.specs.Branches.{subtree_of}
+use Rattle.children.specs.Tabled.{subtree_at}
+use Rattle.children.specs.Branches.{words_of, decisions_of, subtree_of}
 use Rattle.children.specs.Gather.{gather, EachTree}
-use Rattle.children.proofs.Gather.{one_child}
-use Rattle.children.proofs.Reread.{Reread, gather_here, gather_reread}
+use Rattle.children.proofs.Gather.{one_child, gather_shallower}
+use Rattle.children.proofs.Reread.{Reread, gather_here}
 use Rattle.order.specs.Order.{slots_of, placed}
 use Rattle.order.specs.Assign as A
 use Rattle.order.proofs.Arrays.{eight_at}
@@ -72,17 +73,18 @@ other_word ds x e n = go (ℕ_discrete (get_or ds (x * 7) 0 / 0x4000_0000) 0)
         both false false p q r = clash cc
 
 -- ---- a word that stands for a node
--- the subtree that it names, with one edge less, and what stands in its slot
-pub record Below (ws ds : List ℕ) (n limit d : ℕ) (place : Placing) (x : ℕ) (c : C.Content) : Type 0 where
+-- the subtree that it names, with fewer than m edges below it, and what stands in its slot
+pub record Below (ws ds : List ℕ) (n limit m : ℕ) (place : Placing) (x : ℕ) (c : C.Content) : Type 0 where
   pub tree : Tree ℕ
   pub label : label_of tree ≡ x
-  pub reread : Reread ws ds n limit d tree
+  pub reread : Reread ws ds n limit tree
+  pub shallower : depth tree < m
   pub held : c ≡ C.inner_child (box_of tree) (root_slots place limit tree)
 
-module _ (ws ds : List ℕ) (n limit d : ℕ) (place : Placing) (room : tree_nodes n * 7 ≤ length ds) where
-  node-held : (t : Tree ℕ) → Reread ws ds n limit d t → is_inner ds (label_of t) ≡ true → held_as (child_of place limit t)
+module _ (ws ds : List ℕ) (n limit : ℕ) (place : Placing) (room : tree_nodes n * 7 ≤ length ds) where
+  node-held : (t : Tree ℕ) → Reread ws ds n limit t → is_inner ds (label_of t) ≡ true → held_as (child_of place limit t)
       ≡ C.inner_child (box_of t) (root_slots place limit t)
-  node-held t r e = go (table limit t 0).kind (kind_says ws ds n limit d place room t r)
+  node-held t r e = go (table limit t 0).kind (kind_says ws ds n limit place room t r)
     where
       go : (k : Kind) → get_or ds (label_of t * 7) 0 / 0x4000_0000 ≡ code k → held_as (child_as place k t (wide_children place limit t 0))
           ≡ C.inner_child (box_of t) (root_slots place limit t)
@@ -93,23 +95,23 @@ module _ (ws ds : List ℕ) (n limit d : ℕ) (place : Placing) (room : tree_nod
   none_inner : is_inner ds 0xffff_ffff ≡ true → ⊥
   none_inner e = (inner_word ds 0xffff_ffff e).0 refl
 
-  list_below : (b : ℕ) (g : List (Tree ℕ)) → EachTree (Reread ws ds n limit d) g → EachTree (Reread ws ds n limit b) g → (i : ℕ)
+  list_below : (m : ℕ) (g : List (Tree ℕ)) → EachTree (Reread ws ds n limit) g → EachTree (λ t. depth t < m) g → (i : ℕ)
       → is_inner ds (get_or (map label_of g) i 0xffff_ffff) ≡ true
-      → Below ws ds n limit b place (get_or (map label_of g) i 0xffff_ffff) (held_at (map (child_of place limit) g) i)
+      → Below ws ds n limit m place (get_or (map label_of g) i 0xffff_ffff) (held_at (map (child_of place limit) g) i)
   unfolding EachTree
-  list_below b [] h k i e = absurd (none_inner e)
-  list_below b (t ∷ g) h k zero e = record { tree = t; label = refl; reread = k.0; held = node-held t h.0 e }
-  list_below b (t ∷ g) h k (suc i) e = list_below b g h.1 k.1 i e
+  list_below m [] h k i e = absurd (none_inner e)
+  list_below m (t ∷ g) h k zero e = record { tree = t; label = refl; reread = h.0; shallower = k.0; held = node-held t h.0 e }
+  list_below m (t ∷ g) h k (suc i) e = list_below m g h.1 k.1 i e
 
   -- a leaf's only child is no node
-  leaf_below : (v : ℕ) (box : Aabb) (p : ℕ) → Reread ws ds n limit d (leaf v box p) → (i : ℕ)
+  leaf_below : (v : ℕ) (box : Aabb) (p : ℕ) → Reread ws ds n limit (leaf v box p) → (i : ℕ)
       → is_inner ds (get_or (map label_of (leaf v box p ∷ [])) i 0xffff_ffff) ≡ true → ⊥
   leaf_below v box p r zero e = (inner_word ds (label_of (leaf v box p)) e).1
-      (kind_says ws ds n limit d place room (leaf v box p) r ∙ ap code (leaf_kind limit v box p 0))
+      (kind_says ws ds n limit place room (leaf v box p) r ∙ ap code (leaf_kind limit v box p 0))
   leaf_below v box p r (suc i) e = none_inner e
 
-  list_subtree : (g : List (Tree ℕ)) → EachTree (Reread ws ds n limit d) g → (i : ℕ) → (get_or (map label_of g) i 0xffff_ffff ≡ 0xffff_ffff → ⊥)
-      → Subtree ws n d (get_or (map label_of g) i 0xffff_ffff)
+  list_subtree : (g : List (Tree ℕ)) → EachTree (Reread ws ds n limit) g → (i : ℕ) → (get_or (map label_of g) i 0xffff_ffff ≡ 0xffff_ffff → ⊥)
+      → Subtree ws n 127 (get_or (map label_of g) i 0xffff_ffff)
   unfolding EachTree
   list_subtree [] h i z = absurd (z refl)
   list_subtree (t ∷ g) h zero z = h.0.subtree
@@ -151,47 +153,47 @@ module _ (root : Branch) (n : ℕ) (ordered : Bool) (h : EmitNode root n) where
       slot_put (c ∷ cs) (suc i) s = slot_put cs i s
 
   pub slot_subtree : (k : ℕ) → k < 8 → (get_or (slot_words ordered h.limit (subtree_of root)) k 0 ≡ 0xffff_ffff → ⊥)
-      → Subtree root.words.now n root.depth (get_or (slot_words ordered h.limit (subtree_of root)) k 0)
+      → Subtree (words_of root) n 127 (get_or (slot_words ordered h.limit (subtree_of root)) k 0)
   slot_subtree k l z =
       let e = word_at k l in
-      rw e (list_subtree root.words.now root.decisions.now n h.limit root.depth (placing ordered) h.room (gather h.limit (subtree_of root) 0)
-      (gather_here root.words.now root.decisions.now n h.limit root.depth root.node h.tree h.holds 0) (child k) (λ q. z (e ∙ q)))
+      rw e (list_subtree (words_of root) (decisions_of root) n h.limit (placing ordered) h.room (gather h.limit (subtree_of root) 0)
+      (gather_here (words_of root) (decisions_of root) n h.limit root.node h.tree h.holds 0) (child k) (λ q. z (e ∙ q)))
 
   -- a word that stands for a node
-  pub slot_below : (k : ℕ) → k < 8 → is_inner root.decisions.now (get_or (slot_words ordered h.limit (subtree_of root)) k 0) ≡ true
-      → (0 < root.depth) × Below root.words.now root.decisions.now n h.limit (root.depth - 1) (placing ordered) (get_or
+  pub slot_below : (k : ℕ) → k < 8 → is_inner (decisions_of root) (get_or (slot_words ordered h.limit (subtree_of root)) k 0) ≡ true
+      → Below (words_of root) (decisions_of root) n h.limit (depth (subtree_of root)) (placing ordered) (get_or
       (slot_words ordered h.limit (subtree_of root)) k 0) (standing k)
   unfolding child EachTree
   slot_below k l e = go (subtree_of root) refl
     where
-      go : (u : Tree ℕ) → subtree_of root ≡ u → (0 < root.depth)
-          × Below root.words.now root.decisions.now n h.limit (root.depth - 1) (placing ordered) (get_or (slot_words ordered h.limit
+      each : EachTree (Reread (words_of root) (decisions_of root) n h.limit) (gather h.limit (subtree_of root) 0)
+      each = gather_here (words_of root) (decisions_of root) n h.limit root.node h.tree h.holds 0
+
+      go : (u : Tree ℕ) → subtree_of root ≡ u
+          → Below (words_of root) (decisions_of root) n h.limit (depth (subtree_of root)) (placing ordered) (get_or (slot_words ordered h.limit
           (subtree_of root)) k 0) (standing k)
       go (leaf x box p) q =
           let g : gather h.limit (subtree_of root) 0
           ≡ leaf x box p ∷ [] = ap (λ (u : Tree ℕ). gather h.limit u 0) q ∙ one_child h.limit x box p 0 in
-          let r : EachTree (Reread root.words.now root.decisions.now n h.limit root.depth) (leaf x box p ∷ []) = rw g at
-          (gather_here root.words.now root.decisions.now n h.limit root.depth root.node h.tree h.holds 0) in
-          absurd (leaf_below root.words.now root.decisions.now n h.limit root.depth (placing ordered) h.room x box p r.0 (child k)
-          (subst (λ (xs : List (Tree ℕ)). is_inner root.decisions.now (get_or (map label_of xs) (child k) 0xffff_ffff) ≡ true) g
-          (subst (λ (y : ℕ). is_inner root.decisions.now y ≡ true) (word_at k l) e)))
+          let r : EachTree (Reread (words_of root) (decisions_of root) n h.limit) (leaf x box p ∷ []) = rw g at each in
+          absurd (leaf_below (words_of root) (decisions_of root) n h.limit (placing ordered) h.room x box p r.0 (child k)
+          (subst (λ (xs : List (Tree ℕ)). is_inner (decisions_of root) (get_or (map label_of xs) (child k) 0xffff_ffff) ≡ true) g
+          (subst (λ (y : ℕ). is_inner (decisions_of root) y ≡ true) (word_at k l) e)))
       go (inner x box a b) q =
-          let r = gather_reread root.words.now root.decisions.now n h.limit root.depth root.node x box a b h.tree h.holds q 0 in (
-            r.0,
-            rw (word_at k l) (list_below root.words.now root.decisions.now n h.limit root.depth (placing ordered) h.room (root.depth - 1)
-                (gather h.limit (subtree_of root) 0)
-                (gather_here root.words.now root.decisions.now n h.limit root.depth root.node h.tree h.holds 0) r.1 (child k)
-                (subst (λ (y : ℕ). is_inner root.decisions.now y ≡ true) (word_at k l) e)),
-          )
+          let f : EachTree (λ t. depth t < depth (subtree_of root)) (gather h.limit (subtree_of root) 0)
+          = rw q (gather_shallower h.limit x box a b 0) in
+          rw (word_at k l) (list_below (words_of root) (decisions_of root) n h.limit (placing ordered) h.room (depth (subtree_of root))
+          (gather h.limit (subtree_of root) 0) each f (child k)
+          (subst (λ (y : ℕ). is_inner (decisions_of root) y ≡ true) (word_at k l) e))
 
   -- a word that does not
-  pub slot_other : (k : ℕ) → k < 8 → is_inner root.decisions.now (get_or (slot_words ordered h.limit (subtree_of root)) k 0) ≡ false
+  pub slot_other : (k : ℕ) → k < 8 → is_inner (decisions_of root) (get_or (slot_words ordered h.limit (subtree_of root)) k 0) ≡ false
       → (b : Aabb) (s : Slots 8)
       → standing k ≡ C.inner_child b s → ⊥
   unfolding Matches cell_of
   slot_other k l e b s q =
       matched (get_or (slot_words ordered h.limit (subtree_of root)) k 0) e
-      (subst (λ (c : C.Content). Matches (cell_of root.words.now root.decisions.now root.depth (get_or (slot_words ordered h.limit
+      (subst (λ (c : C.Content). Matches (cell_of (words_of root) (decisions_of root) (get_or (slot_words ordered h.limit
       (subtree_of root)) k 0)) c)
       (ap (λ (r : Slots 8). content_at r k) rest_all ∙ from_at
       (A.child_of (slots_of ordered (box_of (subtree_of root)) (map box_of (gather h.limit (subtree_of root) 0))))
@@ -208,14 +210,14 @@ module _ (root : Branch) (n : ℕ) (ordered : Bool) (h : EmitNode root n) where
       differ' (as_leaf c u) y z p m = clash cc
       differ' (as_node c) y z p m = clash cc
 
-      matched : (x : ℕ) → is_inner root.decisions.now x ≡ false
-          → Matches (cell_of root.words.now root.decisions.now root.depth x) (C.inner_child b s) → ⊥
+      matched : (x : ℕ) → is_inner (decisions_of root) x ≡ false
+          → Matches (cell_of (words_of root) (decisions_of root) x) (C.inner_child b s) → ⊥
       matched x f m = go (ℕ_discrete x 0xffff_ffff)
         where
           go : Dec (x ≡ 0xffff_ffff) → ⊥
-          go (yes z) = differ (cell_of root.words.now root.decisions.now root.depth x) x (ap (λ (a : Bool). cell_by a (get_or root.decisions.now
-              (x * 7) 0 / 0x4000_0000) (box_at root.words.now x) (tree_at root.words.now root.depth x))
+          go (yes z) = differ (cell_of (words_of root) (decisions_of root) x) x (ap (λ (a : Bool). cell_by a (get_or (decisions_of root)
+              (x * 7) 0 / 0x4000_0000) (box_at (words_of root) x) (subtree_at (words_of root) x))
               (eq-eqb x 0xffff_ffff z)) m
-          go (no z) = differ' (cell_of root.words.now root.decisions.now root.depth x) (box_at root.words.now x) (tree_at root.words.now root.depth x)
-              (ap₂ (λ (a : Bool) (j : ℕ). cell_by a j (box_at root.words.now x) (tree_at root.words.now root.depth x)) (ne_eqb x 0xffff_ffff z)
-              (other_word root.decisions.now x f z)) m
+          go (no z) = differ' (cell_of (words_of root) (decisions_of root) x) (box_at (words_of root) x) (subtree_at (words_of root) x)
+              (ap₂ (λ (a : Bool) (j : ℕ). cell_by a j (box_at (words_of root) x) (subtree_at (words_of root) x)) (ne_eqb x 0xffff_ffff z)
+              (other_word (decisions_of root) x f z)) m

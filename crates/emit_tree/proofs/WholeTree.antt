@@ -10,7 +10,7 @@ use Rattle.lists.specs.Splice.{splice}
 use Rattle.bvh2.specs.Words.{box_at}
 use Rattle.bvh2.proofs.Reading.{box_is}
 use Rattle.children.specs.declared.branch.Branch.{Branch}
-use Rattle.children.specs.Branches.{subtree_of}
+use Rattle.children.specs.Branches.{words_of, subtree_of}
 use Rattle.wide_layout.specs.Layout.{Entry, layout, index_list}
 use Rattle.wide_layout.specs.Conversion.{State, convert_node, write_all, write_positions}
 use Rattle.wide_layout.proofs.Conversion.{converted}
@@ -56,7 +56,7 @@ whole_ready root n ordered m l h =
 pub whole_done : (root : Branch) (indices : List ℕ) (ordered : Bool) (bytes list bytes₁ list₁ : List ℕ) (x : Next)
     (h : EmitTree root (length indices) ordered (length bytes) (length list))
     → ((e : Emits root (length indices) ordered (length bytes) (length list) 0 (record { nodes = 1; positions = 0 })) (l p k : ℕ)
-    → progress_of bytes₁ list₁ x ≡ convert_node (write_entry indices) (box_at root.words.now root.node)
+    → progress_of bytes₁ list₁ x ≡ convert_node (write_entry indices) (box_at (words_of root) root.node)
     (wide_slots_at root ordered e.at.limit) l p k 0 (progress_of bytes list (record { nodes = 1; positions = 0 })))
     → Emitted indices (wide_tree ordered h.at.limit (subtree_of root)) bytes list bytes₁ list₁ x
 unfolding wide_of record_bytes splice block whole_ready
@@ -65,7 +65,7 @@ whole_done root indices ordered bytes list bytes₁ list₁ x h g =
     let t = wide_tree ordered h.at.limit (subtree_of root) in
     let z : Written = record { bytes = bytes; list = list } in
     let c = e ∙ ap (λ (b : _). convert_node (write_entry indices) b (wide_slots_at root ordered h.at.limit) 0 0 0 0
-    (progress_of bytes list (record { nodes = 1; positions = 0 }))) (sym (box_is root.words.now root.depth root.node))
+    (progress_of bytes list (record { nodes = 1; positions = 0 }))) (sym (box_is (words_of root) 127 root.node))
     ∙ converted (write_entry indices) t z in
     let w = both indices (layout t) z in
     record {

@@ -3,7 +3,7 @@
 
 ghost use Rattle.std.specs.Prelude.{◌≡◌, ℕ, ◌+◌, ◌*◌, ◌<◌, ◌≤◌, length, map, get_or, take};
 ghost use Rattle.bvh2.specs.Words.{box_at};
-ghost use Rattle.children.specs.Branches.{subtree_of, DecidedBy};
+ghost use Rattle.children.specs.Branches.{words_of, subtree_of, DecidedBy};
 ghost use Rattle.order.specs.Lists.{padded};
 ghost use Rattle.wide_layout.specs.Conversion.{convert_node};
 ghost use Rattle.wide_tree.specs.Ordered.{wide_tree};
@@ -41,8 +41,8 @@ fn child_boxes(words: &[u32], parent: Aabb, found: [u32; 8], count: usize) -> [A
     boxes
 }
 
-// The children of the wide node that a branch's node becomes, by slots: all ones in a slot without a child. Without ordering they stay as they were
-// gathered: a `bool` says so, as in the requirements' call.
+// The children of the wide node that a branch's node becomes, by slots: all ones in a slot without a child, since each slot has a word. Without
+// ordering they stay as they were gathered: a `bool` says so, here and below, as in the requirements' call.
 pub fn slots_of(branch: Branch<'_>, ordered: bool) -> [u32; 8]
     ensures { (limit : ℕ) → DecidedBy limit branch.entry → result ≡ slot_words ordered limit (subtree_of branch.entry) }
 {
@@ -53,7 +53,7 @@ pub fn slots_of(branch: Branch<'_>, ordered: bool) -> [u32; 8]
         return found;
     }
     let parent = branch.node_box();
-    let boxes = child_boxes(branch.words, parent, found, count);
+    let boxes = child_boxes(branch.tree.words, parent, found, count);
     order::order_children(parent, boxes, found, count)
 }
 
@@ -70,7 +70,7 @@ fn emit_node(
 ) -> Next
     requires { Emits branch (length indices.now) ordered (length bytes.old) (length out.old) number next }
     ensures { (h : Emits branch.entry (length indices.now) ordered (length bytes.old) (length out.old) number next) (l p k : ℕ)
-        → progress_of bytes.new out.new result ≡ convert_node (write_entry indices.now) (box_at branch.entry.words.now branch.entry.node)
+        → progress_of bytes.new out.new result ≡ convert_node (write_entry indices.now) (box_at (words_of branch.entry) branch.entry.node)
         (wide_slots_at branch.entry ordered h.at.limit) l p k number (progress_of bytes.old out.old next) }
 {
     let slots = slots_of(branch, ordered);
@@ -83,13 +83,11 @@ fn emit_node(
     // counted here, since inner children alone have a number: a filter and a zip would be no plainer
     let mut child = next.nodes;
     for &w in &slots {
-        if is_inner(branch.decisions, w) {
+        if is_inner(branch.tree.decisions, w) {
             // field by field: a struct with ghost fields takes no `..base`
             let below = Branch {
-                words: branch.words,
-                decisions: branch.decisions,
+                tree: branch.tree,
                 node: w as usize,
-                depth: branch.depth - 1,
             };
             free = emit_node(below, indices, bytes, out, child, free, ordered);
             child += 1;

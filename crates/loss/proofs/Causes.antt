@@ -17,7 +17,7 @@ use Rattle.lists.proofs.Tells.{both_pass}
 use Rattle.walk.proofs.Cases.{and-false}
 use Rattle.loss.specs.Loss.{losses_fit, loss_cause, walks_by, refused_report, Report, report_conditions, walk_conditions, totals_in, report_by}
 use Rattle.loss.specs.Loss.{report_of}
-use Rattle.loss.specs.Charged.{Entered}
+use Rattle.loss.specs.Charged.{RaysEntered}
 
 -- losses of which cause 12 does not hold fit
 pub cause_fits : (panes : ℕ) (losses : List ℕ) → loss_cause panes losses ≡ 0 → losses_fit panes losses ≡ true
@@ -89,7 +89,7 @@ module _ (bytes indices : List ℕ) (panes : ℕ) (losses : List ℕ) (rays : Li
     pub whole : length rays % 8 ≡ 0
     pub sizes : Fit (length bytes) (length indices)
     pub fitting : losses_fit panes losses ≡ true
-    pub entered : Entered rays
+    pub entered : RaysEntered rays
     pub ray_room : ray_count rays ≤ rayRoom
     pub pane_room : panes ≤ paneRoom
 

@@ -24,18 +24,18 @@ use Rattle.query.specs.Met.{positions_met, tests_made}
 use Rattle.query.specs.Result.{Result}
 use Rattle.loss.specs.declared.RayLoss.{RayLoss}
 use Rattle.loss.specs.Loss.{LossAnswer, summed, refused, loss_at, is_summed, loss_walked, loss_result, walks_by, walk_conditions}
-use Rattle.loss.specs.Charged.{Spare, Ready, Entered}
+use Rattle.loss.specs.Charged.{Spare, RayReady, RaysEntered}
 use Rattle.loss.proofs.Faults.{faultless_sums, sums_faultless, fault_ten}
 
 module _ (bytes indices : List ℕ) (panes : ℕ) (losses : List ℕ) (rays : List Float) where
-  module _ (E : Entered rays) (i : ℕ) (there : i < ray_count rays) where
+  module _ (E : RaysEntered rays) (i : ℕ) (there : i < ray_count rays) where
     unforged : forged_ray (walk_ray (ray_in rays i)) ≡ false
     unfolding ray_in rays_accepted
     unforged =
         begun_accepted _ _ (get_or rays (i * 8 + 6) nan) (get_or rays (i * 8 + 7) nan)
         (all_at (λ k. accepted_ray (ray_in rays k)) (ray_count rays) E.accepted i there)
 
-    pub ray_ready : (totals : List ℕ) → Spare panes totals → Ready panes (ray_in rays i) totals
+    pub ray_ready : (totals : List ℕ) → Spare panes totals → RayReady panes (ray_in rays i) totals
     ray_ready totals h = record { accepted = unforged; spare = h }
 
   -- what a ray's walk found tells whether it had a fault

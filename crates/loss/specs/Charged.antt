@@ -31,7 +31,7 @@ abbrev pub Spare : (panes : ℕ) → List ℕ → Type 0
 Spare panes totals = (k : ℕ) → k < panes → get_or totals k 0 + 2000000000000 ≤ 18446744073709551615
 
 -- nothing of the ray or of the totals keeps the ray from its walk
-pub record Ready (panes : ℕ) (ray : Ray) (totals : List ℕ) : Type 0 where
+pub record RayReady (panes : ℕ) (ray : Ray) (totals : List ℕ) : Type 0 where
   pub accepted : forged_ray (walk_ray ray) ≡ false
   pub spare : Spare panes totals
 
@@ -42,7 +42,7 @@ Charges bytes indices losses r (Ok found) before after =
 Charges bytes indices losses r (Err refusal) before after = Unit {0}
 
 -- nothing of its rays keeps a report from its walks
-pub record Entered (rays : List Float) : Type 0 where
+pub record RaysEntered (rays : List Float) : Type 0 where
   pub few : ray_count rays ≤ 65536
   pub accepted : rays_accepted rays ≡ true
 

@@ -14,7 +14,7 @@ ghost use Rattle.record_shape.specs.Record.{node_count};
 ghost use Rattle.walk_record.specs.Record.{FieldsFit};
 ghost use Rattle.loss.specs.Loss.{losses_fit, loss_cause, loss_at, is_summed, loss_walked, loss_of, loss_result};
 ghost use Rattle.loss.specs.Loss.{walks_by, report_conditions, walk_conditions, totalled, totals_in, report_of, totals_answer};
-ghost use Rattle.loss.specs.Charged.{charged, PaneFound, Ready, Charges, Entered};
+ghost use Rattle.loss.specs.Charged.{charged, PaneFound, RayReady, Charges, RaysEntered};
 
 use advance::{Answer, CwBvh, Walk};
 use causes::Refusal;
@@ -67,7 +67,8 @@ fn charge(totals: &mut [u64], k: usize, taken: u64)
 }
 
 // What rays lose light to: a record that its index words fit, and a loss for each of so many panes. The totals of rays and of panes stay two slices,
-// as callers lend them: a struct of two `&mut` would say in each contract that it still holds the same two; and so Ready, which is of the totals too.
+// as callers lend them: a struct of two `&mut` would say in each contract that it still holds the same two. RayReady stays a clause for that reason,
+// since it is of the totals too.
 #[derive(Clone, Copy)]
 struct Scene<'a> {
     bytes: &'a [u8],
@@ -82,7 +83,7 @@ struct Scene<'a> {
 // The loss of a ray over a record with nodes, where nothing refuses it on entry. Each pane's loss is added to its total too, where it has one.
 // Each query has the loop over a walk written out: miss leaves both loops by a labelled break, as the requirements ask, and a closure could not.
 fn walk_losses(scene: Scene, aim: Aim, totals: &mut [u64]) -> Result<RayLoss, Refusal>
-    requires { (0 < node_count scene.bytes.now) × (aim.octant ≡ octant_of aim.ray.direction) × Ready scene.panes aim.ray totals.old }
+    requires { (0 < node_count scene.bytes.now) × (aim.octant ≡ octant_of aim.ray.direction) × RayReady scene.panes aim.ray totals.old }
     ensures result_value { loss_result result ≡ loss_walked scene.entry.bytes.now scene.entry.indices.now scene.entry.panes scene.entry.losses.now
         aim.ray }
     ensures charges { Charges scene.entry.bytes.now scene.entry.indices.now scene.entry.losses.now aim.ray result totals.old totals.new }
@@ -137,7 +138,7 @@ fn walk_losses(scene: Scene, aim: Aim, totals: &mut [u64]) -> Result<RayLoss, Re
 // The loss of a ray where nothing refuses it on entry, over a record without nodes too.
 #[tactic(auto, using(ray::proofs::Bounds::octant_lt))]
 fn ray_loss(scene: Scene, ray: Ray, totals: &mut [u64]) -> Result<RayLoss, Refusal>
-    requires { Ready scene.panes ray totals.old }
+    requires { RayReady scene.panes ray totals.old }
     ensures result_value { loss_result result ≡ loss_walked scene.entry.bytes.now scene.entry.indices.now scene.entry.panes scene.entry.losses.now
         ray }
     ensures charges { Charges scene.entry.bytes.now scene.entry.indices.now scene.entry.losses.now ray result totals.old totals.new }
@@ -219,7 +220,7 @@ fn check_report(
 
 // Looks for a fault in the walk of each ray.
 fn check_walks(scene: Scene, rays: &[f32]) -> Result<(), Refusal>
-    requires { Entered rays.now }
+    requires { RaysEntered rays.now }
     ensures { cause_in result ≡ first_cause (walk_conditions scene.entry.bytes.now scene.entry.indices.now scene.entry.panes
         scene.entry.losses.now rays.now) }
 {
@@ -238,7 +239,7 @@ fn total_ray(
     ray_totals: &mut [u64],
     pane_totals: &mut [u64],
 ) -> u32
-    requires { Ready scene.panes ray pane_totals.old
+    requires { RayReady scene.panes ray pane_totals.old
         × (is_summed (loss_walked scene.bytes.now scene.indices.now scene.panes scene.losses.now ray).answer ≡ true) × (i < length ray_totals.old) }
     ensures value { result ≡ tests_made scene.entry.bytes.now (length scene.entry.indices.now) ray }
     ensures ray_totals_after { ray_totals.new ≡ set ray_totals.old i (sum_over (loss_at scene.entry.indices.now scene.entry.losses.now)
@@ -253,7 +254,7 @@ fn total_ray(
 
 // Writes the totals of rays whose walks have no fault; the node tests of all.
 fn total(scene: Scene, rays: &[f32], ray_totals: &mut [u64], pane_totals: &mut [u64]) -> u64
-    requires entered { Entered rays.now }
+    requires entered { RaysEntered rays.now }
     requires rays_in_bounds { (ray_count rays.now ≤ length ray_totals.old) × (scene.panes ≤ length pane_totals.old)
         × (all_below (walks_by scene.bytes.now scene.indices.now scene.panes scene.losses.now rays.now) (ray_count rays.now) ≡ true) }
     ensures { record { answer = totalled result; ray_totals = ray_totals.new; pane_totals = pane_totals.new }

@@ -77,13 +77,18 @@ pub extern "C" fn measured_steps(record: &[u8], n: usize, ray: &[f32]) -> u64 {
     }
 }
 
-// How many nodes of a record of n positions meet the node rule.
+// How many nodes of a record of n positions meet the node rule. Counted in a loop: a filter and its count take a quarter longer, and that is not
+// the rule's time.
 #[unsafe(no_mangle)]
 pub extern "C" fn measured_rules(record: &[u8], n: usize) -> usize {
     let m = record.len() / node::BYTES;
-    (0..m)
-        .filter(|i| node_rule::node_rule(record, *i, m, n))
-        .count()
+    let mut met = 0;
+    for i in 0..m {
+        if node_rule::node_rule(record, i, m, n) {
+            met += 1;
+        }
+    }
+    met
 }
 
 // The box of node v, or the origin where there is no such node.

@@ -42,13 +42,16 @@ places : (k : ℕ) → k < 8 → field 8 k 0x8040_2010_0804_0201 ≡ 2 ^ k
 unfolding field
 places = equal (λ k. field 8 k 0x8040_2010_0804_0201) (λ k. 2 ^ k) 8 tt
 
-bit_rule : (i k : ℕ) → i < 256 → k < 8 → bit_or (bit_and (bit_and i (2 ^ k)) 127 + 127) (bit_and i (2 ^ k)) / 128 ≡ i / 2 ^ k % 2
-bit_rule = equal₂ (λ i k. bit_or (bit_and (bit_and i (2 ^ k)) 127 + 127) (bit_and i (2 ^ k)) / 128) (λ i k. i / 2 ^ k % 2) 256 8 tt
+bit_rule : (i k : ℕ) → i < 256 → k < 8 → (bit_and i (2 ^ k) + 127) / 128 ≡ i / 2 ^ k % 2
+bit_rule = equal₂ (λ i k. (bit_and i (2 ^ k) + 127) / 128) (λ i k. i / 2 ^ k % 2) 256 8 tt
 
-pub spread_is : (i x a z : ℕ) → i < 256 → x ≡ bit_and (i * 0x0101_0101_0101_0101) 0x8040_2010_0804_0201 → a ≡ bit_and x 0x7f7f_7f7f_7f7f_7f7f
-    → z ≡ bit_and (bit_or (a + 0x7f7f_7f7f_7f7f_7f7f) x / 2 ^ 7) 0x0101_0101_0101_0101 → z ≤ 0x0101_0101_0101_0101
+place_most : (k : ℕ) → k < 8 → 2 ^ k ≤ 128
+place_most k l = let e = equal (λ k. 2 ^ k - 128) (λ k. 0) 8 tt k l in omega arith
+
+pub spread_is : (i x z : ℕ) → i < 256 → x ≡ bit_and (i * 0x0101_0101_0101_0101) 0x8040_2010_0804_0201
+    → z ≡ bit_and ((x + 0x7f7f_7f7f_7f7f_7f7f) / 2 ^ 7) 0x0101_0101_0101_0101 → z ≤ 0x0101_0101_0101_0101
     → Bytes (z * 255) (λ k. i / 2 ^ k % 2 * 255)
-spread_is i x a z hi ex ea ez hz =
+spread_is i x z hi ex ez hz =
     record {
       byte = λ k l. field-mul 8 255 k z (λ j m. let e = zk j (omega arith) in omega arith) ∙ ap (λ (y : ℕ). y * 255) (zk k l);
       fits = omega arith;
@@ -57,22 +60,16 @@ spread_is i x a z hi ex ea ez hz =
     xk : (k : ℕ) → k < 8 → field 8 k x ≡ bit_and i (2 ^ k)
     xk k l = ap (field 8 k) ex ∙ field_and 8 k (i * 0x0101_0101_0101_0101) 0x8040_2010_0804_0201 ∙ ap₂ bit_and (repeats i k hi l) (places k l)
 
-    ak : (k : ℕ) → k < 8 → field 8 k a ≡ bit_and (bit_and i (2 ^ k)) 127
-    ak k l = ap (field 8 k) ea ∙ field_and 8 k x 0x7f7f_7f7f_7f7f_7f7f ∙ ap₂ bit_and (xk k l) (repeats 127 k (lit< tt) l)
-
-    sk : (k : ℕ) → k < 8 → field 8 k (a + 0x7f7f_7f7f_7f7f_7f7f) ≡ bit_and (bit_and i (2 ^ k)) 127 + 127
-    sk k l =
-        field-add k a 0x7f7f_7f7f_7f7f_7f7f
-        (λ j m. let e = ak j (omega arith) in let f = repeats 127 j (lit< tt) (omega arith) in let g = and_le_r (bit_and i (2 ^ j)) 127 in
-        omega arith)
-        ∙ ap₂ (λ (y v : ℕ). y + v) (ak k l) (repeats 127 k (lit< tt) l)
-
-    yk : (k : ℕ) → k < 8 → field 8 k (bit_or (a + 0x7f7f_7f7f_7f7f_7f7f) x) ≡ bit_or (bit_and (bit_and i (2 ^ k)) 127 + 127) (bit_and i (2 ^ k))
-    yk k l = field_or 8 k (a + 0x7f7f_7f7f_7f7f_7f7f) x ∙ ap₂ bit_or (sk k l) (xk k l)
+    yk : (k : ℕ) → k < 8 → field 8 k (x + 0x7f7f_7f7f_7f7f_7f7f) ≡ bit_and i (2 ^ k) + 127
+    yk k l =
+        field-add k x 0x7f7f_7f7f_7f7f_7f7f
+        (λ j m. let e = xk j (omega arith) in let f = repeats 127 j (lit< tt) (omega arith) in let g = and_le_r i (2 ^ j) in
+        let h = place_most j (omega arith) in omega arith)
+        ∙ ap₂ (λ (y v : ℕ). y + v) (xk k l) (repeats 127 k (lit< tt) l)
 
     zk : (k : ℕ) → k < 8 → field 8 k z ≡ i / 2 ^ k % 2
     zk k l =
-        let y : ℕ = bit_or (a + 0x7f7f_7f7f_7f7f_7f7f) x in
+        let y : ℕ = x + 0x7f7f_7f7f_7f7f_7f7f in
         ap (field 8 k) ez ∙ field_and 8 k (y / 2 ^ 7) 0x0101_0101_0101_0101
         ∙ ap (bit_and (field 8 k (y / 2 ^ 7))) (repeats 1 k (lit< tt) l)
         ∙ and_mask (field 8 k (y / 2 ^ 7)) 1

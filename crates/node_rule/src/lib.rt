@@ -67,7 +67,7 @@ fn common(x: u64, m: u64) -> u64
     x & m
 }
 
-// 0xff in each byte whose bit of imask is set, 0 in the others.
+// 0xff in each byte whose bit of imask is set, 0 in the others: a byte of x is 0 or a power of two, so that the sums stay in their bytes.
 fn spread(imask: u8) -> u64
     ensures { Bytes result (λ k. inner_bit imask k * 255) }
 {
@@ -75,7 +75,7 @@ fn spread(imask: u8) -> u64
         (imask as u64) * 0x0101_0101_0101_0101,
         0x8040_2010_0804_0201,
     );
-    let y = (common(x, 0x7f7f_7f7f_7f7f_7f7f) + 0x7f7f_7f7f_7f7f_7f7f) | x;
+    let y = x + 0x7f7f_7f7f_7f7f_7f7f;
     common(y >> 7, 0x0101_0101_0101_0101) * 0xff
 }
 

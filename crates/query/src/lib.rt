@@ -53,6 +53,8 @@ impl<'a> Query<'a> {
 
     // Where the walk of a query begins, for the ray that is asked for; none over a record without nodes. No cause of the query's own stands between
     // 2 and 9.
+    // Compiled into each query, since what it gives is large.
+    #[inline(always)]
     #[tactic(auto, using(ray::proofs::Bounds::octant_lt))]
     pub fn begin(
         fits: bool,

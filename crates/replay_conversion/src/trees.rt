@@ -68,7 +68,7 @@ fn same_slices(
         && written_words(behind(bytes, 20 * nodes), list, n)
 }
 
-// Whether a conversion with these slices ends as an accepted case says.
+// Whether a conversion with these slices, lent to it one by one, ends as an accepted case says.
 fn ends_converted(
     case: &[u8],
     outputs: &[u8],
@@ -150,7 +150,8 @@ fn cleared(number: u32, size: usize) -> usize {
     if number < 5 { 0 } else { size }
 }
 
-// Whether a conversion with these slices ends as a refused case says: both outputs as they were lent, and of the tables all that is not zeroed.
+// Whether a conversion with these slices, lent to it one by one, ends as a refused case says: both outputs as they were lent, and of the tables all
+// that is not zeroed.
 fn ends_refused(
     case: &[u8],
     words: &[u32],

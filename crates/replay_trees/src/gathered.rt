@@ -5,7 +5,7 @@ use crate::trees::{MOST_WORDS, accepted, node_count};
 use aabb::Aabb;
 use bvh2::Link;
 use bvh2_check::AcceptedBvh2;
-use children::Branch;
+use children::{Branch, Bvh2Slices};
 use stored::{behind, copy_words, word};
 
 // A node number as the byte that stands for it in a case, 255 for none; a greater number has no byte.
@@ -64,7 +64,7 @@ fn same_children(case: &[u8], at: usize, branch: Branch<'_>) -> bool
     let parent = branch.node_box();
     count == word(case, at) as usize
         && same_numbers(case, at + 1, found)
-        && same_slots(case, at + 3, branch.words, parent, found, count)
+        && same_slots(case, at + 3, branch.tree.words, parent, found, count)
 }
 
 // The same for a branch's node and every node below it, five words for each from word `from` on.
@@ -91,11 +91,13 @@ fn same_tree(case: &[u8], from: usize, accepted: AcceptedBvh2, limit: u32) -> bo
     let mut decisions = [0xffff_ffffu32; MOST_WORDS];
     let mut costs = [1f32; MOST_WORDS];
     cost::calculate_cost(words, 0, 127, limit, &mut decisions, &mut costs);
-    let root = Branch {
+    let tree = Bvh2Slices {
         words,
         decisions: &decisions,
+    };
+    let root = Branch {
+        tree: &tree,
         node: 0,
-        depth: 127,
     };
     same_below(case, from, root)
 }

@@ -3,7 +3,7 @@ use mathlib.Core.Path.{◌≡◌, sym, ap, ap₂, ◌∙◌}
 use mathlib.Core.Bool.{Bool}
 use mathlib.Core.List.{List}
 use mathlib.Core.Logic.{∥∥₁_elim}
-use Prim.Native.Nat.{ℕ, ◌+◌, ◌*◌, ◌-◌, ◌/◌, ◌%◌, ◌≤◌, max}
+use Prim.Native.Nat.{ℕ, ◌+◌, ◌*◌, ◌/◌, ◌%◌, ◌≤◌, max}
 use native.Mathlib.Omega.{arith}
 use lib.ListN.{get_or}
 use Rattle.std.proofs.Props.{props}
@@ -12,10 +12,9 @@ use Rattle.bvh2.specs.Tree.{Tree, leaf, inner}
 use Rattle.bvh2.specs.declared.Link.{Link as Read}
 use Rattle.bvh2.specs.declared.Link.TheVariants as V
 use Rattle.bvh2.specs.Said.{said}
-use Rattle.bvh2.specs.Words.{children, position, link_at, box_at, tree_at}
+use Rattle.bvh2.specs.Words.{children, position, link_at, box_at}
 use Rattle.bvh2.proofs.Decoded.{subtree_leaves}
 use Rattle.bvh2.proofs.Reading.{tree_leaf}
-use Rattle.bvh2.proofs.Subtree.{inner_link}
 use Rattle.cost.specs.declared.Kind.{Kind as Told}
 use Rattle.cost.specs.declared.Kind.TheVariants as K
 use Rattle.cost.specs.Said.{kind_said, kind_in}
@@ -24,9 +23,10 @@ use Rattle.cost.specs.Rows.{RowsHold}
 use Rattle.cost.proofs.Splits.{leaf_distribute, internal_leaf, leaf_kind}
 use Rattle.cost.proofs.Steps.{no_children}
 use Rattle.children.specs.declared.branch.Branch.{Branch}
-use Rattle.children.specs.Branches.{subtree_of, DecidedBy, Below}
-use Rattle.children.specs.Tabled.{Tabled}
-use Rattle.children.proofs.Branches.{of_below, word_kind}
+use Rattle.children.specs.Branches.{words_of, decisions_of, subtree_of, DecidedBy, BranchAt}
+use Rattle.children.specs.Tabled.{subtree_at, Tabled}
+use Rattle.children.proofs.Deeper.{fork}
+use Rattle.children.proofs.Branches.{of_branch, word_kind}
 use Rattle.children.proofs.Steps.{says, told}
 use Rattle.wide_layout.specs.Layout.{level}
 use Rattle.wide_tree.specs.Ordered.{placing, wide_tree}
@@ -57,26 +57,26 @@ unfolding levels
 levels_leaf limit t v box p i q = rw q
 
 -- the levels of a node that is opened, from what its two children add
-pub joined : {b L R : Branch} {f l r i x y : ℕ} → i ≤ 6 → children f ≡ link_at b.words.now b.node
-    → l ≡ get_or b.decisions.now (b.node * 7 + i) 0 / 256 % 256 → r ≡ get_or b.decisions.now (b.node * 7 + i) 0 % 256
-    → Below b f L → Adds l x L.decisions.now (subtree_of L) → Below b (f + 1) R → Adds r y R.decisions.now (subtree_of R)
+pub joined : {b L R : Branch} {f l r i x y : ℕ} → i ≤ 6 → children f ≡ link_at (words_of b) b.node
+    → l ≡ get_or (decisions_of b) (b.node * 7 + i) 0 / 256 % 256 → r ≡ get_or (decisions_of b) (b.node * 7 + i) 0 % 256
+    → BranchAt b f L → Adds l x (decisions_of L) (subtree_of L) → BranchAt b (f + 1) R → Adds r y (decisions_of R) (subtree_of R)
     → (limit : ℕ) → DecidedBy limit b → max x y ≡ levels limit (subtree_of b) i
 joined {b} {f = f} {l} {r} {i} {x} {y} u q c d m g n k limit z = ∥∥₁_elim b.tabled (hlevel props) (λ h.
-    let ws = b.words.now in
-    let T = tree_at ws (b.depth - 1) f in
-    let U = tree_at ws (b.depth - 1) (f + 1) in
-    let p = inner_link ws h.n b.depth b.node f h.tree (sym q) in
+    let ws = words_of b in
+    let T = subtree_at ws f in
+    let U = subtree_at ws (f + 1) in
+    let p = fork ws h.n b.node f h.tree (sym q) in
     let s = says h limit z i u in
-    let w = rows_below limit b.decisions.now (subtree_of b) b.node (box_at ws b.node) T U p.tree z in
-    ap₂ (λ (m n : ℕ). max m n) (of_below m (Adds l x) g limit w.0 ∙ ap (added limit T) (c ∙ s.left))
-    (of_below n (Adds r y) k limit w.1 ∙ ap (added limit U) (d ∙ s.right))
+    let w = rows_below limit (decisions_of b) (subtree_of b) b.node (box_at ws b.node) T U p.tree z in
+    ap₂ (λ (m n : ℕ). max m n) (of_branch m (Adds l x) g limit w.0 ∙ ap (added limit T) (c ∙ s.left))
+    (of_branch n (Adds r y) k limit w.1 ∙ ap (added limit U) (d ∙ s.right))
     ∙ sym (levels_inner limit (subtree_of b) b.node (box_at ws b.node) T U i p.tree))
 
 -- a node whose link is none to children is a leaf child
-childless_leaf : {ws ds : List ℕ} {e v : ℕ} {l : Read} → Tabled ws ds e v → (i : ℕ) → i ≤ 6 → said l ≡ link_at ws v
+childless_leaf : {ws ds : List ℕ} {v : ℕ} {l : Read} → Tabled ws ds v → (i : ℕ) → i ≤ 6 → said l ≡ link_at ws v
     → ((f : ℕ) → l ≡ V.Children f → ⊥) → kind_in (get_or ds (v * 7 + i) 0) ≡ LEAF
-childless_leaf {ws} {ds} {e} {v} h i u q k =
-    told h h.limit h.holds i u ∙ leaf_said (tree_at ws e v) (box_at ws v) _ (no_children h.tree q k).1.tree
+childless_leaf {ws} {ds} {v} h i u q k =
+    told h h.limit h.holds i u ∙ leaf_said (subtree_at ws v) (box_at ws v) _ (no_children h.tree q k).1.tree
   where
     leaf_said : (t : Tree ℕ) (box : Aabb) (p : ℕ) → t ≡ leaf v box p → (table h.limit t i).kind ≡ LEAF
     leaf_said t box p q = rw q (leaf_kind h.limit v box p i)
@@ -93,36 +93,36 @@ own_inner q z = rw (q, z) (record { few = omega arith; no_leaf = internal_leaf; 
 pub own_opened : {kind : Told} {n : ℕ} → kind ≡ K.Distribute → n ≡ 0 → Own kind n
 own_opened q z = rw (q, z) (record { few = omega arith; no_leaf = λ y. leaf_distribute (sym y); adds = λ m. omega arith })
 
-table_kind : (b : Branch) {i : ℕ} (kind : Told) → i ≤ 6 → kind_said kind ≡ kind_in (get_or b.decisions.now (b.node * 7 + i) 0)
+table_kind : (b : Branch) {i : ℕ} (kind : Told) → i ≤ 6 → kind_said kind ≡ kind_in (get_or (decisions_of b) (b.node * 7 + i) 0)
     → (limit : ℕ) → DecidedBy limit b → kind_said kind ≡ (table limit (subtree_of b) i).kind
 table_kind b {i} kind u read limit k = read ∙ word_kind b limit k i u
 
-module _ (b : Branch) {i : ℕ} {kind : Told} (u : i ≤ 6) (read : kind_said kind ≡ kind_in (get_or b.decisions.now (b.node * 7 + i) 0)) where
-  pub as_leaf_lem : kind ≡ K.Leaf → Adds i 0 b.decisions.now (subtree_of b)
+module _ (b : Branch) {i : ℕ} {kind : Told} (u : i ≤ 6) (read : kind_said kind ≡ kind_in (get_or (decisions_of b) (b.node * 7 + i) 0)) where
+  pub as_leaf_lem : kind ≡ K.Leaf → Adds i 0 (decisions_of b) (subtree_of b)
   as_leaf_lem z limit k = ap (λ (x : Kind). added_as x (levels limit (subtree_of b) i)) (sym (ap kind_said z) ∙ table_kind b kind u read limit k)
 
-  pub has_children : {n : ℕ} {l : Read} → Own kind n → said l ≡ link_at b.words.now b.node → ((f : ℕ) → l ≡ V.Children f → ⊥) → ⊥
+  pub has_children : {n : ℕ} {l : Read} → Own kind n → said l ≡ link_at (words_of b) b.node → ((f : ℕ) → l ≡ V.Children f → ⊥) → ⊥
   has_children o q k = ∥∥₁_elim b.tabled (hlevel props) (λ h. o.no_leaf (read ∙ childless_leaf h i u q k))
 
   pub as_own : {n m : ℕ} → Own kind n → ((limit : ℕ) → DecidedBy limit b → m ≡ levels limit (subtree_of b) i)
-      → Adds i (m + n) b.decisions.now (subtree_of b)
+      → Adds i (m + n) (decisions_of b) (subtree_of b)
   as_own {n} o d limit k =
       let x = levels limit (subtree_of b) i in
       ap (λ (z : ℕ). z + n) (d limit k) ∙ o.adds x ∙ ap (λ (z : Kind). added_as z x) (table_kind b kind u read limit k)
 
 -- ---- the root, opened whatever its decision says
-root_fine : {ws ds : List ℕ} {e v : ℕ} → Tabled ws ds e v → Fine (tree_at ws e v)
+root_fine : {ws ds : List ℕ} {v : ℕ} → Tabled ws ds v → Fine (subtree_at ws v)
 root_fine h = record { boxes = h.tree.boxes; few = omega (arith, subtree_leaves h.tree, h.tree.few) }
 
 root_level : (b : Branch) (limit : ℕ) (ordered : Bool) → level (wide_tree ordered limit (subtree_of b)) ≡ levels limit (subtree_of b) 0
 root_level b limit ordered = ∥∥₁_elim b.tabled (hlevel props)
     (λ h. wide_level (placing ordered) limit (places ordered) (subtree_of b) (root_fine h))
 
-pub root_leaf : (b : Branch) {p : ℕ} → position p ≡ link_at b.words.now b.node
+pub root_leaf : (b : Branch) {p : ℕ} → position p ≡ link_at (words_of b) b.node
     → (limit : ℕ) (ordered : Bool) → 0 ≡ level (wide_tree ordered limit (subtree_of b))
 root_leaf b {p} q limit ordered =
     sym (root_level b limit ordered
-    ∙ levels_leaf limit (subtree_of b) b.node (box_at b.words.now b.node) p 0 (tree_leaf b.words.now b.depth b.node p (sym q)))
+    ∙ levels_leaf limit (subtree_of b) b.node (box_at (words_of b) b.node) p 0 (tree_leaf (words_of b) 127 b.node p (sym q)))
 
 pub root_joined : (b : Branch) {m : ℕ} → ((limit : ℕ) → DecidedBy limit b → m ≡ levels limit (subtree_of b) 0)
     → (limit : ℕ) (ordered : Bool) → DecidedBy limit b → m ≡ level (wide_tree ordered limit (subtree_of b))

@@ -2,6 +2,7 @@
 #![tactic(auto)]
 
 ghost use Rattle.std.specs.Prelude.{◌≡◌, Bool, ℕ, ◌≤◌};
+ghost use Rattle.bvh2.specs.Tree.{depth};
 ghost use Rattle.children.specs.Branches.{subtree_of, DecidedBy};
 ghost use Rattle.wide_layout.specs.Layout.{level};
 ghost use Rattle.wide_tree.specs.Ordered.{wide_tree};
@@ -15,7 +16,7 @@ use cost::Kind;
 // where it is an inner child.
 fn added_levels(branch: Branch<'_>, entry: usize) -> u32
     requires { entry ≤ 6 }
-    ensures upper_bound { result ≤ branch.entry.depth }
+    ensures upper_bound { result ≤ depth (subtree_of branch.entry) }
     ensures by_index { (limit : ℕ) → DecidedBy limit branch.entry → result ≡ added limit (subtree_of branch.entry) entry }
 {
     let decision = branch.decision(entry);

@@ -1,7 +1,6 @@
-use Rattle.std.proofs.Common.{◌≡◌, true, List, ℕ, length, sym, ap, ◌∙◌, subst, rules}
+use Rattle.std.proofs.Common.{◌≡◌, true, List, ℕ, length, sym, ap, ◌∙◌, rules}
 use Rattle.std.specs.Prelude as P
 use Rattle.std.specs.Prelude.{Option, Some, None}
-use Rattle.causes.specs.declared.Refusal.{Refusal}
 use Rattle.causes.specs.Refusal.{cause_number, cause_in}
 use Rattle.causes.proofs.Refusals.{some_number, holds_of}
 use Rattle.ray.specs.declared.Ray.{Ray}

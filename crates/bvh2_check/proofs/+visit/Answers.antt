@@ -14,7 +14,7 @@ visit-requires t c =
 pub overflow_add-first : goal.overflow_add-first
 overflow_add-first t c =
     let g = at_fork c.args.depth _ c.requires c.in-Children.ensures c.if-depth-eq0.false in
-    let few = c.args.tree.sized.few in
+    let few = c.args.tree.now.sized.few in
     omega (arith, g.right.node)
 
 pub visit-requires-then-visit : goal.visit-requires-then-visit
@@ -25,13 +25,13 @@ visit-requires-then-visit t c =
 pub overflow_add-place : goal.overflow_add-place
 overflow_add-place t c =
     let g = at_leaf c.args.depth _ c.requires c.in-Position.ensures in
-    let few = c.args.tree.sized.few in
+    let few = c.args.tree.now.sized.few in
     omega (arith, g.held)
 
 pub offset_bounds-marks-place : goal.offset_bounds-marks-place
 offset_bounds-marks-place t c =
     let g = at_leaf c.args.depth _ c.requires c.in-Position.ensures in
-    let few = c.args.tree.sized.few in
+    let few = c.args.tree.now.sized.few in
     omega (arith, g.held)
 
 pub bounds-marks-place : goal.bounds-marks-place
@@ -47,7 +47,7 @@ returns-then-met t c =
 pub offset_bounds-marks-place-in-Position : goal.offset_bounds-marks-place-in-Position
 offset_bounds-marks-place-in-Position t c =
     let g = at_leaf c.args.depth _ c.requires c.in-Position.ensures in
-    let few = c.args.tree.sized.few in
+    let few = c.args.tree.now.sized.few in
     omega (arith, g.held)
 
 pub bounds-marks-place-in-Position : goal.bounds-marks-place-in-Position

@@ -9,7 +9,7 @@ use Rattle.cost.specs.Table.{word_of}
 use Rattle.cost.specs.Rows.{RowsHold}
 use Rattle.children.specs.Gather.{part}
 use Rattle.children.specs.Tabled.{Gathered}
-use Rattle.children.proofs.Branches.{here, open_at, place_left, divide_at, room_opened, room_below, of_below}
+use Rattle.children.proofs.Branches.{here, open_at, place_left, divide_at, room_opened, left_shallower, right_shallower, branch_room, of_branch}
 use Rattle.children.proofs.Steps.{stay, divides, contributes, not_childless, down}
 use Rattle.children.proofs.+open_child_open_node.Goals as goal
 
@@ -61,10 +61,10 @@ pub open_node-open_child-half-requires : goal.open_node-open_child-half-requires
 open_node-open_child-half-requires t c =
     let o = divide_at c.args.branch c.requires.bound c.requires.room in
     let e = c.decision-decision.ensures in (
-      omega (arith, c.decreases, c.left-left.ensures.depth),
+      omega (arith, c.decreases, left_shallower c.requires.inner c.left-left.ensures),
       (
         omega (arith, e.few),
-        ∥∥₁_map o (λ h. room_below c.left-left.ensures (down h c.requires.inner e.left e.right).left),
+        ∥∥₁_map o (λ h. branch_room c.left-left.ensures (down h c.requires.inner e.left e.right).left),
       ),
     )
 
@@ -72,11 +72,11 @@ pub open_node-open_child-requires : goal.open_node-open_child-requires
 open_node-open_child-requires t c =
     let o = divide_at c.args.branch c.requires.bound c.requires.room in
     let e = c.decision-decision.ensures in
-    let g = of_below c.left-left.ensures (Gives _ _ _ _ _) c.open_child-half.ensures in (
-      omega (arith, c.decreases, c.right.ensures.depth),
+    let g = of_branch c.left-left.ensures (Gives _ _ _ _ _) c.open_child-half.ensures in (
+      omega (arith, c.decreases, right_shallower c.requires.inner c.right.ensures),
       (
         omega (arith, e.few),
-        ∥∥₁_map o (λ h. room_below c.right.ensures ((down h c.requires.inner e.left e.right).right _ _ _ g)),
+        ∥∥₁_map o (λ h. branch_room c.right.ensures ((down h c.requires.inner e.left e.right).right _ _ _ g)),
       ),
     )
 
@@ -84,6 +84,6 @@ pub open_node-returns : goal.open_node-returns
 open_node-returns t c =
     let o = divide_at c.args.branch c.requires.bound c.requires.room in
     let e = c.decision-decision.ensures in
-    let g = of_below c.left-left.ensures (Gives _ _ _ _ _) c.open_child-half.ensures in
-    let k = of_below c.right.ensures (Gives _ _ _ _ _) c.open_child.ensures in
+    let g = of_branch c.left-left.ensures (Gives _ _ _ _ _) c.open_child-half.ensures in
+    let k = of_branch c.right.ensures (Gives _ _ _ _ _) c.open_child.ensures in
     λ limit z. ∥∥₁_elim o (hlevel props) (λ h. (down h c.requires.inner e.left e.right).joined _ _ _ _ _ (omega arith) g k limit z)

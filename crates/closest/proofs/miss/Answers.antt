@@ -1,7 +1,6 @@
-use Rattle.std.proofs.Common.{◌≡◌, List, ℕ, length, refl, ap, subst, ◌∙◌, rules}
+use Rattle.std.proofs.Common.{◌≡◌, List, ℕ, length, refl, ap, ◌∙◌, rules}
 use Rattle.std.specs.Prelude as P
 use Rattle.std.specs.Prelude.{Option, Some}
-use Rattle.causes.specs.declared.Refusal.{Refusal}
 use Rattle.causes.specs.Refusal.{cause_number, cause_in}
 use Rattle.causes.proofs.Refusals.{holds_of}
 use Rattle.ray.specs.Ray.{ray_from}

@@ -77,7 +77,7 @@ pub loop-walk-2-preserved-then-counts : goal.loop-walk-2-preserved-then-counts
 loop-walk-2-preserved-then-counts c =
     let k = (goal.at.loop-walk-2-preserved-then-counts c).After-position_met in
     let g = closest_lowers (at k) _ c.rest_of-positions.ensures _ c.in_ok-t.was (sym c.counts.ensures ∙ c.if-counts.true) in
-    let e = c.nearer-aim.ensures in
+    let e = c.set_reach.ensures in
     (tt, omega (arith, g.less, c.loop-walk-2.invariant.1), rw (e.0, e.1) g.leads)
 
 pub loop-walk-2-smaller : goal.loop-walk-2-smaller

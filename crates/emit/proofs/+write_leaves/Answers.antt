@@ -9,37 +9,29 @@ use Rattle.emit.proofs.+write_leaves.Goals.{In-Children, In-Position}
 
 -- the two links
 below : (t : ℕ) (c : In-Children t) → let s = c.args in
-    Down s.words.now (length s.indices.now) (length s.out.now) s.at s.depth s.v c.in-Children.first
+    Down s.words.now (length s.indices.now) (length s.out.now) s.at s.v c.in-Children.first
 below t c = down c.requires c.in-Children.ensures
 
-ended : (t : ℕ) (c : In-Position t) → let s = c.args in Last s.words.now s.indices.now s.at s.depth s.v c.in-Position.position s.out.now
+ended : (t : ℕ) (c : In-Position t) → let s = c.args in Last s.words.now s.indices.now s.at s.v c.in-Position.position s.out.now
 ended t c = last c.requires c.in-Position.ensures
 
 pub node_link-requires : goal.node_link-requires
 node_link-requires t c = let r = (node c.requires.tree).room in omega arith
 
-pub overflow_sub-depth : goal.overflow_sub-depth
-overflow_sub-depth t c = (below t (goal.at.overflow_sub-depth t c).In-Children).deep
-
 pub write_leaves-next-requires : goal.write_leaves-next-requires
 write_leaves-next-requires t c =
     let h = below t (goal.at.write_leaves-next-requires t c).In-Children in
-    let d = h.deep in
-    (omega arith, h.left)
+    (omega (arith, c.decreases, h.left_shallower), h.left)
 
 pub overflow_add-first : goal.overflow_add-first
 overflow_add-first t c =
     let h = below t (goal.at.overflow_add-first t c).In-Children in
     omega (arith, h.second, h.few)
 
-pub overflow_sub-depth-in-Children : goal.overflow_sub-depth-in-Children
-overflow_sub-depth-in-Children t c = (below t (goal.at.overflow_sub-depth-in-Children t c).In-Children).deep
-
 pub write_leaves-requires : goal.write_leaves-requires
 write_leaves-requires t c =
     let h = below t (goal.at.write_leaves-requires t c).In-Children in
-    let d = h.deep in
-    (omega arith, rw (c.write_leaves-next.auto.out, c.write_leaves-next.ensures.next) h.right)
+    (omega (arith, c.decreases, h.right_shallower), rw (c.write_leaves-next.auto.out, c.write_leaves-next.ensures.next) h.right)
 
 pub returns-in-Children : goal.returns-in-Children
 returns-in-Children t c =

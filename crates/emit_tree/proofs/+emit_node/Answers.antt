@@ -3,7 +3,7 @@ use mathlib.Core.Bool.{true}
 use Prim.Native.Nat.{ℕ, suc, ◌+◌, ◌-◌, ◌<◌}
 use native.Mathlib.Omega.{arith}
 use lib.ListN.{length, get_or}
-use Rattle.children.specs.Branches.{subtree_of}
+use Rattle.children.specs.Branches.{decisions_of, subtree_of}
 use Rattle.wide_layout.specs.Conversion.{convert}
 use Rattle.emit_tree.specs.Emission.{wide_slots_at, EmitNode, Emits, EmitRoom, is_inner, slot_words, write_entry}
 use Rattle.emit_tree.proofs.Entering.{own_ready, build_asks, free_nodes, node-entered, room_begun}
@@ -38,7 +38,7 @@ turn t c = rw (one_less c.loop-w.w-index c.loop-w-test.true) at c.loop-w.invaria
 
 -- what the child's own emission asks
 child : (t : ℕ) (c : In-loop-w t) → let s = c.args in let w = get_or c.slots_of-slots.result c.loop-w.w-index 0 in
-    is_inner s.branch.decisions.now w ≡ true
+    is_inner (decisions_of s.branch) w ≡ true
     → Child s.branch w (λ b. Emits b (length s.indices.now) s.ordered (length c.loop-w.bytes) (length c.loop-w.out) c.loop-w.child c.loop-w.free)
 child t c =
     let p = goal.at.In-loop-w t c in
@@ -71,9 +71,6 @@ is_inner-requires t c =
     let p = goal.at.is_inner-requires t c in
     loop_reads (turn t p.In-loop-w) c.loop-w-test.true (λ h. words_are t p.After-slots_of-slots h) c.requires.at
 
-pub overflow_sub-below : goal.overflow_sub-below
-overflow_sub-below t c = (child t (goal.at.overflow_sub-below t c).In-loop-w (sym c.is_inner.ensures ∙ c.if-is_inner.true)).deep
-
 pub invariant_of-below : goal.invariant_of-below
 invariant_of-below t c =
     record { tabled = (child t (goal.at.invariant_of-below t c).In-loop-w (sym c.is_inner.ensures ∙ c.if-is_inner.true)).tabled }
@@ -81,7 +78,7 @@ invariant_of-below t c =
 pub emit_node-free-requires : goal.emit_node-free-requires
 emit_node-free-requires t c =
     let h = child t (goal.at.emit_node-free-requires t c).In-loop-w (sym c.is_inner.ensures ∙ c.if-is_inner.true) in
-    (omega (arith, h.deep), h.asks _)
+    (omega (arith, c.decreases, h.shallower), h.asks _)
 
 pub overflow_add-child : goal.overflow_add-child
 overflow_add-child t c =

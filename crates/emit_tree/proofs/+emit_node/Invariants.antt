@@ -1,12 +1,15 @@
--- The measure is the depth; the loop's invariant: the slots that are left, converted from here, give what all eight give.
+-- The measure is how many edges lie below the branch at most. The loop's invariant: the slots that are left, converted from here, give what all
+-- eight give.
 use mathlib.Core.Path.{◌≡◌}
 use Prim.Native.Nat.{◌-◌}
 use lib.ListN.{length}
+use Rattle.bvh2.specs.Tree.{depth}
+use Rattle.children.specs.Branches.{subtree_of}
 use Rattle.emit_tree.proofs.Emitting.{Loop}
 use Rattle.emit_tree.proofs.+emit_node.Given as goal
 
 abbrev pub decreases-emit_node : goal.decreases-emit_node
-decreases-emit_node l = l.branch.depth
+decreases-emit_node l = depth (subtree_of l.branch)
 
 abbrev pub invariant-loop-w : goal.invariant-loop-w
 invariant-loop-w l =

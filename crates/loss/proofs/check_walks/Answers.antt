@@ -5,7 +5,7 @@ use Rattle.causes.specs.Refusal.{cause_number, cause_in}
 use Rattle.ray.specs.declared.Ray.{Ray}
 use Rattle.packed.specs.Packed.{ray_in}
 use Rattle.loss.specs.Loss.{loss_result, loss_walked, walks_by}
-use Rattle.loss.specs.Charged.{Ready}
+use Rattle.loss.specs.Charged.{RayReady}
 use Rattle.loss.proofs.Reports.{ray_ready, refused_faults, refused_number, summed_walks, walks_fault, walks_none}
 use Rattle.loss.proofs.check_walks.Goals as goal
 use Rattle.loss.proofs.check_walks.Goals.{After-ray_loss}
@@ -29,7 +29,7 @@ loop-i-init c = refl
 pub ray_loss-requires : goal.ray_loss-requires
 ray_loss-requires c =
     let a = c.args in
-    subst (λ (r : Ray). Ready a.scene.panes r []) (sym c.ray_at-ray.ensures)
+    subst (λ (r : Ray). RayReady a.scene.panes r []) (sym c.ray_at-ray.ensures)
     (ray_ready a.scene.bytes.now a.scene.indices.now a.scene.panes a.scene.losses.now a.rays.now c.requires c.loop-i.i c.loop-i-test.true []
     (λ k h. omega arith))
 

@@ -1,7 +1,7 @@
 use Rattle.std.proofs.Common.{◌≡◌, length, sym, subst, ap, ◌∙◌, arith, rules}
 use Rattle.ray.specs.declared.Ray.{Ray}
 use Rattle.loss.specs.Loss.{loss_result, loss_walked}
-use Rattle.loss.specs.Charged.{Ready, Charges}
+use Rattle.loss.specs.Charged.{RayReady, Charges}
 use Rattle.loss.proofs.Adding.{walk_empty}
 use Rattle.loss.proofs.ray_loss.Goals as goal
 
@@ -21,7 +21,7 @@ walk_losses-requires c =
     let e = c.new-aim.ensures in (
       omega (arith, s.sizes.whole, full),
       search rules,
-      subst (λ (r : Ray). Ready s.panes r c.args.totals.now) (sym e.0) c.requires,
+      subst (λ (r : Ray). RayReady s.panes r c.args.totals.now) (sym e.0) c.requires,
     )
 
 pub returns : goal.returns

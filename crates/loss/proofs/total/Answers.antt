@@ -7,7 +7,7 @@ use Rattle.ray.specs.declared.Ray.{Ray}
 use Rattle.packed.specs.Packed.{ray_in, ray_count}
 use Rattle.query.specs.Met.{positions_met, tests_made, panes_met}
 use Rattle.loss.specs.Loss.{loss_at, is_summed, loss_walked, walks_by}
-use Rattle.loss.specs.Charged.{charged, Ready}
+use Rattle.loss.specs.Charged.{charged, RayReady}
 use Rattle.loss.proofs.Faults.{summed_faultless}
 use Rattle.loss.proofs.Reports.{ray_ready}
 use Rattle.loss.proofs.Written.{totals_begin, totals_next, totals_end, totals_spare, ray_words}
@@ -54,7 +54,7 @@ total_ray-requires c =
     let e = sym c.ray_at-ray.ensures in
     let r = room (goal.at.total_ray-requires c).At-loop-i in
     let w = all_at (walks_by s.bytes.now s.indices.now s.panes s.losses.now a.rays.now) (ray_count a.rays.now) b.2 c.loop-i.i h in (
-      subst (λ (r : Ray). Ready s.panes r c.loop-i.pane_totals) e
+      subst (λ (r : Ray). RayReady s.panes r c.loop-i.pane_totals) e
           (ray_ready s.bytes.now s.indices.now s.panes s.losses.now a.rays.now E c.loop-i.i h c.loop-i.pane_totals
           (totals_spare s.bytes.now s.indices.now s.panes s.losses.now a.rays.now t r s.fitting s.sizes.small
           (omega (arith, h, E.few)))),

@@ -6,11 +6,8 @@ use Rattle.children.proofs.branch.Branch.right.Goals as goal
 pub overflow_add-result : goal.overflow_add-result
 overflow_add-result c = omega (arith, (inside c.args.self c.requires).second)
 
-pub overflow_sub-result : goal.overflow_sub-result
-overflow_sub-result c = (inside c.args.self c.requires).deep
-
 pub invariant_of-result : goal.invariant_of-result
 invariant_of-result c = record { tabled = (inside c.args.self c.requires).right }
 
 pub returns : goal.returns
-returns c = let h = (inside c.args.self c.requires).deep in record { words = refl; decisions = refl; node = refl; depth = omega arith }
+returns c = record { tree = refl; node = refl }
