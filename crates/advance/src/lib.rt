@@ -19,7 +19,7 @@ use node_test::Tested;
 pub const CHILDREN: u32 = 0x100_0000;
 
 // More tests than any walk makes, so that a search for positions goes on until it finds some or the walk ends.
-pub const ALL_TESTS: u32 = 0xffff_ffff;
+const ALL_TESTS: u32 = 0xffff_ffff;
 
 // Bits counted from a base: positions, or children in bits 31 to 24 by slot XOR octant over an imask.
 #[derive(Clone, Copy, Debug, PartialEq, Eq)]
@@ -316,6 +316,27 @@ pub fn seek(
         walk = turn.walk;
         left -= 1;
     }
+}
+
+// The same from a walk, until positions are in hand or the walk ends. Compiled into each query, so that the walk's numbers go in registers.
+#[inline(always)]
+pub fn seek_on(walk: Walk, aim: &Aim, stack: &mut Stack, bvh: CwBvh) -> Turn
+    ensures { let bytes = bvh.entry.bytes.now in turned aim.now.ray aim.now.octant result stack.new
+        ≡ seek_words (node_count bytes) (node_words_at bytes by_boxes) 0xffff_ffff bvh.entry.positions
+        (walker_of aim.now.ray aim.now.octant (seeking walk.tests walk.positions.base walk.current.base walk.current.bits walk.depth) stack.old) }
+{
+    let current = walk.current;
+    seek(
+        walk.tests,
+        walk.positions.base,
+        current.base,
+        current.bits,
+        walk.depth,
+        ALL_TESTS,
+        aim,
+        stack,
+        bvh,
+    )
 }
 
 // The walk after a turn. It is read number by number, as it was stored, for speed: `turn.walk` read whole would wait for the stores.

@@ -90,19 +90,7 @@ fn gather(
     let mut count = noted;
     // not a `for`: a turn notes as many positions as its node has
     while count <= most {
-        let held = walk.positions.base;
-        let hand = walk.current;
-        let turn = advance::seek(
-            walk.tests,
-            held,
-            hand.base,
-            hand.bits,
-            walk.depth,
-            advance::ALL_TESTS,
-            &query.aim,
-            stack,
-            query.bvh,
-        );
+        let turn = advance::seek_on(walk, &query.aim, stack, query.bvh);
         walk = advance::walk_after(turn);
         let done = done_by(turn.answer)?;
         if done {

@@ -102,21 +102,7 @@ fn walk_closest(query: Query, on: IndexedPanes) -> Result<ClosestFound, Refusal>
                 set_reach(&mut aim, t);
             }
         }
-        let tests = walk.tests;
-        let base = walk.positions.base;
-        let current = walk.current;
-        let depth = walk.depth;
-        let turn = advance::seek(
-            tests,
-            base,
-            current.base,
-            current.bits,
-            depth,
-            advance::ALL_TESTS,
-            &aim,
-            &mut stack,
-            query.bvh,
-        );
+        let turn = advance::seek_on(walk, &aim, &mut stack, query.bvh);
         let reply = turn.answer;
         let next = advance::walk_after(turn);
         match reply {
@@ -180,21 +166,7 @@ fn walk_miss(query: Query, on: IndexedPanes) -> Result<MissFound, Refusal>
                 break 'walk;
             }
         }
-        let tests = walk.tests;
-        let base = walk.positions.base;
-        let current = walk.current;
-        let depth = walk.depth;
-        let turn = advance::seek(
-            tests,
-            base,
-            current.base,
-            current.bits,
-            depth,
-            advance::ALL_TESTS,
-            &aim,
-            &mut stack,
-            query.bvh,
-        );
+        let turn = advance::seek_on(walk, &aim, &mut stack, query.bvh);
         let reply = turn.answer;
         let next = advance::walk_after(turn);
         match reply {

@@ -106,21 +106,7 @@ fn walk_losses(scene: Scene, aim: Aim, totals: &mut [u64]) -> Result<RayLoss, Re
             let positions = advance::rest_of(held);
             walk = Walk { positions, ..walk };
         }
-        let tests = walk.tests;
-        let base = walk.positions.base;
-        let current = walk.current;
-        let depth = walk.depth;
-        let turn = advance::seek(
-            tests,
-            base,
-            current.base,
-            current.bits,
-            depth,
-            advance::ALL_TESTS,
-            &aim,
-            &mut stack,
-            bvh,
-        );
+        let turn = advance::seek_on(walk, &aim, &mut stack, bvh);
         let reply = turn.answer;
         let next = advance::walk_after(turn);
         match reply {

@@ -28,7 +28,7 @@ module _ (c : After-done_by) where
 
   -- the walker after a search
   abbrev u : WalkerWords WalkRay
-  u = walker_of query.aim.ray query.aim.octant c.walk_after-walk.result c.seek-turn.new.stack
+  u = walker_of query.aim.ray query.aim.octant c.walk_after-walk.result c.seek_on-turn.new.stack
 
   -- by what is said of its answer
   after : (r : Result Bool Refusal) → c.done_by.result ≡ r → After sized query.fields c.loop-count.invariant.2 r u
@@ -36,10 +36,10 @@ module _ (c : After-done_by) where
       let bvh = query.bvh in
       let aim = query.aim in
       let turned : Walk → SteppedWords WalkRay =
-      λ v. record { walker = walker_of aim.ray aim.octant v c.seek-turn.new.stack; answer = step_answer c.seek-turn.result.answer } in
+      λ v. record { walker = walker_of aim.ray aim.octant v c.seek_on-turn.new.stack; answer = step_answer c.seek_on-turn.result.answer } in
       subst (λ (x : Result Bool Refusal). After sized query.fields c.loop-count.invariant.2 x u) (sym c.done_by.ensures ∙ e)
-      (walk_seeks sized query.fields c.loop-count.invariant.2 c.loop-count.invariant.0 0xffff_ffff c.seek-turn.result.answer u
-      (ap turned c.walk_after-walk.ensures ∙ c.seek-turn.ensures
+      (walk_seeks sized query.fields c.loop-count.invariant.2 c.loop-count.invariant.0 0xffff_ffff c.seek_on-turn.result.answer u
+      (ap turned c.walk_after-walk.ensures ∙ c.seek_on-turn.ensures
       ∙ ap (seek_words (node_count bvh.bytes.now) (node_words_at bvh.bytes.now by_boxes) 0xffff_ffff bvh.positions)
       (seeking_from aim.ray aim.octant c.loop-count.stack c.loop-count.walk c.loop-count.invariant.0)))
 
@@ -56,7 +56,7 @@ returns-in_err-done c =
     let own : c.from_residual.result ≡ Err f = search rules in
     subst
     (λ (r : Result Gathered Refusal). Gathers q.bvh.bytes.now q.bvh.positions q.aim.ray q.aim.octant c.args.most c.args.found.now r
-    c.seek-turn.new.stack c.loop-count.found)
+    c.seek_on-turn.new.stack c.loop-count.found)
     (sym own) (after k (Err f) c.in_err-done.was)
 
 pub returns-then-done : goal.returns-then-done

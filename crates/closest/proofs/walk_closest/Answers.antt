@@ -43,7 +43,7 @@ module _ (c : After-walk_after-next) where
   after : let a = c.args in
       AfterSearch setting_then (closest_in setting_then) (closest_walk a.query.bvh.bytes.now a.on.indices.now a.on.panes.now a.query.aim.ray)
       c.loop-walk-2.aim.ray c.loop-walk-2.walk c.loop-walk.stack (found_by c.loop-walk-2.answer)
-      (record { answer = c.seek-turn.result.answer; walk = c.walk_after-next.result }) c.seek-turn.new.stack
+      (record { answer = c.seek_on-turn.result.answer; walk = c.walk_after-next.result }) c.seek_on-turn.new.stack
   after =
       let q = c.args.query in
       let w = c.loop-walk-2.walk in
@@ -51,7 +51,7 @@ module _ (c : After-walk_after-next) where
       let from = walker_of aim.ray aim.octant (seeking w.tests w.positions.base w.current.base w.current.bits w.depth) c.loop-walk.stack in
       let seeks = seek_words (node_count q.bvh.bytes.now) (node_words_at q.bvh.bytes.now by_boxes) 0xffff_ffff in
       after_search 0xffff_ffff c.loop-walk-2.invariant.2 c.loop-walk-2-test.false _ _ c.walk_after-next.ensures _
-      (c.seek-turn.ensures ∙ ap (λ (n : ℕ). seeks n from) c.requires)
+      (c.seek_on-turn.ensures ∙ ap (λ (n : ℕ). seeks n from) c.requires)
 
 pub loop-walk-init : goal.loop-walk-init
 unfolding closest_walk

@@ -41,15 +41,15 @@ module _ (c : After-walk_after-next) where
 
   after : let a = c.args in
       AfterSearch setting_then (miss_in setting_then) (miss_walk a.query.bvh.bytes.now a.on.indices.now a.on.panes.now a.query.aim.ray)
-      a.query.aim.ray c.loop-walk.walk c.walk.stack none (record { answer = c.seek-turn.result.answer; walk = c.walk_after-next.result })
-      c.seek-turn.new.stack
+      a.query.aim.ray c.loop-walk.walk c.walk.stack none (record { answer = c.seek_on-turn.result.answer; walk = c.walk_after-next.result })
+      c.seek_on-turn.new.stack
   after =
       let q = c.args.query in
       let w = c.loop-walk.walk in
       let from = walker_of q.aim.ray q.aim.octant (seeking w.tests w.positions.base w.current.base w.current.bits w.depth) c.walk.stack in
       let seeks = seek_words (node_count q.bvh.bytes.now) (node_words_at q.bvh.bytes.now by_boxes) 0xffff_ffff in
       after_search 0xffff_ffff c.loop-walk.invariant.2 c.loop-walk-test.false _ _ c.walk_after-next.ensures _
-      (c.seek-turn.ensures ∙ ap (λ (n : ℕ). seeks n from) c.requires)
+      (c.seek_on-turn.ensures ∙ ap (λ (n : ℕ). seeks n from) c.requires)
 
 pub walk-init : goal.walk-init
 unfolding miss_walk

@@ -44,24 +44,24 @@ module _ (c : After-walk_after-next) where
 
   -- the walker then
   abbrev then : WalkerWords WalkRay
-  then = walker_of c.args.aim.ray c.args.aim.octant c.walk_after-next.result c.seek-turn.new.stack
+  then = walker_of c.args.aim.ray c.args.aim.octant c.walk_after-next.result c.seek_on-turn.new.stack
 
-  after : After (sized_of _ _ c.args.scene.sizes c.requires.0) fit_then c.loop-walk-2.invariant.1 c.seek-turn.result.answer then
+  after : After (sized_of _ _ c.args.scene.sizes c.requires.0) fit_then c.loop-walk-2.invariant.1 c.seek_on-turn.result.answer then
   after =
       let a = c.args in
       let octant = c.args.aim.octant in
       let none : c.loop-walk-2.walk.positions.bits ≡ 0 = omega (arith, c.loop-walk-2-test.false) in
       let turned : Walk → SteppedWords WalkRay = λ v. record {
-        walker = walker_of a.aim.ray octant v c.seek-turn.new.stack;
-        answer = step_answer c.seek-turn.result.answer;
+        walker = walker_of a.aim.ray octant v c.seek_on-turn.new.stack;
+        answer = step_answer c.seek_on-turn.result.answer;
       } in
-      adding_seeks (sized_of _ _ c.args.scene.sizes c.requires.0) fit_then c.loop-walk-2.invariant.1 none 0xffff_ffff c.seek-turn.result.answer then
-      (ap turned c.walk_after-next.ensures ∙ c.seek-turn.ensures
+      adding_seeks (sized_of _ _ c.args.scene.sizes c.requires.0) fit_then c.loop-walk-2.invariant.1 none 0xffff_ffff c.seek_on-turn.result.answer then
+      (ap turned c.walk_after-next.ensures ∙ c.seek_on-turn.ensures
       ∙ ap (seek_words (node_count a.scene.bytes.now) (node_words_at a.scene.bytes.now by_boxes) 0xffff_ffff (length a.scene.indices.now))
       (seeking_from a.aim.ray octant c.loop-walk.stack c.loop-walk-2.walk none))
 
   -- by its answer
-  stated : (b : Answer) → c.seek-turn.result.answer ≡ b
+  stated : (b : Answer) → c.seek_on-turn.result.answer ≡ b
       → After (sized_of _ _ c.args.scene.sizes c.requires.0) fit_then c.loop-walk-2.invariant.1 b then
   stated b e = subst (λ (x : Answer). After (sized_of _ _ c.args.scene.sizes c.requires.0) fit_then c.loop-walk-2.invariant.1 x then) e after
 
