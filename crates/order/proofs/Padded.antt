@@ -1,8 +1,8 @@
 -- Arrays of eight that are filled from the front.
-use mathlib.Core.Path.{◌≡◌, sym, ap, ap₂, ◌∙◌}
+use mathlib.Core.Path.{◌≡◌, refl, sym, ap, ap₂, ◌∙◌}
 use mathlib.Core.List.{List, [], ◌∷◌, ◌++◌, map, append_assoc, map-append}
 use mathlib.Core.Logic.{◌⊎◌, inl, inr}
-use Prim.Native.Nat.{ℕ, suc, ◌+◌, ◌-◌, min, ◌≤◌, ◌<◌}
+use Prim.Native.Nat.{ℕ, zero, suc, ◌+◌, ◌-◌, min, ◌≤◌, ◌<◌}
 use native.Mathlib.Numerals.{add-one}
 use native.Mathlib.Omega.{arith}
 use lib.ListN.{length, take, get_or, set, replicate, length-append, length-map}
@@ -27,6 +27,17 @@ map_next f d none xs k ys v len h e g =
     ∙ padded_next d (map f (take k xs)) k (f (get_or xs k none)) (length-map (take k xs) f ∙ length-take-le k xs (omega arith)) h
     ∙ ap (padded d) (sym (map-append f (take k xs) (get_or xs k none ∷ [])) ∙ ap (map f)
     (sym (take-suc xs k none (omega arith)) ∙ ap (λ (j : ℕ). take j xs) (sym (add-one k))))
+
+-- the values of a list that is filled up
+pub map_padded : {A B : Type 0} (f : A → B) (d : A) (xs : List A) → map f (padded d xs) ≡ padded (f d) (map f xs)
+unfolding padded
+map_padded f d xs =
+    map-append f xs (replicate (8 - length xs) d)
+    ∙ ap (λ (l : List _). map f xs ++ l) (filled (8 - length xs) ∙ ap (λ (n : ℕ). replicate (8 - n) (f d)) (sym (length-map xs f)))
+  where
+    filled : (n : ℕ) → map f (replicate n d) ≡ replicate n (f d)
+    filled zero = refl
+    filled (suc n) = ap (λ (l : List _). f d ∷ l) (filled n)
 
 -- a count past the whole takes the whole
 pub take-eight : {A : Type 0} (k : ℕ) (xs : List A) → length xs ≡ 8 → take (min k 8) xs ≡ take k xs

@@ -4,6 +4,7 @@ use mathlib.Core.Logic.{◌⊎◌, inl, inr}
 use mathlib.Core.Bool.{Bool, true, false, cond}
 use mathlib.Core.List.{List, [], ◌∷◌, ◌++◌}
 use Prim.Native.Nat.{ℕ, ◌≤◌, ◌<◌}
+use native.Mathlib.Nat.{lt_of_lt_of_le}
 use native.Mathlib.Omega.{arith}
 use lib.Dec.{eqb}
 use lib.ListN.{length}
@@ -110,6 +111,15 @@ pub record Matched (n : ℕ) (ps : List Pair) : Type 0 where
 
 pub matched_none : (n : ℕ) → Matched n []
 matched_none n = record { children = tt; slots = tt; children_apart = tt; slots_apart = tt }
+
+-- more children may come
+pub matched_of_more : (n m : ℕ) (ps : List Pair) → n ≤ m → Matched n ps → Matched m ps
+matched_of_more n m ps few h = record {
+  children = all_map (λ p. p.child < n) (λ p. p.child < m) ps (λ p l. lt_of_lt_of_le l few) h.children;
+  slots = h.slots;
+  children_apart = h.children_apart;
+  slots_apart = h.slots_apart;
+}
 
 -- a child without a slot and a slot without a child, paired
 pub matched_pair : (n : ℕ) (ps : List Pair) (p : Pair) → n ≤ 8 → p.child < n → p.slot < 8 → slot_of ps p.child ≡ 8 → child_of ps p.slot ≡ 8

@@ -1,8 +1,8 @@
 -- The greedy assignment of children to slots (01, "Corners of each file", bvh2_to_cwbvh.rs, Ordering), for any costs.
-use Rattle.std.specs.Prelude.{not, ◌&&◌, cond, List, [], ◌∷◌, ◌++◌, ℕ, zero, suc, eqb, take, get_or, Float}
+use Rattle.std.specs.Prelude.{not, ◌&&◌, cond, List, [], ◌∷◌, ◌++◌, map, ℕ, zero, suc, min, eqb, ltb, length, take, get_or, Float}
 use Rattle.std.specs.Float.{nan, binary32}
 use Rattle.std.specs.Float.Ieee.{of_bits, lt}
-use Rattle.order.specs.Lists.{keep, some, eight_of}
+use Rattle.order.specs.Lists.{keep, some, eight_of, padded}
 use Rattle.order.specs.declared.Assignment.{Assignment}
 
 -- a child, by its place in gathered order, and a slot
@@ -62,6 +62,23 @@ assigned cost n (suc k) = let ps = assigned cost n k in ps ++ next_pair cost n p
 abbrev pub assignment : (Pair → Float) → ℕ → List Pair
 assignment cost n = assigned cost n n
 
--- the slot of each child and the child of each slot, as arrays
-abbrev pub arrays_of : List Pair → Assignment
-arrays_of ps = record { slot = eight_of (slot_of ps); child = eight_of (child_of ps) }
+-- how many searches over the children and slots end with these pairs of n children: each found a pair, and one more none if a child is left
+unfoldable pub rounds_of : ℕ → List Pair → ℕ
+rounds_of n ps = cond (ltb (length ps) n) (suc (length ps)) (length ps)
+
+-- the slot of each child, the child of each slot and the children in the order seated, as arrays; how many are seated, and by how many searches
+abbrev pub arrays_of : ℕ → List Pair → Assignment
+arrays_of rounds ps = record {
+  slot = eight_of (slot_of ps);
+  child = eight_of (child_of ps);
+  seated = padded 8 (map (λ p. p.child) ps);
+  count = length ps;
+  rounds = rounds;
+}
+
+-- what `assign` gives for the first `count` rows of a table
+abbrev pub assignment_of : List (List Float) → ℕ → Assignment
+assignment_of table count =
+    let n = min count 8 in
+    let ps = assignment (cost_in table) n in
+    arrays_of (rounds_of n ps) ps

@@ -5,8 +5,9 @@ use Rattle.std.specs.Float.Ieee.{add, sub, mul}
 use Rattle.ray.specs.declared.Vec3.{Vec3}
 use Rattle.aabb.specs.declared.Aabb.{Aabb}
 use Rattle.aabb.specs.Aabb.{each, center_of}
-use Rattle.order.specs.Lists.{eight_of}
-use Rattle.order.specs.Assign.{Pair, cost_in, greatest_finite, child_of, assignment}
+use Rattle.order.specs.Lists.{eight_of, padded}
+use Rattle.order.specs.Assign.{Pair, cost_in, greatest_finite, child_of, assignment, rounds_of}
+use Rattle.order.specs.declared.Seating.{Seating}
 
 -- −1 for a bit that is set, else 1
 unfoldable pub sign_of : ℕ → Float
@@ -41,6 +42,21 @@ slots_of false parent boxes = gathered_order (length boxes)
 -- the children by slots, `none` in a slot without one
 unfoldable pub placed : {A : Type 0} → A → List Pair → List A → List A
 placed none ps children = eight_of (λ s. get_or children (child_of ps s) none)
+
+-- the children in the order seated, `none` behind them
+unfoldable pub seated_of : {A : Type 0} → A → List Pair → List A → List A
+seated_of none ps children = padded none (map (λ p. get_or children p.child none) ps)
+
+-- what `seat_children` gives for up to eight children: without ordering no search is made
+abbrev pub seating_of : Bool → Aabb → List Aabb → List ℕ → Seating
+seating_of ordered parent boxes children =
+    let ps = slots_of ordered parent boxes in
+    record {
+      slots = placed 0xffff_ffff ps children;
+      seated = seated_of 0xffff_ffff ps children;
+      count = length ps;
+      rounds = cond ordered (rounds_of (length boxes) ps) 0;
+    }
 
 -- the row of a child that is not there
 abbrev pub no_row : List Float

@@ -1,15 +1,14 @@
-// Internal: the children of a node put into its eight slots by cost (bvh2_to_cwbvh.rs, order_children). Without ordering there is nothing to do: they
-// stay as they were gathered.
+// The children of a node put into its eight slots by cost, and the order in which they took these (bvh2_to_cwbvh.rs, order_children).
 #![tactic(auto)]
 
-ghost use Rattle.std.specs.Prelude.{◌≡◌, true, map, min, ◌≤◌, take, get_or};
+ghost use Rattle.std.specs.Prelude.{◌≡◌, true, map, ◌≤◌, length, take, get_or};
 ghost use Rattle.std.specs.Float.{binary32};
 ghost use Rattle.std.specs.Float.Ieee.{sub};
 ghost use Rattle.aabb.specs.Aabb.{each, center_of};
-ghost use Rattle.order.specs.Assign.{cost_in, assignment, arrays_of};
+ghost use Rattle.order.specs.Assign.{cost_in, assignment, rounds_of, arrays_of, assignment_of};
 ghost use Rattle.order.specs.Scan.{cheaper, best_slot, best_open};
 ghost use Rattle.order.specs.Lists.{eight_of, padded};
-ghost use Rattle.order.specs.Order.{sign_of, direction_of, dot_of, direction_cost, cost_table, no_row, slots_of, placed};
+ghost use Rattle.order.specs.Order.{sign_of, direction_of, dot_of, direction_cost, cost_table, no_row, gathered_order, slots_of, placed, seating_of};
 
 use aabb::Aabb;
 use ray::Vec3;
@@ -33,11 +32,24 @@ const NO_BEST: Best = Best {
     slot: 8,
 };
 
-// slot[c] is the slot of child c, and child[s] the child in slot s; 8 where there is none, as in the arrays of the published code.
+// slot[c] is the slot of child c, child[s] the child in slot s, and seated[k] the child that round k gave a slot; 8 where there is none, as in the
+// arrays of the published code. `count` children have a slot; `rounds` searches over children and slots were made.
 #[derive(Clone, Copy)]
 pub struct Assignment {
     pub slot: [usize; 8],
     pub child: [usize; 8],
+    pub seated: [usize; 8],
+    pub count: usize,
+    pub rounds: usize,
+}
+
+// The same with the children's own numbers: those by slots, and those in the order seated; all ones where there is none.
+#[derive(Clone, Copy)]
+pub struct Seating {
+    pub slots: [u32; 8],
+    pub seated: [u32; 8],
+    pub count: usize,
+    pub rounds: usize,
 }
 
 // The first, unless the second is cheaper. Field by field: where whole values are chosen, a node's children take half as long again.
@@ -90,28 +102,40 @@ fn best_pair(cost: &[[f32; 8]; 8], slot: &[usize; 8], child: &[usize; 8], n: usi
     b
 }
 
-// One round for each of n children, or as many as find a pair.
+// Round by round, until every one of n children has a slot or a search finds no pair.
 fn rounds(cost: [[f32; 8]; 8], n: usize) -> Assignment
     requires { n ≤ 8 }
-    ensures { result ≡ arrays_of (assignment (cost_in cost) n) }
+    ensures { result ≡ (let ps = assignment (cost_in cost) n in arrays_of (rounds_of n ps) ps) }
 {
     let mut slot = [8usize; 8];
     let mut child = [8usize; 8];
-    for _round in 0..n {
+    let mut seated = [8usize; 8];
+    let mut count = 0;
+    let mut rounds = 0;
+    while count < n {
         let b = best_pair(&cost, &slot, &child, n);
+        rounds += 1;
         if b.slot == 8 {
-            return Assignment { slot, child };
+            break;
         }
         slot[b.child] = b.slot;
         child[b.slot] = b.child;
+        seated[count] = b.child;
+        count += 1;
     }
-    Assignment { slot, child }
+    Assignment {
+        slot,
+        child,
+        seated,
+        count,
+        rounds,
+    }
 }
 
-// The slots of the first `count` children, the least cost first; a count over 8 acts as 8. A cost that is a NaN, or not below the greatest
-// f32, is never taken: a child with only such costs gets no slot.
+// The slots of the first `count` children, the least cost first, and the children in that order; a count over 8 acts as 8. A cost that is a NaN, or
+// not below the greatest f32, is never taken: a child with only such costs gets no slot. No search is made once every child has one.
 pub fn assign(cost: [[f32; 8]; 8], count: usize) -> Assignment
-    ensures { result ≡ arrays_of (assignment (cost_in cost) (min count 8)) }
+    ensures { result ≡ assignment_of cost count }
 {
     rounds(cost, count.min(8))
 }
@@ -200,10 +224,58 @@ fn place(children: [u32; 8], child: [usize; 8]) -> [u32; 8]
     child.map(|c| child_or_none(children, c))
 }
 
-// The first `count` children of a node by slots, with their boxes in the same order; all ones in a slot without a child. A count over 8 acts as 8.
+// The assignment by cost of the first `count` children of a node.
+fn by_cost(parent: Aabb, boxes: [Aabb; 8], count: usize) -> Assignment
+    ensures { result ≡ (let ps = slots_of true parent (take count boxes) in arrays_of (rounds_of (length (take count boxes)) ps) ps) }
+{
+    assign(direction_costs(parent, boxes, count), count)
+}
+
+// Child i in slot i for n children, by no search.
+fn as_gathered(n: usize) -> Assignment
+    requires { n ≤ 8 }
+    ensures { result ≡ arrays_of 0 (gathered_order n) }
+{
+    let mut own = [8usize; 8];
+    for i in 0..n {
+        own[i] = i;
+    }
+    Assignment {
+        slot: own,
+        child: own,
+        seated: own,
+        count: n,
+        rounds: 0,
+    }
+}
+
+// The first `count` children of a node by slots, with their boxes in the same order, and in the order in which they took these; all ones where there
+// is none. Without ordering they stay as they were gathered. A count over 8 acts as 8.
+pub fn seat_children(
+    ordered: bool,
+    parent: Aabb,
+    boxes: [Aabb; 8],
+    children: [u32; 8],
+    count: usize,
+) -> Seating
+    ensures { result ≡ seating_of ordered parent (take count boxes) (take count children) }
+{
+    let made = if ordered {
+        by_cost(parent, boxes, count)
+    } else {
+        as_gathered(count.min(8))
+    };
+    Seating {
+        slots: place(children, made.child),
+        seated: place(children, made.seated),
+        count: made.count,
+        rounds: made.rounds,
+    }
+}
+
+// The slots alone of `seat_children` with ordering.
 pub fn order_children(parent: Aabb, boxes: [Aabb; 8], children: [u32; 8], count: usize) -> [u32; 8]
     ensures { result ≡ placed 0xffff_ffff (slots_of true parent (take count boxes)) (take count children) }
 {
-    let cost = direction_costs(parent, boxes, count);
-    place(children, assign(cost, count).child)
+    place(children, by_cost(parent, boxes, count).child)
 }

@@ -5,10 +5,9 @@ use Prim.Native.Nat.{min}
 use native.Mathlib.Omega.{arith}
 use lib.ListN.{length, take, get_or, length-take}
 use Rattle.order.specs.declared.Assignment.{Assignment}
-use Rattle.order.specs.Assign.{arrays_of}
 use Rattle.order.specs.Order.{slots_of}
 use Rattle.order.proofs.Placed.{place_taken}
-use Rattle.order.proofs.Slots.{ordered_slots, slots_matched}
+use Rattle.order.proofs.Slots.{slots_matched}
 use Rattle.order.proofs.order_children.Goals as goal
 
 pub returns : goal.returns
@@ -16,9 +15,7 @@ returns c =
     let a = c.args in
     let bs = take a.count a.boxes in
     let n : length bs ≡ min a.count 8 = omega (arith, length-take a.count a.boxes) in
-    let slots : c.assign.result ≡ arrays_of (slots_of true a.parent bs) =
-    rw (c.assign.ensures, c.direction_costs-cost.ensures) (ap arrays_of (ordered_slots a.parent bs (min a.count 8) n)) in
     c.place.ensures
-    ∙ ap (λ (r : Assignment). map (λ c. get_or a.children c 0xffff_ffff) r.child) slots
+    ∙ ap (λ (r : Assignment). map (λ c. get_or a.children c 0xffff_ffff) r.child) c.by_cost.ensures
     ∙ place_taken 0xffff_ffff (slots_of true a.parent bs) a.children (length bs) a.count (omega arith)
     (slots_matched true a.parent bs (omega arith)) (omega arith)
