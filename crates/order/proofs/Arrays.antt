@@ -15,7 +15,7 @@ use lib.Ieee.{Float}
 use borrow.Author.Tests.{lt-ltb, le-ltb}
 use Rattle.words.proofs.Upto.{eight}
 use Rattle.order.specs.Lists.{eight_of, padded}
-use Rattle.order.specs.Assign.{Pair, cost_in, pairs, partner, slot_of, child_of, next_pair, assigned, assignment, rounds_of, arrays_of}
+use Rattle.order.specs.Assign.{Pair, cost_in, pairs, partner, slot_of, child_of, next_pair, assigned, assignment, rounds_of, arrays_of, assigned_arrays}
 use Rattle.order.specs.Scan.{priced, first_or, best_open}
 use Rattle.order.specs.declared.Assignment.{Assignment}
 use Rattle.order.specs.declared.Best.{Best}
@@ -150,7 +150,7 @@ module _ (table : List (List Float)) (n : ℕ) where
   -- the last search found none
   pub kept_stuck : n ≤ 8 → (k : ℕ) (a : Assignment) (b : Best) → Kept k a → b ≡ best_open table a.slot a.child n → b.slot ≡ 8 → k < n
       → ◌≡◌ {A = Assignment} (record { slot = a.slot; child = a.child; seated = a.seated; count = a.count; rounds = a.rounds + 1 })
-      (let ps = assignment (cost_in table) n in arrays_of (rounds_of n ps) ps)
+      (assigned_arrays (cost_in table) n)
   unfolding rounds_of
   kept_stuck few k a b h e q l = elim (found_cases k b (next_found few k a b h e)) [
     | inl w ↦
@@ -165,7 +165,7 @@ module _ (table : List (List Float)) (n : ℕ) where
   ]
 
   -- every child has a slot
-  pub kept_all : (k : ℕ) (a : Assignment) → Kept k a → n ≤ k → a ≡ (let ps = assignment (cost_in table) n in arrays_of (rounds_of n ps) ps)
+  pub kept_all : (k : ℕ) (a : Assignment) → Kept k a → n ≤ k → a ≡ (assigned_arrays (cost_in table) n)
   unfolding rounds_of
   kept_all k a h l =
       let e : k ≡ n = omega (arith, h.most, l) in

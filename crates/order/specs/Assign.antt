@@ -1,5 +1,5 @@
 -- The greedy assignment of children to slots (01, "Corners of each file", bvh2_to_cwbvh.rs, Ordering), for any costs.
-use Rattle.std.specs.Prelude.{not, ◌&&◌, cond, List, [], ◌∷◌, ◌++◌, map, ℕ, zero, suc, min, eqb, ltb, length, take, get_or, Float}
+use Rattle.std.specs.Prelude.{not, ◌&&◌, cond, List, [], ◌∷◌, ◌++◌, map, ℕ, zero, suc, eqb, ltb, length, take, get_or, Float}
 use Rattle.std.specs.Float.{nan, binary32}
 use Rattle.std.specs.Float.Ieee.{of_bits, lt}
 use Rattle.order.specs.Lists.{keep, some, eight_of, padded}
@@ -76,9 +76,6 @@ arrays_of rounds ps = record {
   rounds = rounds;
 }
 
--- what `assign` gives for the first `count` rows of a table
-abbrev pub assignment_of : List (List Float) → ℕ → Assignment
-assignment_of table count =
-    let n = min count 8 in
-    let ps = assignment (cost_in table) n in
-    arrays_of (rounds_of n ps) ps
+-- the assignment to n children, with the searches that it takes
+abbrev pub assigned_arrays : (Pair → Float) → ℕ → Assignment
+assigned_arrays cost n = let ps = assignment cost n in arrays_of (rounds_of n ps) ps

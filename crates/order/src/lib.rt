@@ -1,11 +1,11 @@
 // The children of a node put into its eight slots by cost, and the order in which they took these (bvh2_to_cwbvh.rs, order_children).
 #![tactic(auto)]
 
-ghost use Rattle.std.specs.Prelude.{◌≡◌, true, map, ◌≤◌, length, take, get_or};
+ghost use Rattle.std.specs.Prelude.{◌≡◌, true, map, min, ◌≤◌, length, take, get_or};
 ghost use Rattle.std.specs.Float.{binary32};
 ghost use Rattle.std.specs.Float.Ieee.{sub};
 ghost use Rattle.aabb.specs.Aabb.{each, center_of};
-ghost use Rattle.order.specs.Assign.{cost_in, assignment, rounds_of, arrays_of, assignment_of};
+ghost use Rattle.order.specs.Assign.{cost_in, arrays_of, assigned_arrays};
 ghost use Rattle.order.specs.Scan.{cheaper, best_slot, best_open};
 ghost use Rattle.order.specs.Lists.{eight_of, padded};
 ghost use Rattle.order.specs.Order.{sign_of, direction_of, dot_of, direction_cost, cost_table, no_row, gathered_order, slots_of, placed, seating_of};
@@ -105,7 +105,7 @@ fn best_pair(cost: &[[f32; 8]; 8], slot: &[usize; 8], child: &[usize; 8], n: usi
 // Round by round, until every one of n children has a slot or a search finds no pair.
 fn rounds(cost: [[f32; 8]; 8], n: usize) -> Assignment
     requires { n ≤ 8 }
-    ensures { result ≡ (let ps = assignment (cost_in cost) n in arrays_of (rounds_of n ps) ps) }
+    ensures { result ≡ assigned_arrays (cost_in cost) n }
 {
     let mut slot = [8usize; 8];
     let mut child = [8usize; 8];
@@ -135,7 +135,7 @@ fn rounds(cost: [[f32; 8]; 8], n: usize) -> Assignment
 // The slots of the first `count` children, the least cost first, and the children in that order; a count over 8 acts as 8. A cost that is a NaN, or
 // not below the greatest f32, is never taken: a child with only such costs gets no slot. No search is made once every child has one.
 pub fn assign(cost: [[f32; 8]; 8], count: usize) -> Assignment
-    ensures { result ≡ assignment_of cost count }
+    ensures { result ≡ assigned_arrays (cost_in cost) (min count 8) }
 {
     rounds(cost, count.min(8))
 }
@@ -226,7 +226,7 @@ fn place(children: [u32; 8], child: [usize; 8]) -> [u32; 8]
 
 // The assignment by cost of the first `count` children of a node.
 fn by_cost(parent: Aabb, boxes: [Aabb; 8], count: usize) -> Assignment
-    ensures { result ≡ (let ps = slots_of true parent (take count boxes) in arrays_of (rounds_of (length (take count boxes)) ps) ps) }
+    ensures { result ≡ (let bs = take count boxes in assigned_arrays (cost_in (cost_table parent bs)) (length bs)) }
 {
     assign(direction_costs(parent, boxes, count), count)
 }

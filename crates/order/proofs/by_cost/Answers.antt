@@ -4,10 +4,12 @@ use Prim.Native.Nat.{ℕ, min}
 use native.Mathlib.Omega.{arith}
 use lib.ListN.{length, take, length-take}
 use Rattle.order.specs.Assign.{Pair, rounds_of, arrays_of}
+use Rattle.order.specs.Order.{slots_of}
 use Rattle.order.proofs.Slots.{ordered_slots}
 use Rattle.order.proofs.by_cost.Goals as goal
 
 pub returns : goal.returns
+unfolding slots_of
 returns c =
     let a = c.args in
     let bs = take a.count a.boxes in

@@ -11,6 +11,7 @@ use Rattle.order.proofs.Slots.{slots_matched}
 use Rattle.order.proofs.order_children.Goals as goal
 
 pub returns : goal.returns
+unfolding slots_of
 returns c =
     let a = c.args in
     let bs = take a.count a.boxes in
