@@ -4,6 +4,7 @@ use mathlib.Core.Bool.{Bool, true, false, ◌||◌}
 use mathlib.Core.List.{List, [], ◌∷◌, ◌++◌, map, cons≢nil}
 use Prim.Native.Nat.{ℕ, zero, suc, ◌<◌}
 use native.Mathlib.Nat.{not-suc-le-zero, le_of_suc-le-suc}
+use native.Mathlib.Omega.{arith}
 use lib.ListN.{take, get_or, length}
 use Rattle.order.specs.Lists.{cons_if, keep, some}
 
@@ -116,6 +117,10 @@ pub all_at : {A : Type 0} (P : A → Type 0) (xs : List A) (i : ℕ) (d : A) →
 all_at P [] i d l h = absurd (not-suc-le-zero l)
 all_at P (x ∷ xs) zero d l h = h.0
 all_at P (x ∷ xs) (suc i) d l h = all_at P xs i d (le_of_suc-le-suc l) h.1
+
+pub all_by_index : {A : Type 0} (P : A → Type 0) (xs : List A) (d : A) → ((i : ℕ) → i < length xs → P (get_or xs i d)) → All P xs
+all_by_index P [] d h = tt
+all_by_index P (x ∷ xs) d h = (h 0 (omega arith), all_by_index P xs d (λ i l. h (suc i) (omega arith)))
 
 pub all_mapped : {A B : Type 0} (P : B → Type 0) (f : A → B) (xs : List A) → All (λ x. P (f x)) xs → All P (map f xs)
 all_mapped P f [] h = tt

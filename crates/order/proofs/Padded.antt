@@ -28,6 +28,18 @@ map_next f d none xs k ys v len h e g =
     ∙ ap (padded d) (sym (map-append f (take k xs) (get_or xs k none ∷ [])) ∙ ap (map f)
     (sym (take-suc xs k none (omega arith)) ∙ ap (λ (j : ℕ). take j xs) (sym (add-one k))))
 
+-- what fills it up is what stands for nothing behind its end
+pub padded_at : {A : Type 0} (d : A) (xs : List A) (i : ℕ) → get_or (padded d xs) i d ≡ get_or xs i d
+unfolding padded
+padded_at d xs i = filled xs (8 - length xs) i
+  where
+    filled : (xs : List _) (m i : ℕ) → get_or (xs ++ replicate m d) i d ≡ get_or xs i d
+    filled [] zero i = refl
+    filled [] (suc m) zero = refl
+    filled [] (suc m) (suc i) = filled [] m i
+    filled (x ∷ xs) m zero = refl
+    filled (x ∷ xs) m (suc i) = filled xs m i
+
 -- the values of a list that is filled up
 pub map_padded : {A B : Type 0} (f : A → B) (d : A) (xs : List A) → map f (padded d xs) ≡ padded (f d) (map f xs)
 unfolding padded

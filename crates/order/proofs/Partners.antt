@@ -46,10 +46,10 @@ apart_append key (q ∷ ps) p a h =
 
 module _ (key value : Pair → ℕ) where
   -- a key without a partner is no pair's
-  new : (ps : List Pair) (k : ℕ) → All (λ q. value q < 8) ps → partner key value ps k ≡ 8 → All (λ q. key q ≡ k → ⊥) ps
+  pub new_key : (ps : List Pair) (k : ℕ) → All (λ q. value q < 8) ps → partner key value ps k ≡ 8 → All (λ q. key q ≡ k → ⊥) ps
   unfolding partner
-  new [] k h e = tt
-  new (q ∷ ps) k h e = go (eqb (key q) k) refl e (new ps k h.1)
+  new_key [] k h e = tt
+  new_key (q ∷ ps) k h e = go (eqb (key q) k) refl e (new_key ps k h.1)
     where
       go : (t : Bool) → eqb (key q) k ≡ t → cond t (value q) (partner key value ps k) ≡ 8 → (partner key value ps k ≡ 8 → All (λ r. key r ≡ k → ⊥) ps)
           → (key q ≡ k → ⊥) × All (λ r. key r ≡ k → ⊥) ps
@@ -127,8 +127,8 @@ pub matched_pair : (n : ℕ) (ps : List Pair) (p : Pair) → n ≤ 8 → p.child
 matched_pair n ps p few a b e f m = record {
   children = all_append (λ q. q.child < n) ps (p ∷ []) m.children (a, tt);
   slots = all_append (λ q. q.slot < 8) ps (p ∷ []) m.slots (b, tt);
-  children_apart = apart_append (λ q. q.child) ps p m.children_apart (new (λ q. q.child) (λ q. q.slot) ps p.child m.slots e);
-  slots_apart = apart_append (λ q. q.slot) ps p m.slots_apart (new (λ q. q.slot) (λ q. q.child) ps p.slot below f);
+  children_apart = apart_append (λ q. q.child) ps p m.children_apart (new_key (λ q. q.child) (λ q. q.slot) ps p.child m.slots e);
+  slots_apart = apart_append (λ q. q.slot) ps p m.slots_apart (new_key (λ q. q.slot) (λ q. q.child) ps p.slot below f);
 }
   where
     below : All (λ q. q.child < 8) ps

@@ -15,6 +15,7 @@ use Rattle.order.specs.Assign.{Pair, partner, slot_of, child_of}
 use Rattle.order.specs.Order.{placed}
 use Rattle.order.proofs.Arrays.{eight_at, eight-set}
 use Rattle.order.proofs.Lists.{All, all_map}
+use Rattle.order.proofs.Padded.{padded_at}
 use Rattle.order.proofs.Partners.{Apart, partner_none, partner_own, child_slot, OneToOne}
 
 -- a pair in front sets its key's place
@@ -57,19 +58,12 @@ flat-same f g u v (p ∷ ps) h = ap₂ (λ (x y : List _). x ++ y) h.0 (flat-sam
 
 -- ---- what fills a list up to eight lists nothing
 module _ {A : Type 0} (none : A) where
-  pad_at : (xs : List A) (m i : ℕ) → get_or (xs ++ replicate m none) i none ≡ get_or xs i none
-  pad_at [] zero i = refl
-  pad_at [] (suc m) zero = refl
-  pad_at [] (suc m) (suc i) = pad_at [] m i
-  pad_at (x ∷ xs) m zero = refl
-  pad_at (x ∷ xs) m (suc i) = pad_at xs m i
-
   eight-padded : (xs : List A) → length xs ≤ 8 → eight_of (λ i. get_or xs i none) ≡ padded none xs
   unfolding padded
   eight-padded xs few =
       ext_get_or none (eight_of (λ i. get_or xs i none)) (xs ++ replicate (8 - length xs) none)
       (omega (arith, length-append xs (replicate (8 - length xs) none), length-replicate (8 - length xs) none))
-      (λ i l. eight_at (λ i. get_or xs i none) none i l ∙ sym (pad_at xs (8 - length xs) i))
+      (λ i l. eight_at (λ i. get_or xs i none) none i l ∙ sym (padded_at none xs i))
 
   flat-padded : {B : Type 0} (g : A → List B) → g none ≡ [] → (xs : List A) (m : ℕ) → flat_map g (xs ++ replicate m none) ≡ flat_map g xs
   unfolding flat_map
@@ -113,16 +107,23 @@ module _ {A B : Type 0} (none : A) (g : A → List B) (e : g none ≡ []) (ps : 
       (all_map (λ p. child_of ps p.slot ≡ p.child) (λ p. listed (child_of ps p.slot) ≡ listed p.child) ps (λ p d. ap listed d)
       (partner_own (λ p. p.slot) (λ p. p.child) ps o.matched.slots_apart))
 
-  placed_permᴰ : Permᴰ (flat_map g (placed none ps xs)) (flat_map g xs)
-  unfolding placed flat_map
-  placed_permᴰ =
+  seated_permᴰ : Permᴰ (flat_map listed (map (λ p. p.child) ps)) (flat_map g xs)
+  unfolding flat_map
+  seated_permᴰ =
       let m = o.matched in
       let below : All (λ p. p.child < 8) ps = all_map (λ p. p.child < length xs) (λ p. p.child < 8) ps (λ p l. omega arith) m.children in
-      Permᴰ.trans (by_key listed (listed_past 8 few) (λ p. p.slot) (λ p. p.child) ps m.slots m.slots_apart)
-      (subst (λ (l : List B). Permᴰ (flat_map listed (map (λ p. p.child) ps)) l) in_gathered_order
+      subst (λ (l : List B). Permᴰ (flat_map listed (map (λ p. p.child) ps)) l) in_gathered_order
       (subst (λ (l : List B). Permᴰ l (flat_map (λ s. listed (child_of ps s)) (eight_of (slot_of ps)))) in_pair_order
       (Permᴰ.symm (by_key (λ s. listed (child_of ps s)) (ap listed no_ninth ∙ listed_past 8 few) (λ p. p.child) (λ p. p.slot) ps below
-      m.children_apart))))
+      m.children_apart)))
+
+  placed_permᴰ : Permᴰ (flat_map g (placed none ps xs)) (flat_map g xs)
+  unfolding placed flat_map
+  placed_permᴰ = Permᴰ.trans (by_key listed (listed_past 8 few) (λ p. p.slot) (λ p. p.child) ps o.matched.slots o.matched.slots_apart) seated_permᴰ
 
   pub placed_perm : Perm (flat_map g (placed none ps xs)) (flat_map g xs)
   placed_perm = ∣ placed_permᴰ ∣₁
+
+  -- in the order seated as well
+  pub seated_perm : Perm (flat_map listed (map (λ p. p.child) ps)) (flat_map g xs)
+  seated_perm = ∣ seated_permᴰ ∣₁
