@@ -75,7 +75,7 @@ module _ (key value : Pair → ℕ) where
       later (q ∷ qs) h r = (rw (ne_eqb (key p) (key q) (λ e. h.0 (sym e))) r.0, later qs h.1 r.1)
 
   -- what is found comes from a pair
-  partner_of : (P : Pair → Type 0) (ps : List Pair) → All P ps → (k : ℕ)
+  pub partner_of : (P : Pair → Type 0) (ps : List Pair) → All P ps → (k : ℕ)
       → (partner key value ps k ≡ 8) ⊎ ((p : Pair) × P p × (key p ≡ k) × (partner key value ps k ≡ value p))
   unfolding partner
   partner_of P [] h k = inl refl

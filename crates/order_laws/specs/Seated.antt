@@ -1,6 +1,6 @@
 -- What is claimed of the order in which children take their slots (02, [5]; the rule: 01, "Corners of each file", bvh2_to_cwbvh.rs, Ordering). `a` is
 -- what `assign` gives for n children.
-use Rattle.std.specs.Prelude.{false, true, ◌⊎◌, ◌≡◌, List, ℕ, suc, ◌≤◌, ◌<◌, get_or, Float}
+use Rattle.std.specs.Prelude.{false, true, ◌⊎◌, ◌≡◌, ℕ, suc, ◌≤◌, ◌<◌, get_or, Float}
 use Rattle.std.specs.Float.Ieee.{lt}
 use Rattle.order.specs.Assign.{Pair, greatest_finite, assigned, slot_of, child_of}
 use Rattle.order.specs.Lists.{eight_of}
@@ -45,7 +45,7 @@ module _ (cost : Pair → Float) (n : ℕ) (a : Assignment) where
     pub waits : (k : ℕ) → k < a.rounds → (c : ℕ) × (c < n) × ((j : ℕ) → j < k → (seated_in a j).child ≡ c → ⊥)
     pub none : (p : Pair) → Free a.count p → ⊥
 
-  -- The same slots come out, however often a search is repeated that finds nothing.
+  -- The same slots come out after any number of rounds from there on, those included that find nothing.
   pub record SameSlots : Type 0 where
-    pub slots : (m : ℕ) → a.rounds ≤ m → eight_of (slot_of (assigned cost n m)) ≡ a.slot
-    pub children : (m : ℕ) → a.rounds ≤ m → eight_of (child_of (assigned cost n m)) ≡ a.child
+    pub slots : (m : ℕ) → a.count ≤ m → eight_of (slot_of (assigned cost n m)) ≡ a.slot
+    pub children : (m : ℕ) → a.count ≤ m → eight_of (child_of (assigned cost n m)) ≡ a.child
