@@ -58,7 +58,7 @@ flat-same f g u v (p ∷ ps) h = ap₂ (λ (x y : List _). x ++ y) h.0 (flat-sam
 
 -- ---- what fills a list up to eight lists nothing
 module _ {A : Type 0} (none : A) where
-  eight-padded : (xs : List A) → length xs ≤ 8 → eight_of (λ i. get_or xs i none) ≡ padded none xs
+  pub eight-padded : (xs : List A) → length xs ≤ 8 → eight_of (λ i. get_or xs i none) ≡ padded none xs
   unfolding padded
   eight-padded xs few =
       ext_get_or none (eight_of (λ i. get_or xs i none)) (xs ++ replicate (8 - length xs) none)

@@ -44,7 +44,7 @@ module _ (cost : Pair → Float) (n : ℕ) (few : n ≤ 8) where
   slot_at : (c : ℕ) → c < 8 → get_or a.slot c 8 ≡ slot_of ps c
   slot_at c l = eight_at (slot_of ps) 8 c l
 
-  pair_at : (k : ℕ) → k < length ps → seated_in a k ≡ get_or ps k no_pair
+  pub pair_at : (k : ℕ) → k < length ps → seated_in a k ≡ get_or ps k no_pair
   pair_at k l =
       let p = get_or ps k no_pair in
       let e : get_or a.seated k 8 ≡ p.child = child_at k in
@@ -53,6 +53,12 @@ module _ (cost : Pair → Float) (n : ℕ) (few : n ≤ 8) where
       ∙ slot_at p.child (all_at (λ q. q.child < 8) ps k no_pair l below)
       ∙ all_at (λ q. slot_of ps q.child ≡ q.slot) ps k no_pair l (partner_own (λ q. q.child) (λ q. q.slot) ps m.children_apart) in
       λ i. record { child = e i; slot = s i }
+
+  -- the slot's child is the child itself
+  pub child_in : (k : ℕ) → k < length ps → child_of ps (seated_in a k).slot ≡ (seated_in a k).child
+  child_in k l =
+      subst (λ (p : Pair). child_of ps p.slot ≡ p.child) (sym (pair_at k l))
+      (all_at (λ q. child_of ps q.slot ≡ q.child) ps k no_pair l (partner_own (λ q. q.slot) (λ q. q.child) ps m.slots_apart))
 
   -- one of the first k pairs
   before_at : (k j : ℕ) → k ≤ length ps → j < k → get_or (take k ps) j no_pair ≡ seated_in a j
