@@ -11,6 +11,5 @@ pub mod Partners
 pub mod Permutation
 pub mod Placed
 pub mod Rule
-pub mod Samples
 pub mod Scan
 pub mod Slots

@@ -4,3 +4,4 @@ pub mod NearLimit
 pub mod MinusZero
 pub mod Losses
 pub mod Joins
+pub mod Seated

@@ -1,5 +1,4 @@
 use mathlib.Core.Path.{ap}
-use native.Mathlib.Nat.{lt_of_lt_of_le}
 use native.Mathlib.Omega.{arith}
 use Rattle.order.specs.Lists.{padded}
 use Rattle.order.specs.Assign.{partner}
@@ -46,7 +45,7 @@ pub offset_bounds-seated-count : goal.offset_bounds-seated-count
 offset_bounds-seated-count c = record { fits = omega (arith, c.requires, c.loop-count-test.true) }
 
 pub bounds-seated-count : goal.bounds-seated-count
-bounds-seated-count c = lt_of_lt_of_le c.loop-count-test.true c.requires
+bounds-seated-count c = omega (arith, c.requires, c.loop-count-test.true)
 
 pub overflow_add-count : goal.overflow_add-count
 overflow_add-count c = record { fits = omega (arith, c.requires, c.loop-count-test.true) }
