@@ -13,10 +13,21 @@ import sys
 DROPPED = [("src/cwbvh/mod.rs", r"^\s*assert!\(node\.p\.cmp", 2)]
 
 # The slot test's near limit is the larger of tmin and EPSILON, in the place of EPSILON alone; a NaN tmin gives EPSILON.
-REPLACED = [("src/cwbvh/node.rs", ".max(EPSILON); //ray.tmin?", ".max(EPSILON.max(ray.tmin));")]
+# The slot assignment notes each search that it makes, and the child that takes a slot.
+CONVERTER = "src/cwbvh/bvh2_to_cwbvh.rs"
+SEARCH = "let mut min_cost = f32::MAX;"
+SEAT = "assignment[min_index] = min_slot;"
+REPLACED = [
+    ("src/cwbvh/node.rs", ".max(EPSILON); //ray.tmin?", ".max(EPSILON.max(ray.tmin));"),
+    (CONVERTER, SEARCH, f"crate::seating::search();\n            {SEARCH}"),
+    (CONVERTER, SEAT, f"{SEAT}\n            crate::seating::seat(min_index);"),
+]
 
-# StackStack is used by cwbvh/mod.rs and is in no published file.
-ADDED = [("src/faststack.rs", "pub mod stack_stack;\npub use stack_stack::StackStack;\n")]
+# StackStack is used by cwbvh/mod.rs and is in no published file; nor is what the slot assignment notes.
+ADDED = [
+    ("src/faststack.rs", "pub mod stack_stack;\npub use stack_stack::StackStack;\n"),
+    ("src/lib.rs", "pub mod seating;\n"),
+]
 
 
 def main(folder):

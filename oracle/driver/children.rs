@@ -2,9 +2,11 @@
 use crate::conversions::some_tree;
 use crate::generate::{BOXES, Boxes, Shape, chain, tree};
 use crate::rng::Rng;
+use crate::seats::{costs, nodes, seats, tables};
 use crate::store::*;
 use crate::tree::{Tree, sample_tree};
 use obvhs::cwbvh::bvh2_to_cwbvh::Bvh2Converter;
+use obvhs::seating;
 
 /// Node numbers as bytes, 255 for none.
 fn bytes(numbers: &[u32; 8]) -> Vec<u32> {
@@ -16,7 +18,23 @@ fn bytes(numbers: &[u32; 8]) -> Vec<u32> {
     words_of(&numbers.iter().map(byte).collect::<Vec<_>>())
 }
 
-/// n, the node words, and for each limit from 0 to 3 and each node how many children it gathers, these, and its slots.
+/// The children that the published ordering leaves in slots, those that it seated round by round, and how many searches that took: it makes one
+/// more than it has children, to find none left. The rules, written once more, say the same.
+fn seated(t: &Tree, v: usize, c: &mut Bvh2Converter, gathered: [u32; 8], count: usize) -> ([u32; 8], [u32; 8], u32) {
+    let mut slots = gathered;
+    seating::take();
+    c.order_children(v, &mut slots, count);
+    let noted = seating::take();
+    assert_eq!((noted.searches, noted.seated.len()), (count + 1, count));
+    let boxes: Vec<_> = gathered[..count].iter().map(|&g| t.aabb(g as usize)).collect();
+    let rules = seats(&costs(&t.aabb(v), &boxes), count);
+    assert_eq!((&rules.seated, rules.searches), (&noted.seated, noted.searches - 1));
+    assert_eq!(rules.by_slot(&gathered), slots);
+    (slots, rules.in_order(&gathered), rules.searches as u32)
+}
+
+/// n, the node words, and for each limit from 0 to 3 and each node how many children it gathers, with 256 times the searches that seat them, the
+/// children, its slots, and the children in the order seated.
 fn case(t: &Tree) -> Vec<u32> {
     let bvh2 = t.bvh2();
     let mut w = vec![t.indices.len() as u32];
@@ -27,10 +45,9 @@ fn case(t: &Tree) -> Vec<u32> {
         for v in 0..t.count() {
             let (mut children, mut count) = ([u32::MAX; 8], 0);
             c.get_children(v, &mut children, &mut count, 0);
-            w.push(count);
-            w.extend(bytes(&children));
-            c.order_children(v, &mut children, count as usize);
-            w.extend(bytes(&children));
+            let (slots, order, searches) = seated(t, v, &mut c, children, count as usize);
+            w.push(count + 256 * searches);
+            [children, slots, order].iter().for_each(|numbers| w.extend(bytes(numbers)));
         }
     }
     w
@@ -67,5 +84,5 @@ pub fn groups(seed: u64) -> Vec<Group> {
     for k in 0..330 {
         g.add(case(&some_tree(rng, k)));
     }
-    vec![g]
+    vec![g, tables(rng, 400), nodes(rng, 400)]
 }

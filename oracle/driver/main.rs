@@ -30,6 +30,7 @@ mod rng;
 mod run;
 mod samples;
 mod scene;
+mod seats;
 mod show;
 mod small;
 mod store;

@@ -1,4 +1,4 @@
-// The stored cases of children: for each leaf limit and each node of a tree, what it opens into, gathered and by slots.
+// The stored cases of children: for each leaf limit and each node of a tree, what it opens into, gathered, by slots and in the order seated.
 ghost use Rattle.std.specs.Prelude.{◌<◌, ◌≤◌};
 
 use crate::trees::{MOST_WORDS, accepted, node_count};
@@ -19,7 +19,7 @@ fn code(number: u32) -> Option<u8> {
 
 // Whether the eight bytes from word `at` on are these numbers.
 fn same_numbers(case: &[u8], at: usize, numbers: [u32; 8]) -> bool
-    requires { at ≤ 1000002 }
+    requires { at ≤ 1000004 }
 {
     match case.get(at * 4..at * 4 + 8) {
         Some(bytes) => numbers
@@ -40,38 +40,55 @@ fn box_or(words: &[u32], number: u32, other: Aabb) -> Aabb {
     }
 }
 
-// Whether the children found, an array with a count as they are gathered, stand, ordered, in the slots that are stored from word `at` on.
-fn same_slots(
+// Whether the children found, an array with a count as they are gathered, stand, ordered, in the slots that are stored from word `at` on, and are
+// seated in the order stored behind them, by so many searches.
+fn same_seating(
     case: &[u8],
     at: usize,
     words: &[u32],
     parent: Aabb,
     found: [u32; 8],
     count: usize,
+    rounds: usize,
 ) -> bool
     requires { at ≤ 1000002 }
 {
     let boxes = found.map(|number| box_or(words, number, parent));
+    let seating = order::seat_children(true, parent, boxes, found, count);
     same_numbers(case, at, order::order_children(parent, boxes, found, count))
+        && same_numbers(case, at, seating.slots)
+        && same_numbers(case, at + 2, seating.seated)
+        && seating.count == count
+        && seating.rounds == rounds
 }
 
-// Whether a branch's node opens into what is stored from word `at` on: how many children, these in gathered order, and these by slots.
+// Whether a branch's node opens into what is stored from word `at` on: how many children, with 256 times the searches that seat them; these in
+// gathered order, by slots, and in the order seated.
 fn same_children(case: &[u8], at: usize, branch: Branch<'_>) -> bool
     requires { at < 1000000 }
 {
     let mut found = [0xffff_ffffu32; 8];
     let count = children::get_children(branch, &mut found);
     let parent = branch.node_box();
-    count == word(case, at) as usize
+    let told = word(case, at) as usize;
+    count == told % 256
         && same_numbers(case, at + 1, found)
-        && same_slots(case, at + 3, branch.tree.words, parent, found, count)
+        && same_seating(
+            case,
+            at + 3,
+            branch.tree.words,
+            parent,
+            found,
+            count,
+            told / 256,
+        )
 }
 
-// The same for a branch's node and every node below it, five words for each from word `from` on.
+// The same for a branch's node and every node below it, seven words for each from word `from` on.
 fn same_below(case: &[u8], from: usize, branch: Branch<'_>) -> bool
     requires { from ≤ 65536 }
 {
-    if !same_children(case, from + branch.node * 5, branch) {
+    if !same_children(case, from + branch.node * 7, branch) {
         return false;
     }
     let Link::Children(first) = branch.link() else {
@@ -116,14 +133,14 @@ pub fn children(case: &[u8]) -> bool {
         return false;
     }
     let nodes = node_count(n);
-    if case.len() / 4 != 1 + 27 * nodes {
+    if case.len() / 4 != 1 + 35 * nodes {
         return false;
     }
     let mut space = [0u32; MOST_WORDS];
     let words: &mut [u32] = &mut space[..nodes * 7];
     copy_words(behind(case, 1), words);
     match accepted(words, n) {
-        Some(tree) => same_limits(case, 1 + nodes * 7, nodes * 5, tree),
+        Some(tree) => same_limits(case, 1 + nodes * 7, nodes * 7, tree),
         None => false,
     }
 }
