@@ -33,6 +33,23 @@ fn seated(t: &Tree, v: usize, c: &mut Bvh2Converter, gathered: [u32; 8], count: 
     (slots, rules.in_order(&gathered), rules.searches as u32)
 }
 
+/// What node v of a tree opens into by a converter's decisions: how many children, these as gathered, by slots and in the order seated, and the
+/// searches that seat them.
+fn opened(t: &Tree, v: usize, c: &mut Bvh2Converter) -> (u32, [[u32; 8]; 3], u32) {
+    let (mut children, mut count) = ([u32::MAX; 8], 0);
+    c.get_children(v, &mut children, &mut count, 0);
+    let (slots, order, searches) = seated(t, v, c, children, count as usize);
+    (count, [children, slots, order], searches)
+}
+
+/// Sees to it that the published ordering and the rules agree on every node of a tree, and gives how many children they seated.
+pub fn agreed(t: &Tree, limit: u32) -> u64 {
+    let bvh2 = t.bvh2();
+    let mut c = Bvh2Converter::new(&bvh2, true, false);
+    c.calculate_cost(limit);
+    (0..t.count()).map(|v| opened(t, v, &mut c).0 as u64).sum()
+}
+
 /// n, the node words, and for each limit from 0 to 3 and each node how many children it gathers, with 256 times the searches that seat them, the
 /// children, its slots, and the children in the order seated.
 fn case(t: &Tree) -> Vec<u32> {
@@ -43,11 +60,9 @@ fn case(t: &Tree) -> Vec<u32> {
         let mut c = Bvh2Converter::new(&bvh2, true, false);
         c.calculate_cost(limit);
         for v in 0..t.count() {
-            let (mut children, mut count) = ([u32::MAX; 8], 0);
-            c.get_children(v, &mut children, &mut count, 0);
-            let (slots, order, searches) = seated(t, v, &mut c, children, count as usize);
+            let (count, lists, searches) = opened(t, v, &mut c);
             w.push(count + 256 * searches);
-            [children, slots, order].iter().for_each(|numbers| w.extend(bytes(numbers)));
+            lists.iter().for_each(|numbers| w.extend(bytes(numbers)));
         }
     }
     w

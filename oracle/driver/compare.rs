@@ -1,6 +1,7 @@
 //! Runs the published code and the rules on many random trees and rays, and stores nothing.
 use crate::accept::{Room, conversion_refusal};
 use crate::checks::{damage, forward, validated};
+use crate::children;
 use crate::conversions::some_tree;
 use crate::convert::{Converted, convert};
 use crate::generate::{BOXES, Shape, tree};
@@ -124,6 +125,7 @@ pub fn run(seed: u64, trees: usize) -> bool {
     let mut rng = Rng::new(seed);
     let rng = &mut rng;
     let (mut converted, mut deep, mut rays) = (0, 0, Rays::new(seed));
+    let mut seated = 0;
     let mut joins = Joins { rng: Rng::new(seed), seen: Seen::default(), refused: 0 };
     let (mut sound, mut damaged, mut laxer, mut stricter) = (0, 0, 0, 0);
     for k in 0..trees {
@@ -131,7 +133,9 @@ pub fn run(seed: u64, trees: usize) -> bool {
         let t = if k % 50 == 0 { large_tree(rng, k) } else { some_tree(rng, k) };
         let n = t.indices.len();
         assert_eq!(conversion_refusal(&t, 3, Room::needed(n)), 0);
-        let c = convert(&t, rng.below(4) as u32, rng.once_in(2));
+        let limit = rng.below(4) as u32;
+        let c = convert(&t, limit, rng.once_in(2));
+        seated += children::agreed(&t, limit);
         if c.deepest > 31 {
             deep += 1;
             continue;
@@ -165,6 +169,7 @@ pub fn run(seed: u64, trees: usize) -> bool {
         rays.compare(rng, &t, &c);
     }
     println!("trees converted: {converted} (and {deep} with a level over 31); sound by both: {sound}");
+    println!("children seated: {seated}, in the published order and by one search fewer for each node");
     println!("damaged records: {damaged}; unsound, yet validated: {laxer}; sound, yet not validated: {stricter}");
     rays.print();
     joins.print();

@@ -7,9 +7,12 @@ use crate::record::{Verdict, check};
 use crate::rng::Rng;
 use crate::scene::{Scene, endless, through_t};
 use crate::small::{Small, records};
+use crate::tree::{Tree, sample_tree};
 use glam::{Vec3A, power_of_two_not_below, vec3a};
 use obvhs::aabb::Aabb;
+use obvhs::cwbvh::bvh2_to_cwbvh::Bvh2Converter;
 use obvhs::ray::{Ray, RayHit};
+use obvhs::seating;
 
 fn scaled(extent: f32) -> f32 {
     extent.max(1e-20) * (1.0 / 255.0)
@@ -144,9 +147,25 @@ fn refusals() {
     println!("tmin NaN: published any-hit tests {} nodes, refused 9", query::any_hit(&bvh, r).tests);
 }
 
+/// The published slot assignment to the two children of T's root, and where a child's box makes all its costs NaN.
+fn slots() {
+    let mut t = sample_tree();
+    let ordered = |t: &Tree| {
+        let bvh2 = t.bvh2();
+        seating::take();
+        Bvh2Converter::new(&bvh2, true, false).order_children(0, &mut [1, 2, !0, !0, !0, !0, !0, !0], 2);
+        seating::take().searches
+    };
+    println!("ordering the children of T: published makes {} searches, the rules 2", ordered(&t));
+    t.nodes[7] = f32::NAN.to_bits();
+    let ends = if std::panic::catch_unwind(|| ordered(&t)).is_err() { "panics" } else { "ends" };
+    println!("with a NaN in the first child's box: published {ends}, the rules leave that child without a slot");
+}
+
 pub fn run() -> bool {
     std::panic::set_hook(Box::new(|_| {}));
     refusals();
+    slots();
     zeros();
     hidden_panes();
     negative_zero();
