@@ -224,7 +224,8 @@ fn place(children: [u32; 8], child: [usize; 8]) -> [u32; 8]
     child.map(|c| child_or_none(children, c))
 }
 
-// The assignment by cost of the first `count` children of a node.
+// The assignment by cost of the first `count` children of a node. Compiled into both callers: what `order_children` leaves unread costs it nothing.
+#[inline(always)]
 fn by_cost(parent: Aabb, boxes: [Aabb; 8], count: usize) -> Assignment
     ensures { result ≡ (let bs = take count boxes in assigned_arrays (cost_in (cost_table parent bs)) (length bs)) }
 {
