@@ -62,11 +62,12 @@ assigned cost n (suc k) = let ps = assigned cost n k in ps ++ next_pair cost n p
 abbrev pub assignment : (Pair → Float) → ℕ → List Pair
 assignment cost n = assigned cost n n
 
--- how many searches over the children and slots end with these pairs of n children: each found a pair, and one more none if a child is left
+-- How many searches over children and slots end with these pairs of n children: each pair took one, and where a child is left without a slot one more
+-- found nothing.
 unfoldable pub rounds_of : ℕ → List Pair → ℕ
 rounds_of n ps = cond (ltb (length ps) n) (suc (length ps)) (length ps)
 
--- the slot of each child, the child of each slot and the children in the order seated, as arrays; how many are seated, and by how many searches
+-- as arrays the slot of each child, the child of each slot and the children in the order seated; how many these are, and by how many searches
 abbrev pub arrays_of : ℕ → List Pair → Assignment
 arrays_of rounds ps = record {
   slot = eight_of (slot_of ps);

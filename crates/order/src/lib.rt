@@ -217,11 +217,11 @@ fn child_or_none(children: [u32; 8], c: usize) -> u32
     children.get(c).copied().unwrap_or(0xffff_ffff)
 }
 
-// The children that `child` names for each slot.
-fn place(children: [u32; 8], child: [usize; 8]) -> [u32; 8]
-    ensures { result ≡ map (λ c. get_or children c 0xffff_ffff) child }
+// The children at these places of the gathered order.
+fn place(children: [u32; 8], places: [usize; 8]) -> [u32; 8]
+    ensures { result ≡ map (λ c. get_or children c 0xffff_ffff) places }
 {
-    child.map(|c| child_or_none(children, c))
+    places.map(|c| child_or_none(children, c))
 }
 
 // The assignment by cost of the first `count` children of a node. Compiled into both callers: what `order_children` leaves unread costs it nothing.

@@ -125,6 +125,7 @@ module _ (cost : Pair → Float) (n : ℕ) (few : n ≤ 8) where
   seated_once = record {
     apart = λ i j l h. (seated_by_round j h).fits.waits i l;
     has_slot = λ k h. let f = (seated_by_round k h).fits in (f.child, f.slot);
+    has_child = λ k h. eight_at (child_of ps) 8 (seated_in a k).slot (seated_by_round k h).fits.slot ∙ child_in k h;
     stands = stands;
     behind = λ k h. child_at k ∙ ap (λ (p : Pair). p.child) (get_or-eq_default ps no_pair {n = k} h);
   }

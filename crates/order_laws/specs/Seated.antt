@@ -19,7 +19,7 @@ module _ (cost : Pair → Float) (n : ℕ) (a : Assignment) where
     pub free : (j : ℕ) → j < k → (seated_in a j).slot ≡ p.slot → ⊥
     pub below : lt (cost p) greatest_finite ≡ true
 
-  -- 01's rule: of the pairs that round k may take none is cheaper than p, and of those as cheap p has the lowest child, and of that child the lowest slot.
+  -- By the rule round k takes p: of the pairs that it may take none is cheaper, and of those as cheap p has the lowest child and in it the lowest slot.
   pub record ByRule (k : ℕ) (p : Pair) : Type 0 where
     pub fits : Free k p
     pub least : (q : Pair) → Free k q → lt (cost q) (cost p) ≡ false
@@ -29,10 +29,11 @@ module _ (cost : Pair → Float) (n : ℕ) (a : Assignment) where
   abbrev pub SeatedByRound : Type 0
   SeatedByRound = (k : ℕ) → k < a.count → ByRule k (seated_in a k)
 
-  -- A child stands among those seated exactly if it has a slot, and once; behind them stands 8.
+  -- A child stands among those seated exactly if it has a slot, which then has it, and once; behind them stands 8.
   pub record SeatedOnce : Type 0 where
     pub apart : (i j : ℕ) → i < j → j < a.count → (seated_in a i).child ≡ (seated_in a j).child → ⊥
     pub has_slot : (k : ℕ) → k < a.count → ((seated_in a k).child < n) × ((seated_in a k).slot < 8)
+    pub has_child : (k : ℕ) → k < a.count → get_or a.child (seated_in a k).slot 8 ≡ (seated_in a k).child
     pub stands : (c : ℕ) → get_or a.slot c 8 < 8 → (k : ℕ) × (k < a.count) × ((seated_in a k).child ≡ c)
     pub behind : (k : ℕ) → a.count ≤ k → get_or a.seated k 8 ≡ 8
 
