@@ -15,7 +15,8 @@ use lib.Ieee.{Float}
 use borrow.Author.Tests.{lt-ltb, le-ltb}
 use Rattle.words.proofs.Upto.{eight}
 use Rattle.order.specs.Lists.{eight_of, padded}
-use Rattle.order.specs.Assign.{Pair, cost_in, pairs, partner, slot_of, child_of, next_pair, assigned, assignment, rounds_of, arrays_of, assigned_arrays}
+use Rattle.order.specs.Assign.{Pair, cost_in, pairs, partner, slot_of, child_of, next_pair, assigned, assignment}
+use Rattle.order.specs.Assign.{rounds_of, arrays_of, assigned_arrays}
 use Rattle.order.specs.Scan.{priced, first_or, best_open}
 use Rattle.order.specs.declared.Assignment.{Assignment}
 use Rattle.order.specs.declared.Best.{Best}
@@ -38,10 +39,10 @@ eight-set f g i v h e k = ext_get_or v (set (eight_of f) i v) (eight_of g) (leng
     at j l (no d) = get_or-set_other (eight_of f) i j v v d ∙ eight_at f v j l ∙ sym (k j d) ∙ sym (eight_at g v j l)
 
 -- one pair more
-pub array_next : (key value : Pair → ℕ) (ps : List Pair) (p : Pair) (xs : List ℕ) → xs ≡ eight_of (partner key value ps) → All (λ q. value q < 8) ps
+pub partners_next : (key value : Pair → ℕ) (ps : List Pair) (p : Pair) (xs : List ℕ) → xs ≡ eight_of (partner key value ps) → All (λ q. value q < 8) ps
     → key p < 8
     → partner key value ps (key p) ≡ 8 → set xs (key p) (value p) ≡ eight_of (partner key value (ps ++ (p ∷ [])))
-array_next key value ps p xs e h l f =
+partners_next key value ps p xs e h l f =
     ap (λ (z : List ℕ). set z (key p) (value p)) e
     ∙ eight-set (partner key value ps) (partner key value (ps ++ (p ∷ []))) (key p) (value p) l (partner-same key value ps p h f)
     (partner_other key value ps p)
@@ -63,8 +64,8 @@ pub arrays_next : (ps : List Pair) (p : Pair) (rounds : ℕ) (a : Assignment) �
     }) (arrays_of rounds (ps ++ (p ∷ [])))
 arrays_next ps p rounds a m c s w f l h =
     arrays_are _ rounds (ps ++ (p ∷ []))
-    (array_next (λ q. q.child) (λ q. q.slot) ps p a.slot (ap (λ (z : Assignment). z.slot) h) m.slots c w)
-    (array_next (λ q. q.slot) (λ q. q.child) ps p a.child (ap (λ (z : Assignment). z.child) h) m.children s f)
+    (partners_next (λ q. q.child) (λ q. q.slot) ps p a.slot (ap (λ (z : Assignment). z.slot) h) m.slots c w)
+    (partners_next (λ q. q.slot) (λ q. q.child) ps p a.child (ap (λ (z : Assignment). z.child) h) m.children s f)
     (ap (λ (z : Assignment). set z.seated z.count p.child) h
     ∙ padded_next 8 (map (λ q. q.child) ps) (length ps) p.child (length-map ps (λ q. q.child)) l
     ∙ ap (padded 8) (sym (map-append (λ q. q.child) ps (p ∷ []))))
@@ -86,7 +87,8 @@ module _ (table : List (List Float)) (n : ℕ) where
   unfolding best_open
   next_found few k a b h e =
       e
-      ∙ best_alike (λ c. get_or a.slot c 0) (λ s. get_or a.child s 0) (slot_of (after k)) (child_of (after k)) (cost_in table) (cost_in table) (pairs n)
+      ∙ best_alike (λ c. get_or a.slot c 0) (λ s. get_or a.child s 0) (slot_of (after k)) (child_of (after k)) (cost_in table) (cost_in table)
+      (pairs n)
       (pairs-all (Alike (λ c. get_or a.slot c 0) (λ s. get_or a.child s 0) (slot_of (after k)) (child_of (after k)) (cost_in table) (cost_in table)) n
       (λ c s l m. record {
         slots = ap (λ (z : Assignment). get_or z.slot c 0) h.arrays ∙ eight_at (slot_of (after k)) 0 c (lt_of_lt_of_le l few);

@@ -11,7 +11,8 @@ use borrow.Author.Tests.{ne_eqb}
 use Rattle.order.specs.Assign.{Pair, slot_of, child_of}
 use Rattle.order.specs.Order.{gathered_order}
 use Rattle.order.proofs.Lists.{All, all_append}
-use Rattle.order.proofs.Partners.{partner-same, partner_other, partner_none, Matched, matched_none, matched_of_more, matched_pair, OneToOne, one_to_one}
+use Rattle.order.proofs.Partners.{partner-same, partner_other, partner_none, Matched, matched_none, matched_of_more, matched_pair}
+use Rattle.order.proofs.Partners.{OneToOne, one_to_one}
 
 abbrev own : ℕ → Pair
 own n = record { child = n; slot = n }

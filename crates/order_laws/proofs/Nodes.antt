@@ -53,7 +53,8 @@ module _ {B : Type 0} (v : ℕ → B) where
       (subst (λ (l : List B). Perm (flat_map (λ c. g (get_or (upto 0 n) c 8)) (map (λ p. p.child) ps)) l)
       (flat_ones g (upto 0 n) (all_by_index (λ c. g c ≡ v c ∷ []) (upto 0 n) 8
       (λ i l. let k : i < n = omega (arith, l, upto-length 0 n) in ap g (upto_at n i k) ∙ one i k ∙ ap (λ (c : ℕ). v c ∷ []) (sym (upto_at n i k)))))
-      (seated_perm 8 g (none (le-ltb 8 n few)) ps (upto 0 n) (omega (arith, upto-length 0 n)) (subst (λ (m : ℕ). OneToOne m ps) (sym (upto-length 0 n)) o)))
+      (seated_perm 8 g (none (le-ltb 8 n few)) ps (upto 0 n) (omega (arith, upto-length 0 n))
+      (subst (λ (m : ℕ). OneToOne m ps) (sym (upto-length 0 n)) o)))
     where
       g : ℕ → List B
       g c = cond (ltb c n) (v c ∷ []) []
@@ -120,9 +121,9 @@ module _ (parent : Aabb) (boxes : List Aabb) (few : length boxes ≤ 8) where
   pairs ordered = slots_of ordered parent boxes
 
   -- as many searches as children, if all have a slot
-  rounds_all : (ps : List Pair) → length ps ≡ length boxes → rounds_of (length boxes) ps ≡ length boxes
+  one_each : (ps : List Pair) → length ps ≡ length boxes → rounds_of (length boxes) ps ≡ length boxes
   unfolding rounds_of
-  rounds_all ps e = rw (e, le-ltb (length boxes) (length boxes) (omega arith)) refl
+  one_each ps e = rw (e, le-ltb (length boxes) (length boxes) (omega arith)) refl
 
   pub all_places : T (accepted_box parent) → AcceptedAll boxes → AllPlaces parent boxes
   unfolding slots_of
@@ -131,7 +132,7 @@ module _ (parent : Aabb) (boxes : List Aabb) (few : length boxes ≤ 8) where
       let order = map (λ q. q.child) (pairs true) in
       record {
         count = o.all;
-        rounds = rounds_all (pairs true) o.all;
+        rounds = one_each (pairs true) o.all;
         rearranged = subst (λ (l : List ℕ). Perm l (upto 0 (length boxes)))
             (map-id order ∙ sym (front 8 order) ∙ ap (λ (k : ℕ). take k (padded 8 order)) (length-map (pairs true) (λ q. q.child)))
             (subst (Perm (map (λ c. c) order)) (map-id (upto 0 (length boxes))) (places_perm (λ c. c) (length boxes) (pairs true) few o));
@@ -176,7 +177,7 @@ module _ (parent : Aabb) (boxes : List Aabb) (few : length boxes ≤ 8) where
           let numbers = map (λ q. get_or children q.child no_child) (pairs ordered) in
           record {
             count = o.all;
-            rounds = ap (λ (r : ℕ). cond ordered r 0) (rounds_all (pairs ordered) o.all);
+            rounds = ap (λ (r : ℕ). cond ordered r 0) (one_each (pairs ordered) o.all);
             rearranged = subst (λ (l : List ℕ). Perm l children)
                 (map-map (λ c. get_or children c no_child) (λ q. q.child) (pairs ordered)
                 ∙ sym (front no_child numbers)

@@ -31,11 +31,11 @@ module _ (cost : Pair → Float) (n : ℕ) (few : n ≤ 8) where
   abbrev a : Assignment
   a = assigned_arrays cost n
 
-  abbrev m : Matched n ps
-  m = matched_after cost n few n
+  abbrev matched : Matched n ps
+  matched = matched_after cost n few n
 
   below : All (λ p. p.child < 8) ps
-  below = all_map (λ p. p.child < n) (λ p. p.child < 8) ps (λ p l. lt_of_lt_of_le l few) m.children
+  below = all_map (λ p. p.child < n) (λ p. p.child < 8) ps (λ p l. lt_of_lt_of_le l few) matched.children
 
   -- ---- the arrays and the pairs
   child_at : (k : ℕ) → get_or a.seated k 8 ≡ (get_or ps k no_pair).child
@@ -51,27 +51,29 @@ module _ (cost : Pair → Float) (n : ℕ) (few : n ≤ 8) where
       let s : get_or a.slot (get_or a.seated k 8) 8 ≡ p.slot =
       ap (λ (c : ℕ). get_or a.slot c 8) e
       ∙ slot_at p.child (all_at (λ q. q.child < 8) ps k no_pair l below)
-      ∙ all_at (λ q. slot_of ps q.child ≡ q.slot) ps k no_pair l (partner_own (λ q. q.child) (λ q. q.slot) ps m.children_apart) in
+      ∙ all_at (λ q. slot_of ps q.child ≡ q.slot) ps k no_pair l (partner_own (λ q. q.child) (λ q. q.slot) ps matched.children_apart) in
       λ i. record { child = e i; slot = s i }
 
   -- the slot's child is the child itself
   pub child_in : (k : ℕ) → k < length ps → child_of ps (seated_in a k).slot ≡ (seated_in a k).child
   child_in k l =
       subst (λ (p : Pair). child_of ps p.slot ≡ p.child) (sym (pair_at k l))
-      (all_at (λ q. child_of ps q.slot ≡ q.child) ps k no_pair l (partner_own (λ q. q.slot) (λ q. q.child) ps m.slots_apart))
+      (all_at (λ q. child_of ps q.slot ≡ q.child) ps k no_pair l (partner_own (λ q. q.slot) (λ q. q.child) ps matched.slots_apart))
 
   -- one of the first k pairs
   before_at : (k j : ℕ) → k ≤ length ps → j < k → get_or (take k ps) j no_pair ≡ seated_in a j
   before_at k j h l = get_or-take k ps j no_pair l ∙ sym (pair_at j (lt_of_lt_of_le l h))
 
   -- ---- what is free before round k is what the pairs so far leave open
-  apart_from : (key : Pair → ℕ) (k x : ℕ) → k ≤ length ps → ((j : ℕ) → j < k → key (seated_in a j) ≡ x → ⊥) → All (λ q. key q ≡ x → ⊥) (assigned cost n k)
+  apart_from : (key : Pair → ℕ) (k x : ℕ) → k ≤ length ps → ((j : ℕ) → j < k → key (seated_in a j) ≡ x → ⊥)
+      → All (λ q. key q ≡ x → ⊥) (assigned cost n k)
   apart_from key k x h f =
       subst (All (λ q. key q ≡ x → ⊥)) (sym (rounds_before cost n n k h))
       (all_by_index (λ q. key q ≡ x → ⊥) (take k ps) no_pair
       (λ j l e. f j (omega (arith, l, length-take-le k ps h)) (ap key (sym (before_at k j h (omega (arith, l, length-take-le k ps h)))) ∙ e)))
 
-  from_apart : (key : Pair → ℕ) (k x : ℕ) → k ≤ length ps → All (λ q. key q ≡ x → ⊥) (assigned cost n k) → (j : ℕ) → j < k → key (seated_in a j) ≡ x → ⊥
+  from_apart : (key : Pair → ℕ) (k x : ℕ) → k ≤ length ps → All (λ q. key q ≡ x → ⊥) (assigned cost n k)
+      → (j : ℕ) → j < k → key (seated_in a j) ≡ x → ⊥
   from_apart key k x h f j l e =
       all_at (λ q. key q ≡ x → ⊥) (take k ps) j no_pair (omega (arith, l, length-take-le k ps h))
       (subst (All (λ q. key q ≡ x → ⊥)) (rounds_before cost n n k h) f) (ap key (before_at k j h l) ∙ e)

@@ -19,7 +19,8 @@ module _ (cost : Pair → Float) (n : ℕ) (a : Assignment) where
     pub free : (j : ℕ) → j < k → (seated_in a j).slot ≡ p.slot → ⊥
     pub below : lt (cost p) greatest_finite ≡ true
 
-  -- By the rule round k takes p: of the pairs that it may take none is cheaper, and of those as cheap p has the lowest child and in it the lowest slot.
+  -- By the rule round k takes p: of the pairs that it may take none is cheaper, and of those as cheap p has the lowest child, of these the lowest
+  -- slot.
   pub record ByRule (k : ℕ) (p : Pair) : Type 0 where
     pub fits : Free k p
     pub least : (q : Pair) → Free k q → lt (cost q) (cost p) ≡ false
