@@ -39,16 +39,16 @@ eight-set f g i v h e k = ext_get_or v (set (eight_of f) i v) (eight_of g) (leng
     at j l (no d) = get_or-set_other (eight_of f) i j v v d ∙ eight_at f v j l ∙ sym (k j d) ∙ sym (eight_at g v j l)
 
 -- one pair more
-pub partners_next : (key value : Pair → ℕ) (ps : List Pair) (p : Pair) (xs : List ℕ) → xs ≡ eight_of (partner key value ps) → All (λ q. value q < 8) ps
-    → key p < 8
-    → partner key value ps (key p) ≡ 8 → set xs (key p) (value p) ≡ eight_of (partner key value (ps ++ (p ∷ [])))
+pub partners_next : (key value : Pair → ℕ) (ps : List Pair) (p : Pair) (xs : List ℕ) → xs ≡ eight_of (partner key value ps)
+    → All (λ q. value q < 8) ps → key p < 8 → partner key value ps (key p) ≡ 8
+    → set xs (key p) (value p) ≡ eight_of (partner key value (ps ++ (p ∷ [])))
 partners_next key value ps p xs e h l f =
     ap (λ (z : List ℕ). set z (key p) (value p)) e
     ∙ eight-set (partner key value ps) (partner key value (ps ++ (p ∷ []))) (key p) (value p) l (partner-same key value ps p h f)
     (partner_other key value ps p)
 
 -- field by field
-pub arrays_are : (a : Assignment) (rounds : ℕ) (ps : List Pair) → a.slot ≡ eight_of (slot_of ps) → a.child ≡ eight_of (child_of ps)
+arrays_are : (a : Assignment) (rounds : ℕ) (ps : List Pair) → a.slot ≡ eight_of (slot_of ps) → a.child ≡ eight_of (child_of ps)
     → a.seated ≡ padded 8 (map (λ p. p.child) ps) → a.count ≡ length ps → a.rounds ≡ rounds → a ≡ arrays_of rounds ps
 arrays_are a rounds ps p q s c r = λ i. record { slot = p i; child = q i; seated = s i; count = c i; rounds = r i }
 
