@@ -116,7 +116,7 @@ gathered_seated none xs n e =
 
 -- ---- a node's children
 module _ (parent : Aabb) (boxes : List Aabb) (few : length boxes ≤ 8) where
-  -- the pairs, and each with a place of its own
+  -- the pairs, with ordering or without
   abbrev pairs : Bool → List Pair
   pairs ordered = slots_of ordered parent boxes
 
