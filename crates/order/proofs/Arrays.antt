@@ -8,19 +8,20 @@ use native.Mathlib.Decide.{ℕ_discrete}
 use native.Mathlib.Nat.{lt_of_lt_of_le}
 use native.Mathlib.Numerals.{add-one}
 use native.Mathlib.Omega.{arith}
-use lib.Dec.{ltb}
+use lib.Dec.{eqb, ltb}
 use lib.ListN.{length, get_or, set, length-set, length-append, length-map}
 use lib.Seq.{ext_get_or, get_or-set_same, get_or-set_other}
 use lib.Ieee.{Float}
-use borrow.Author.Tests.{lt-ltb, le-ltb}
-use Rattle.words.proofs.Upto.{eight}
+use borrow.Author.Tests.{eqb-false, lt-ltb, le-ltb}
+use Rattle.words.proofs.Upto.{eight, lt_or_ge}
 use Rattle.order.specs.Lists.{eight_of, padded}
 use Rattle.order.specs.Assign.{Pair, cost_in, pairs, partner, slot_of, child_of, next_pair, assigned, assignment}
 use Rattle.order.specs.Assign.{rounds_of, arrays_of, assigned_arrays}
 use Rattle.order.specs.Scan.{priced, first_or, best_open}
 use Rattle.order.specs.declared.Assignment.{Assignment}
 use Rattle.order.specs.declared.Best.{Best}
-use Rattle.order.proofs.Greedy.{Taken, Stuck, round_cases, round_taken, matched_after, stuck_on}
+use Rattle.order.proofs.Counts.{count_none}
+use Rattle.order.proofs.Greedy.{Taken, Stuck, round_cases, round_taken, matched_after, stuck_on, left_after}
 use Rattle.order.proofs.Lists.{All}
 use Rattle.order.proofs.Padded.{padded_next}
 use Rattle.order.proofs.Pairs.{pairs-all}
@@ -115,11 +116,23 @@ module _ (table : List (List Float)) (n : ℕ) where
   pub found : n ≤ 8 → (k : ℕ) (a : Assignment) (b : Best) → Kept k a → b ≡ best_open table a.slot a.child n → (b.slot ≡ 8 → ⊥) → Found k b
   found few k a b h e q = elim (found_cases k b (next_found few k a b h e)) [ inl w ↦ absurd (q w.0) | inr w ↦ w ]
 
+  -- a child that is found waits for a slot, so fewer than all are seated
+  pub found_room : n ≤ 8 → (k : ℕ) (a : Assignment) (b : Best) → Kept k a → Found k b → k < n
+  found_room few k a b h f = elim (lt_or_ge k n) [
+    | inl l ↦ l
+    | inr l ↦
+        let o = f.taken.fits in
+        absurd
+        (eqb-false (slot_of (after k) f.pair.child) 8
+        (count_none (λ c. eqb (slot_of (after k) c) 8) n (omega (arith, l, h.all, (left_after (cost_in table) n few k).children)) f.pair.child o.child)
+        o.waits)
+  ]
+
   pub kept_none : Kept 0 (arrays_of 0 [])
   unfolding assigned
   kept_none = record { arrays = refl; all = refl; most = omega arith }
 
-  pub kept_next : n ≤ 8 → (k : ℕ) (a : Assignment) (b : Best) → Kept k a → Found k b → k < n
+  pub kept_next : n ≤ 8 → (k : ℕ) (a : Assignment) (b : Best) → Kept k a → Found k b
       → Kept (k + 1) (record {
         slot = set a.slot b.child b.slot;
         child = set a.child b.slot b.child;
@@ -127,7 +140,8 @@ module _ (table : List (List Float)) (n : ℕ) where
         count = a.count + 1;
         rounds = a.rounds + 1;
       })
-  kept_next few k a b h f l =
+  kept_next few k a b h f =
+      let l = found_room few k a b h f in
       let r = f.pair in
       let o = f.taken.fits in
       let e : after k ++ (r ∷ []) ≡ after (k + 1) = sym (round_taken (cost_in table) n k r f.taken) ∙ ap after (sym (add-one k)) in

@@ -47,13 +47,17 @@ placed none ps children = eight_of (λ s. get_or children (child_of ps s) none)
 unfoldable pub seated_of : {A : Type 0} → A → List Pair → List A → List A
 seated_of none ps children = padded none (map (λ p. get_or children p.child none) ps)
 
+-- the number that stands where no child is
+abbrev pub no_child : ℕ
+no_child = 0xffff_ffff
+
 -- what `seat_children` gives for up to eight children: without ordering no search is made
 abbrev pub seating_of : Bool → Aabb → List Aabb → List ℕ → Seating
 seating_of ordered parent boxes children =
     let ps = slots_of ordered parent boxes in
     record {
-      slots = placed 0xffff_ffff ps children;
-      seated = seated_of 0xffff_ffff ps children;
+      slots = placed no_child ps children;
+      seated = seated_of no_child ps children;
       count = length ps;
       rounds = cond ordered (rounds_of (length boxes) ps) 0;
     }

@@ -8,7 +8,7 @@ ghost use Rattle.aabb.specs.Aabb.{each, center_of};
 ghost use Rattle.order.specs.Assign.{cost_in, arrays_of, assigned_arrays};
 ghost use Rattle.order.specs.Scan.{cheaper, best_slot, best_open};
 ghost use Rattle.order.specs.Lists.{eight_of, padded};
-ghost use Rattle.order.specs.Order.{sign_of, direction_of, dot_of, direction_cost, cost_table, no_row, gathered_order, slots_of, placed, seating_of};
+ghost use Rattle.order.specs.Order.{sign_of, direction_of, dot_of, direction_cost, cost_table, no_row, no_child, gathered_order, slots_of, placed, seating_of};
 
 use aabb::Aabb;
 use ray::Vec3;
@@ -212,14 +212,14 @@ pub fn direction_costs(parent: Aabb, boxes: [Aabb; 8], count: usize) -> [[f32; 8
 
 // Element c, or all ones where c is not below 8: so a slot without a child is told in the published code, by no Option.
 fn child_or_none(children: [u32; 8], c: usize) -> u32
-    ensures { result ≡ get_or children c 0xffff_ffff }
+    ensures { result ≡ get_or children c no_child }
 {
     children.get(c).copied().unwrap_or(0xffff_ffff)
 }
 
 // The children at these places of the gathered order.
 fn place(children: [u32; 8], places: [usize; 8]) -> [u32; 8]
-    ensures { result ≡ map (λ c. get_or children c 0xffff_ffff) places }
+    ensures { result ≡ map (λ c. get_or children c no_child) places }
 {
     places.map(|c| child_or_none(children, c))
 }
@@ -276,7 +276,7 @@ pub fn seat_children(
 
 // The slots alone of `seat_children` with ordering.
 pub fn order_children(parent: Aabb, boxes: [Aabb; 8], children: [u32; 8], count: usize) -> [u32; 8]
-    ensures { result ≡ placed 0xffff_ffff (slots_of true parent (take count boxes)) (take count children) }
+    ensures { result ≡ placed no_child (slots_of true parent (take count boxes)) (take count children) }
 {
     place(children, by_cost(parent, boxes, count).child)
 }

@@ -19,7 +19,7 @@ use Rattle.aabb.specs.declared.Aabb.{Aabb}
 use Rattle.aabb.specs.Aabb.{accepted_box}
 use Rattle.order.specs.Lists.{eight_of, padded}
 use Rattle.order.specs.Assign.{Pair, child_of, rounds_of}
-use Rattle.order.specs.Order.{gathered_order, slots_of, placed, seated_of}
+use Rattle.order.specs.Order.{gathered_order, slots_of, placed, seated_of, no_child}
 use Rattle.order.proofs.Arrays.{eight_at}
 use Rattle.words.proofs.Upto.{lt_or_ge}
 use Rattle.order.proofs.InOrder.{in_order_slot, in_order_one_to_one, length_in_order}
@@ -28,7 +28,7 @@ use Rattle.order.proofs.Partners.{OneToOne}
 use Rattle.order.proofs.Padded.{padded_at}
 use Rattle.order.proofs.Permutation.{eight-padded, seated_perm}
 use Rattle.order.proofs.Slots.{AcceptedAll, slots_one_to_one}
-use Rattle.order_laws.specs.Nodes.{no_child, seating, node_cost, by_cost, SeatedByCost, AsGathered, AllSeated, AllPlaces}
+use Rattle.order_laws.specs.Nodes.{seating, node_cost, by_cost, SeatedByCost, AsGathered, AllSeated, AllPlaces}
 use Rattle.order_laws.specs.Seated.{seated_in}
 use Rattle.order_laws.proofs.Rounds.{no_pair}
 use Rattle.order_laws.proofs.Seated.{pair_at, child_in, seated_by_round, seated_once}
