@@ -12,7 +12,7 @@ fn same_places(case: &[u8], at: usize, places: [usize; 8]) -> bool {
 }
 
 // Whether the eight words from word `at` on are these numbers.
-fn same_numbers(case: &[u8], at: usize, numbers: [u32; 8]) -> bool {
+fn same_words(case: &[u8], at: usize, numbers: [u32; 8]) -> bool {
     let told = behind(case, at);
     let stored: [u32; 8] = array::from_fn(|i| word(told, i));
     stored == numbers
@@ -58,8 +58,8 @@ pub fn node(case: &[u8]) -> bool {
     let children: [u32; 8] = array::from_fn(|c| word(case, 56 + c));
     let s = order::seat_children(ordered, parent, boxes, children, count);
     case.len() == 4 * 81
-        && same_numbers(case, 64, s.slots)
-        && same_numbers(case, 72, s.seated)
+        && same_words(case, 64, s.slots)
+        && same_words(case, 72, s.seated)
         && same_counts(case, 80, s.count, s.rounds)
         && (!ordered || s.slots == order::order_children(parent, boxes, children, count))
 }
