@@ -7,7 +7,9 @@ pub mod Each
 pub mod Placed
 pub mod Levels
 pub mod Links
+pub mod ChildNodes
 pub mod Shape
 pub mod Held
 pub mod Example
 pub mod Written
+pub mod Kept

@@ -5,3 +5,4 @@ pub mod Layout
 pub mod Ranges
 pub mod Conversion
 pub mod Shape
+pub mod Kept

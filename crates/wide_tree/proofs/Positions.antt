@@ -17,7 +17,7 @@ use Rattle.wide_layout.specs.Layout as L
 use Rattle.wide_layout.proofs.Sizes as Z
 use Rattle.wide_tree.specs.WideTree.{Child, leaf_child, inner_child, child_box, hold, Placing, filled_slots, child_as, contributed, wide_children}
 use Rattle.wide_tree.specs.WideTree.{root_slots, wide_of}
-use Rattle.wide_tree.proofs.Slots.{OneToOne, total, slots_total, EachChild, slots_each}
+use Rattle.wide_tree.proofs.Slots.{OneToOne, total, total_append, slots_total, EachChild, slots_each}
 use Rattle.wide_tree.proofs.Gathered.{child_of, share}
 use Rattle.wide_tree.proofs.WideTree.{Fine, below_fine, Places, one_to_one, small_leaves, branching, two_slots}
 
@@ -29,11 +29,6 @@ child_positions (inner_child b s) = S.slots_positions s
 module _ (μ : List ℕ → ℕ) (μ-none : μ [] ≡ 0) (μ-append : (a b : List ℕ) → μ (a ++ b) ≡ μ a + μ b) where
   of_child : Child → ℕ
   of_child c = μ (child_positions c)
-
-  total_append : (s t : List Child) → total of_child (s ++ t) ≡ total of_child s + total of_child t
-  unfolding total
-  total_append [] t = omega arith
-  total_append (c ∷ s) t = omega (arith, total_append s t)
 
   total_contributed : (k : Kind) (c : Child) (cs : List Child) (m : ℕ) → of_child c ≡ m → total of_child cs ≡ m
       → total of_child (contributed k c cs) ≡ m
@@ -78,7 +73,7 @@ module _ (μ : List ℕ → ℕ) (μ-none : μ [] ≡ 0) (μ-append : (a b : Lis
         let y =
         total_contributed (table limit b d.right).kind (child_of place limit b) (wide_children place limit b d.right) (μ (positions b))
         (child_measure b q.1 (children_measure b 0 q.1)) (children_measure b d.right q.1) in
-        total_append (share place limit a d.left) (share place limit b d.right) ∙ ap₂ (λ (m n : ℕ). m + n) x y ∙ sym
+        total_append of_child (share place limit a d.left) (share place limit b d.right) ∙ ap₂ (λ (m n : ℕ). m + n) x y ∙ sym
         (μ-append (positions a) (positions b))
 
     wide_measure : (t : Tree A) → Fine t → μ (S.slots_positions (root_slots place limit t)) ≡ μ (positions t)

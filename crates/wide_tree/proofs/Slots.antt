@@ -1,7 +1,7 @@
 -- Children in slots: where each has a slot of its own, what the slots hold together is what the children hold.
 use mathlib.Core.Path.{◌≡◌, refl, sym, ap, ◌∙◌}
 use mathlib.Core.Bool.{cond}
-use mathlib.Core.List.{List, [], ◌∷◌}
+use mathlib.Core.List.{List, [], ◌∷◌, ◌++◌}
 use Prim.Native.Nat.{ℕ, zero, suc, ◌+◌, ◌≤◌, ◌<◌}
 use native.Mathlib.Decide.{ℕ_discrete, dec_lt}
 use native.Mathlib.Omega.{arith}
@@ -109,6 +109,11 @@ sum_one f g k (suc w) y a p q e h = pick (ℕ_discrete k y) (sum_one f g (suc k)
 unfoldable pub total : (Child → ℕ) → List Child → ℕ
 total f [] = 0
 total f (c ∷ cs) = f c + total f cs
+
+pub total_append : (f : Child → ℕ) (s t : List Child) → total f (s ++ t) ≡ total f s + total f t
+unfolding total
+total_append f [] t = omega arith
+total_append f (c ∷ s) t = omega (arith, total_append f s t)
 
 -- child i's share, 0 past the end
 unfoldable measure_at : (Child → ℕ) → List Child → ℕ → ℕ
