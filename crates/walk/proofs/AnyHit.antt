@@ -219,3 +219,7 @@ module _ {RayData Distance : Type 0} {S : Shape} {Rule : ℕ → Type 0} {T : Te
     reached_all = reached_in K ray accepted;
     tests = any_hit.tests;
   }
+
+  -- and its tests are as many as the nodes gathered from the first
+  pub any_hit_tests : (any_hit_run S.nodes T S.positions ray).walker.tests ≡ length (reached_from S.nodes T ray 0)
+  any_hit_tests = any_hit.tests

@@ -12,7 +12,7 @@ use Rattle.walk.specs.Tests.{Tests}
 use Rattle.walk.specs.Step.{Answer, fresh}
 use Rattle.walk.specs.Calls.{All, Op, Run, run_ops, reported, Answered, StepsWith}
 use Rattle.walk.specs.Lawful.{SoundTests, Unrefused}
-use Rattle.walk.specs.Listing.{flat, listing}
+use Rattle.walk.specs.Listing.{flat, listing, reached_from}
 use Rattle.walk.specs.Queries.{Reaction, QueryOutcome, query, steps_for, Halted, Ended}
 use Rattle.walk.specs.Slots.{WalkRecord, positions_passed, children_passed, tests_of, ReachedBySlots, PassedBySlots, SlotLaws}
 use Rattle.walk.specs.WordStep.{fresh_words, decoded_run}
@@ -149,6 +149,13 @@ module _ {RayData Distance : Type 0} {N : Nodes} {R : Rays RayData Distance} {n 
       (sym (query_on_lists N R w.rays w.fields n r w.accepted _ _))
       (AnyHit.meets_as (λ v. reached_iff W (RuleIn N n) laws w.sound r w.accepted v)
       (λ p. passed_iff W (RuleIn N n) laws w.sound r w.accepted p) (AnyHit.any_hit_meets K U r w.accepted))
+
+  -- the tests are those of the nodes gathered from the first,
+  pub any_hit_tests : (any_hit_in N R n r).walker.tests ≡ length (reached_from N.count T r 0)
+  unfolding shape_in
+  any_hit_tests =
+      ap (λ (o : QueryOutcome RayData (List ℕ)). o.walker.tests) (query_on_lists N R w.rays w.fields n r w.accepted _ _)
+      ∙ AnyHit.any_hit_tests K U r w.accepted
 
   -- and a node lists what the ray passes in it, then what its reached children list, each in the order of the walk
   pub listing_order : (v : ℕ) → v < N.count

@@ -7,9 +7,10 @@ use Rattle.aabb.specs.declared.Aabb.{Aabb}
 use Rattle.wide_layout.specs.Wide.{Slots, end, empty, leaf, inner, Wide}
 use Rattle.wide_layout.specs.Content.{inner_child, content_at}
 use Rattle.wide_layout.specs.Sizes.{inner_children, inner_before, nodes_below, own_count, count_below}
-use Rattle.wide_layout.specs.Layout.{Entry, entry, entries, EachEntry, nodes}
-use Rattle.wide_layout.specs.Shape.{layout_entry}
+use Rattle.wide_layout.specs.Layout.{Entry, entry, entries, EachEntry, nodes, index_count}
+use Rattle.wide_layout.specs.Shape.{EntryInside, layout_entry}
 use Rattle.wide_layout.proofs.Each.{each_append, each_left, each_right, node-each, node_has, node-number}
+use Rattle.wide_layout.proofs.Placed.{inside}
 
 -- entry e is that of an inner child of box b and slots u, in slot k of node p, with level l
 pub record ChildNode (e : Entry) (p k l : ℕ) (b : Aabb) (u : Slots 8) : Type 0 where
@@ -67,11 +68,12 @@ module _ (node : ℕ → Entry) where
   below (empty s) l p k i c q h = below s l p (k + 1) i c q h
   below (leaf a ps s) l p k i c q h = below s l p (k + 1) i c q h
   below (inner a t s) l p k i c q h =
-      let f = each_left (λ e. node e.number ≡ e) first last h.1 in
-      (of_node a t l p k i c (c + inner_children t) q (q + own_count t) f,
-      each_append Children first last (below t (l + 1) i 0 c (c + inner_children t) (q + own_count t) f)
-      (below s l p (k + 1) (i + 1) (c + (inner_children t + nodes_below t)) (q + (own_count t + count_below t))
-      (each_right (λ e. node e.number ≡ e) first last h.1)))
+      let f = each_left (λ e. node e.number ≡ e) first last h.1 in (
+        of_node a t l p k i c (c + inner_children t) q (q + own_count t) f,
+        each_append Children first last (below t (l + 1) i 0 c (c + inner_children t) (q + own_count t) f)
+            (below s l p (k + 1) (i + 1) (c + (inner_children t + nodes_below t)) (q + (own_count t + count_below t))
+            (each_right (λ e. node e.number ≡ e) first last h.1)),
+      )
     where
       first : List Entry
       first = entries t (l + 1) i 0 c (c + inner_children t) (q + own_count t)
@@ -85,6 +87,25 @@ pub node_child : (t : Wide) (v : ℕ) → v < nodes t → (k : ℕ) (b : Aabb) (
 node_child t v h k b u e =
     subst (λ (i : ℕ). ChildNode (layout_entry t ((layout_entry t v).child_base + inner_before (layout_entry t v).slots k)) i k
     ((layout_entry t v).level + 1) b u) (node-number t v h)
-    (node_has (Children (layout_entry t)) t
-    (of_node (layout_entry t) t.box t.slots 0 0 0 0 1 (1 + inner_children t.slots) 0 (0 + own_count t.slots) (node-each t).1,
-    below (layout_entry t) t.slots 1 0 0 1 (1 + inner_children t.slots) (0 + own_count t.slots) (node-each t).1) v h k b u e)
+    (node_has (Children (layout_entry t)) t (
+      of_node (layout_entry t) t.box t.slots 0 0 0 0 1 (1 + inner_children t.slots) 0 (0 + own_count t.slots) (node-each t).1,
+      below (layout_entry t) t.slots 1 0 0 1 (1 + inner_children t.slots) (0 + own_count t.slots) (node-each t).1,
+    ) v h k b u e)
+
+-- which comes later, and is there
+rank_in : {w : ℕ} (s : Slots w) (k : ℕ) (b : Aabb) (u : Slots 8) → content_at s k ≡ inner_child b u → inner_before s k < inner_children s
+unfolding content_at
+rank_in end k b u e = cc
+rank_in (empty s) zero b u e = cc
+rank_in (empty s) (suc k) b u e = rank_in s k b u e
+rank_in (leaf a ps s) zero b u e = cc
+rank_in (leaf a ps s) (suc k) b u e = rank_in s k b u e
+rank_in (inner a t s) zero b u e = omega arith
+rank_in (inner a t s) (suc k) b u e = omega (arith, rank_in s k b u e)
+
+pub child_there : (t : Wide) (v : ℕ) → v < nodes t → (k : ℕ) (b : Aabb) (u : Slots 8) → content_at (layout_entry t v).slots k ≡ inner_child b u
+    → let c = (layout_entry t v).child_base + inner_before (layout_entry t v).slots k in (v < c) × (c < nodes t)
+child_there t v h k b u e =
+    let r = rank_in (layout_entry t v).slots k b u e in
+    let i = node_has (EntryInside (nodes t) (index_count t)) t (inside t) v h in
+    (omega (arith, i.later, node-number t v h), omega (arith, i.nodes))

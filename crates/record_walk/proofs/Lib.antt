@@ -1,0 +1,4 @@
+pub mod Grid
+pub mod BySlots
+pub mod Below
+pub mod Walk
