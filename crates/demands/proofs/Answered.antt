@@ -29,7 +29,7 @@ use Rattle.demands.proofs.Writes.{Writes, nothing, written}
 use Rattle.demands.proofs.Boxes.{node_boxes}
 
 module _ (ws : List ℕ) (limit : ℕ) (ordered : Bool) (n : ℕ) (h : Decoded ws n) (small : limit ≤ 3) where
-  wide : Writable (wide_tree_of ws ordered limit)
+  pub wide : Writable (wide_tree_of ws ordered limit)
   unfolding wide_of
   wide =
       let b = node_boxes ws limit ordered h.boxes in

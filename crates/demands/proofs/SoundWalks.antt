@@ -45,7 +45,7 @@ pub sizes_fit_lem : {bytes : List ℕ} {n d : ℕ} → CheckedRecord bytes n d �
 sizes_fit_lem good = record { whole = good.layout; few = good.positions; small = good.nodes }
 
 module _ {bytes : List ℕ} {n d : ℕ} {ray : Ray} (good : CheckedRecord bytes n d) (accepted : AcceptedRay ray) where
-  walk : SoundWalk (nodes_at bytes) by_boxes n (walk_ray ray)
+  pub walk : SoundWalk (nodes_at bytes) by_boxes n (walk_ray ray)
   walk = record {
     rays = walk_ray_laws;
     fields = bytes_fit bytes good.are_bytes;

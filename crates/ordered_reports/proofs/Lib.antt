@@ -1,0 +1,4 @@
+pub mod Rearranged
+pub mod Alike
+pub mod Trees
+pub mod Ordering

@@ -1,0 +1,71 @@
+-- A list rearranged has the same sum, and the same panes in it are there; and values, tests and first causes that are the same one by one.
+use mathlib.Core.Bool.{Bool, Bool-set, true, false, ◌&&◌}
+use mathlib.Core.List.{List, ◌++◌, Perm, Permᴰ}
+use mathlib.Core.Logic.{∥∥₁_elim}
+use mathlib.Core.Path.{◌≡◌, refl, sym, ap, ap₂, ◌∙◌}
+use native.Mathlib.Nat.{ℕ_set}
+use native.Mathlib.Omega.{arith}
+use Prim.Native.Nat.{ℕ, zero, suc, ◌+◌, ◌<◌}
+use lib.Dec.{ltb}
+use lib.Seq.{ext_get_or}
+use Rattle.lists.specs.Below.{all_below}
+use Rattle.lists.specs.Sums.{sum_over}
+use Rattle.lists.specs.Values.{values}
+use Rattle.lists.proofs.Values.{values_length, values_at}
+use Rattle.causes.specs.Causes.{Condition, first_cause}
+use Rattle.causes.proofs.Causes.{append_first}
+use Rattle.loss.specs.Loss.{all_there}
+
+-- ---- lists rearranged
+
+sum_arranged : (f : ℕ → ℕ) {a b : List ℕ} → Permᴰ a b → sum_over f a ≡ sum_over f b
+unfolding sum_over
+sum_arranged f Permᴰ.nil = refl
+sum_arranged f (Permᴰ.cons e p) = ap₂ ◌+◌ (ap f e) (sum_arranged f p)
+sum_arranged f (Permᴰ.swap e g) = omega (arith, ap f e, ap f g)
+sum_arranged f (Permᴰ.trans p q) = sum_arranged f p ∙ sum_arranged f q
+
+-- A sum over a list is the sum over the list rearranged.
+pub sum_rearranged : (f : ℕ → ℕ) (a b : List ℕ) → Perm a b → sum_over f a ≡ sum_over f b
+sum_rearranged f a b p = ∥∥₁_elim p (ℕ_set (sum_over f a) (sum_over f b)) (sum_arranged f)
+
+swapped : (x y z : Bool) → x && (y && z) ≡ y && (x && z)
+swapped true y z = refl
+swapped false true z = refl
+swapped false false z = refl
+
+module _ (panes : ℕ) where
+  there_arranged : {a b : List ℕ} → Permᴰ a b → all_there panes a ≡ all_there panes b
+  unfolding all_there
+  there_arranged Permᴰ.nil = refl
+  there_arranged (Permᴰ.cons e p) = ap₂ ◌&&◌ (ap (λ (k : ℕ). ltb k panes) e) (there_arranged p)
+  there_arranged (Permᴰ.swap {a = x} {b = y} {l = l} e g) =
+      swapped (ltb x panes) (ltb y panes) (all_there panes l)
+      ∙ ap₂ (λ (j k : ℕ). ltb j panes && (ltb k panes && all_there panes l)) g e
+  there_arranged (Permᴰ.trans p q) = there_arranged p ∙ there_arranged q
+
+  -- The panes of a list are there exactly if those of the list rearranged are.
+  pub there_rearranged : (a b : List ℕ) → Perm a b → all_there panes a ≡ all_there panes b
+  there_rearranged a b p = ∥∥₁_elim p (Bool-set (all_there panes a) (all_there panes b)) there_arranged
+
+-- ---- one by one
+
+-- A function's first values are those of another that has the same.
+pub values_same : (f g : ℕ → ℕ) (k : ℕ) → ((i : ℕ) → i < k → f i ≡ g i) → values f k ≡ values g k
+values_same f g k h =
+    ext_get_or 0 (values f k) (values g k) (values_length f k ∙ sym (values_length g k))
+    (λ i l. let m : i < k = omega (arith, l, values_length f k) in values_at f k i 0 m ∙ h i m ∙ sym (values_at g k i 0 m))
+
+-- Two tests that agree at every number below a bound agree on all together.
+pub all_same : (f g : ℕ → Bool) (k : ℕ) → ((i : ℕ) → i < k → f i ≡ g i) → all_below f k ≡ all_below g k
+unfolding all_below
+all_same f g zero h = refl
+all_same f g (suc k) h = ap₂ ◌&&◌ (all_same f g k (λ i l. h i (omega arith))) (h k (omega arith))
+
+-- Of two lists of conditions one behind the other, the later one counts only where the first has no cause.
+pub behind_same : (l m o : List Condition) → (first_cause l ≡ 0 → m ≡ o) → first_cause (l ++ m) ≡ first_cause (l ++ o)
+behind_same l m o h = go (first_cause l) refl
+  where
+    go : (k : ℕ) → first_cause l ≡ k → first_cause (l ++ m) ≡ first_cause (l ++ o)
+    go zero e = ap (λ (x : List Condition). first_cause (l ++ x)) (h e)
+    go (suc k) e = append_first l m (λ z. omega (arith, e, z)) ∙ sym (append_first l o (λ z. omega (arith, e, z)))

@@ -1,0 +1,28 @@
+-- When two records with their index lists are alike to a ray, and to calls over them: what a report, a loss and any-hit's answer rest on.
+use Rattle.std.specs.Prelude.{◌≡◌, ℕ, length}
+use mathlib.Core.List.{List, Perm}
+use Rattle.causes.proofs.Sizes.{Fit}
+use Rattle.ray.specs.declared.Ray.{Ray}
+use Rattle.walk.specs.Queries.{Ended}
+use Rattle.query.specs.Met.{walk_met, positions_met, tests_made, panes_met}
+use Rattle.demands.specs.Walks.{AcceptedRay}
+
+-- two records with their index lists, all taken to have n positions
+module _ (n : ℕ) (bytes list other_bytes other_list : List ℕ) where
+  -- Both have sizes that queries take, the same for both.
+  pub record SizedAlike : Type 0 where
+    pub fit : Fit (length bytes) n
+    pub same_length : length bytes ≡ length other_bytes
+    pub list_length : length list ≡ n
+    pub other_length : length other_list ≡ n
+
+  -- A ray's walks are not refused, and meet the same panes, each as often, after as many node tests.
+  pub record MetAlike (r : Ray) : Type 0 where
+    pub ends : Ended (walk_met bytes n r).ended
+    pub other_ends : Ended (walk_met other_bytes n r).ended
+    pub panes : Perm (panes_met list (positions_met bytes n r)) (panes_met other_list (positions_met other_bytes n r))
+    pub tests : tests_made bytes n r ≡ tests_made other_bytes n r
+
+  -- This holds of every accepted ray.
+  abbrev pub AllMetAlike : Type 0
+  AllMetAlike = (r : Ray) → AcceptedRay r → MetAlike r
