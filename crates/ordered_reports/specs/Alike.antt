@@ -1,4 +1,4 @@
--- When two records with their index lists are alike to a ray, and to calls over them: what a report, a loss and any-hit's answer rest on.
+-- Internal: two records with their index lists that are alike to rays, on which any-hit's answers, losses and reports over them rest.
 use Rattle.std.specs.Prelude.{◌≡◌, ℕ, length}
 use mathlib.Core.List.{List, Perm}
 use Rattle.causes.proofs.Sizes.{Fit}

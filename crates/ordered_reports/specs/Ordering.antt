@@ -38,32 +38,32 @@ pub record MadeRay (ray : Ray) : Type 0 where
 
 -- ---- what a ray meets in the record of m nodes that a call left
 
+-- the panes of positions, by the index list that the call left
+abbrev pub panes_of : Call → List ℕ → List ℕ
+panes_of c found = panes_met (list_at c) found
+
 module _ (m : ℕ) (c : Call) (ray : Ray) where
-  -- the positions, and the node tests
+  -- the positions met, and the node tests
   abbrev pub positions_in : List ℕ
   positions_in = positions_met (record_at c m) (leaf_count c) ray
 
   abbrev pub tests_in : ℕ
   tests_in = tests_made (record_at c m) (leaf_count c) ray
 
-  -- the panes of some positions, by the index list that the call left
-  abbrev pub panes_of : List ℕ → List ℕ
-  panes_of found = panes_met (list_at c) found
-
-  -- the positions in the list that any-hit leaves, for one as it was before
-  abbrev pub listed_in : List ℕ → List ℕ
-  listed_in before = list_left (record_at c m) ray (leaf_count c) before
-
-  -- such a list has room for what is met
+  -- a list has room for them
   abbrev pub Room : List ℕ → Type 0
   Room before = length positions_in ≤ length before
 
+  -- and what any-hit, lent such a list, leaves in it
+  abbrev pub listed_in : List ℕ → List ℕ
+  listed_in before = list_left (record_at c m) ray (leaf_count c) before
+
 module _ (m : ℕ) (a b : Call) where
   module _ (ray : Ray) where
-    -- the ray meets the same panes in both records, each the same number of times,
+    -- The ray meets the same panes in both records, each the same number of times,
     pub record SamePanes : Type 0 where
-      pub rearranged : Perm (panes_of m a ray (positions_in m a ray)) (panes_of m b ray (positions_in m b ray))
-      pub as_often : (k : ℕ) → count k (panes_of m a ray (positions_in m a ray)) ≡ count k (panes_of m b ray (positions_in m b ray))
+      pub rearranged : Perm (panes_of a (positions_in m a ray)) (panes_of b (positions_in m b ray))
+      pub as_often : (k : ℕ) → count k (panes_of a (positions_in m a ray)) ≡ count k (panes_of b (positions_in m b ray))
 
     -- and makes the same number of node tests.
     abbrev pub SameTests : Type 0
@@ -76,7 +76,7 @@ module _ (m : ℕ) (a b : Call) where
     -- What it leaves in lists with room names the same panes, each the same number of times.
     abbrev pub SameLists : Type 0
     SameLists = (before other : List ℕ) → Room m a ray before → Room m b ray other
-        → Perm (panes_of m a ray (listed_in m a ray before)) (panes_of m b ray (listed_in m b ray other))
+        → Perm (panes_of a (listed_in m a ray before)) (panes_of b (listed_in m b ray other))
 
     -- The ray's loss, for so many panes and any losses: the sum and its tests, or the same refusal.
     abbrev pub SameLoss : Type 0

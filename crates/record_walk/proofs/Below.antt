@@ -38,17 +38,22 @@ use Rattle.walk.proofs.Slots.{slots_sound}
 use Rattle.record_laws.proofs.Slots.{own_child}
 use Rattle.record_walk.proofs.BySlots.{zero_either, slot_passed, children_sum, positions_sum}
 
--- A walk sees the wide tree in the record: the record has the layout's shape; a slot's bit and rank are its inner child's; a slot is passed as its
--- child is kept, by its parent's box, its own box and the positions below it; and a position passes its own test as its place in the index list does.
+-- A test of slots keeps the tree's children: in each node of the layout it passes a slot as `keep` says of the node's box, the child's box and the
+-- positions below the child.
+pub record KeepsChildren (t : Wide) (keep : Aabb → Aabb → List ℕ → Bool) (passes : ℕ → ℕ → Bool) : Type 0 where
+  pub leaf_kept : (v j : ℕ) → v < nodes t → j < 8 → (c : Aabb) (ps : List ℕ) → content_at (layout_entry t v).slots j ≡ leaf_child c ps
+      → passes v j ≡ keep (layout_entry t v).box c ps
+  pub inner_kept : (v j : ℕ) → v < nodes t → j < 8 → (c : Aabb) (u : Slots 8) → content_at (layout_entry t v).slots j ≡ inner_child c u
+      → passes v j ≡ keep (layout_entry t v).box c (slots_positions u)
+
+-- A walk sees the wide tree in the record: the record has the layout's shape; a slot's bit and rank are its inner child's; slots are passed as children
+-- are kept; and a position passes its own test as its place in the index list does.
 pub record SeesTree {RayData Distance : Type 0} (W : WalkRecord RayData Distance) (ray : RayData) (t : Wide)
     (keep : Aabb → Aabb → List ℕ → Bool) (own : ℕ → Bool) : Type 0 where
   pub reads : Reads W.shape t
-  pub inner_bits : (v j : ℕ) → v < nodes t → j < 8 → inner_bit (W.imask v) j ≡ child_inner (content_at (layout_entry t v).slots j)
+  pub bits : (v j : ℕ) → v < nodes t → j < 8 → inner_bit (W.imask v) j ≡ child_inner (content_at (layout_entry t v).slots j)
   pub ranks : (v j : ℕ) → v < nodes t → j < 8 → child_number W v j ≡ (layout_entry t v).child_base + inner_before (layout_entry t v).slots j
-  pub leaves_kept : (v j : ℕ) → v < nodes t → j < 8 → (c : Aabb) (ps : List ℕ) → content_at (layout_entry t v).slots j ≡ leaf_child c ps
-      → W.passes ray v j ≡ keep (layout_entry t v).box c ps
-  pub inner_kept : (v j : ℕ) → v < nodes t → j < 8 → (c : Aabb) (u : Slots 8) → content_at (layout_entry t v).slots j ≡ inner_child c u
-      → W.passes ray v j ≡ keep (layout_entry t v).box c (slots_positions u)
+  pub keeps : KeepsChildren t keep (W.passes ray)
   pub admitted : (p : ℕ) → p < index_count t → W.admits ray p ≡ own (get_or (index_list t) p 0)
 
 -- ---- what a slot has
@@ -110,11 +115,11 @@ module _ {RayData Distance : Type 0} (W : WalkRecord RayData Distance) (Rule : �
 
         go : (c : Content) → content v j ≡ c
             → leaf_share of_leaf (box v) c + cond (passed_child W ray v j) (gathered (child_number W v j)) 0 ≡ share keep of_leaf of_inner (box v) c
-        go none e = rw (bit_clear bit (W.passes ray v j) (sees.inner_bits v j h l ∙ ap child_inner e))
+        go none e = rw (bit_clear bit (W.passes ray v j) (sees.bits v j h l ∙ ap child_inner e))
         go (leaf_child c ps) e =
-            rw (bit_clear bit (W.passes ray v j) (sees.inner_bits v j h l ∙ ap child_inner e)) (omega arith)
+            rw (bit_clear bit (W.passes ray v j) (sees.bits v j h l ∙ ap child_inner e)) (omega arith)
         go (inner_child c u) e =
-            rw (bit_set bit (W.passes ray v j) (sees.inner_bits v j h l ∙ ap child_inner e), sees.inner_kept v j h l c u e, f c u e) (omega arith)
+            rw (bit_set bit (W.passes ray v j) (sees.bits v j h l ∙ ap child_inner e), sees.keeps.inner_kept v j h l c u e, f c u e) (omega arith)
 
     -- where each node itself gives what its leaf children give, what is gathered from a node is what the kept children give below it
     module _ (own_value : (v : ℕ) → v < nodes t → value v ≡ of_inner + sum (λ j. leaf_share of_leaf (box v) (content v j)) 8) where
@@ -228,7 +233,7 @@ module _ {RayData Distance : Type 0} (W : WalkRecord RayData Distance) (Rule : �
         go (inner_child c u) e = none_there (count_of ∙ ap (λ (c : Content). length (child_positions c)) e)
         go (leaf_child c ps) e =
             only_where (λ p. f (word p)) (W.passes ray v j) (filter (W.admits ray) (upto (W.shape.start v j) (W.shape.count v j)))
-            ∙ ap₂ (λ (b : Bool) (m : ℕ). cond b m 0) (sees.leaves_kept v j h l c ps e)
+            ∙ ap₂ (λ (b : Bool) (m : ℕ). cond b m 0) (sees.keeps.leaf_kept v j h l c ps e)
             (ap (λ (m : ℕ). sum_over (λ p. f (word p)) (filter (W.admits ray) (upto (W.shape.start v j) m)))
             (count_of ∙ ap (λ (x : Content). length (child_positions x)) e)
             ∙ range_words f ps (W.shape.start v j) (λ i k. let r = held_word ps (ap child_positions e) i k in

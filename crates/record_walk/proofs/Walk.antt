@@ -16,10 +16,8 @@ use Rattle.ray.specs.declared.Ray.{Ray}
 use Rattle.words.specs.Ones.{ones_below}
 use Rattle.node.specs.declared.Node.{Node}
 use Rattle.node.specs.Node.{inner_bit, child_index}
-use Rattle.wide_layout.specs.Wide.{Slots, Wide}
-use Rattle.wide_layout.specs.Content.{leaf_child, inner_child, content_at}
-use Rattle.wide_layout.specs.Sizes.{slots_positions}
-use Rattle.wide_layout.specs.Layout.{nodes, index_list, index_count}
+use Rattle.wide_layout.specs.Wide.{Wide}
+use Rattle.wide_layout.specs.Layout.{index_list, index_count}
 use Rattle.wide_layout.specs.Shape.{layout_entry}
 use Rattle.wide_layout.specs.Kept.{met, reached_below}
 use Rattle.wide_layout.proofs.Kept.{every, met_measure}
@@ -39,7 +37,7 @@ use Rattle.walk_record.proofs.Laws.{slot_laws}
 use Rattle.walk_record.proofs.Demands.{SoundWalk, any_hit_meets, any_hit_tests}
 use Rattle.record_walk.specs.Kept.{box_kept}
 use Rattle.record_walk.proofs.Grid.{slot_kept}
-use Rattle.record_walk.proofs.Below.{SeesTree, words_gathered, nodes_gathered}
+use Rattle.record_walk.proofs.Below.{KeepsChildren, SeesTree, words_gathered, nodes_gathered}
 
 -- ---- a measure of lists that adds up over `++`, of what is gathered
 
@@ -58,17 +56,13 @@ module _ (μ : List ℕ → ℕ) (μ-none : μ [] ≡ 0) (μ-append : (a b : Lis
 
 -- ---- any rays
 
--- Rays keep a wide tree's children as `keep` does: a slot of a node of its layout is passed by the node's box, the child's box and the positions below.
-pub record KeepsChildren {RayData Distance : Type 0} (R : Rays RayData Distance) (r : RayData) (t : Wide) (keep : Aabb → Aabb → List ℕ → Bool) : Type 0
-  where
-    pub leaves : (v j : ℕ) → v < nodes t → j < 8 → (c : Aabb) (ps : List ℕ) → content_at (layout_entry t v).slots j ≡ leaf_child c ps
-        → R.passes r v (node_of (layout_entry t v)) j ≡ keep (layout_entry t v).box c ps
-    pub inner : (v j : ℕ) → v < nodes t → j < 8 → (c : Aabb) (u : Slots 8) → content_at (layout_entry t v).slots j ≡ inner_child c u
-        → R.passes r v (node_of (layout_entry t v)) j ≡ keep (layout_entry t v).box c (slots_positions u)
+-- the test of slots that rays make of the nodes of a wide tree's layout
+abbrev pub layout_passes : {RayData Distance : Type 0} → Rays RayData Distance → RayData → Wide → ℕ → ℕ → Bool
+layout_passes R r t v j = R.passes r v (node_of (layout_entry t v)) j
 
 module _ {RayData Distance : Type 0} (t : Wide) (h : Writable t) (R : Rays RayData Distance) (r : RayData)
     (w : SoundWalk (nodes_at (record_bytes t)) R (index_count t) r) (keep : Aabb → Aabb → List ℕ → Bool) (own : ℕ → Bool)
-    (keeps : KeepsChildren R r t keep) (admitted : (p : ℕ) → p < index_count t → R.admits r p ≡ own (get_or (index_list t) p 0)) where
+    (keeps : KeepsChildren t keep (layout_passes R r t)) (admitted : (p : ℕ) → p < index_count t → R.admits r p ≡ own (get_or (index_list t) p 0)) where
   abbrev W : WalkRecord RayData Distance
   W = slots_in (nodes_at (record_bytes t)) R (index_count t)
 
@@ -79,11 +73,13 @@ module _ {RayData Distance : Type 0} (t : Wide) (h : Writable t) (R : Rays RayDa
   unfolding shape_in child_index node_of
   sees = record {
     reads = record_reads t h;
-    inner_bits = λ v j l k. ap (λ (n : Node). inner_bit n.imask j) (node_read t h v l) ∙ mask_bit (layout_entry t v).slots j k;
+    bits = λ v j l k. ap (λ (n : Node). inner_bit n.imask j) (node_read t h v l) ∙ mask_bit (layout_entry t v).slots j k;
     ranks = λ v j l k. ap (λ (n : Node). n.child_base_idx + ones_below j n.imask) (node_read t h v l)
         ∙ ap (λ (x : ℕ). (layout_entry t v).child_base + x) (mask_rank (layout_entry t v).slots j (omega arith));
-    leaves_kept = λ v j l k c ps e. ap (λ (n : Node). R.passes r v n j) (node_read t h v l) ∙ keeps.leaves v j l k c ps e;
-    inner_kept = λ v j l k c u e. ap (λ (n : Node). R.passes r v n j) (node_read t h v l) ∙ keeps.inner v j l k c u e;
+    keeps = record {
+      leaf_kept = λ v j l k c ps e. ap (λ (n : Node). R.passes r v n j) (node_read t h v l) ∙ keeps.leaf_kept v j l k c ps e;
+      inner_kept = λ v j l k c u e. ap (λ (n : Node). R.passes r v n j) (node_read t h v l) ∙ keeps.inner_kept v j l k c u e;
+    };
     admitted = admitted;
   }
 
@@ -116,11 +112,11 @@ module _ {RayData Distance : Type 0} (t : Wide) (h : Writable t) (R : Rays RayDa
 -- ---- by boxes
 
 -- a ray keeps children by their boxes on their parents' grids
-keeps_boxes : (t : Wide) (r : Ray) → KeepsChildren by_boxes (walk_ray r) t (λ b c ps. box_kept r b c)
+keeps_boxes : (t : Wide) (r : Ray) → KeepsChildren t (λ b c ps. box_kept r b c) (layout_passes by_boxes (walk_ray r) t)
 unfolding child_bytes
 keeps_boxes t r = record {
-  leaves = λ v j l k c ps e. slot_kept (layout_entry t v) j c (ap (child_bytes (layout_entry t v).box) e) r;
-  inner = λ v j l k c u e. slot_kept (layout_entry t v) j c (ap (child_bytes (layout_entry t v).box) e) r;
+  leaf_kept = λ v j l k c ps e. slot_kept (layout_entry t v) j c (ap (child_bytes (layout_entry t v).box) e) r;
+  inner_kept = λ v j l k c u e. slot_kept (layout_entry t v) j c (ap (child_bytes (layout_entry t v).box) e) r;
 }
 
 module _ (t : Wide) (h : Writable t) (r : Ray) (w : SoundWalk (nodes_at (record_bytes t)) by_boxes (index_count t) (walk_ray r)) where

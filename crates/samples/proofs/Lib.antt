@@ -5,3 +5,4 @@ pub mod MinusZero
 pub mod Losses
 pub mod Joins
 pub mod Seated
+pub mod Ordering

@@ -100,22 +100,6 @@ module _ (keep : Aabb → Aabb → List ℕ → Bool) (stable : Stable keep) whe
       pub kept_any_placing : (t : Tree A) → Fine t → (b : Aabb) → below b (root_slots p limit t) ≡ below b (root_slots q limit t)
       kept_any_placing t o b = root_alike t o (children_alike t 0 o) b
 
-  module _ {A : Type 0} (limit : ℕ) (p q : Placing) (places : Places p) (others : Places q) (t : Tree A) (o : Fine t) (b : Aabb) where
-    -- the same positions are met, each as often,
-    pub met_any_placing : (own : ℕ → Bool) → Perm (met keep own b (root_slots p limit t)) (met keep own b (root_slots q limit t))
-    unfolding count
-    met_any_placing own = (counts_perm (met keep own b (root_slots p limit t)) (met keep own b (root_slots q limit t))).1 each
-      where
-        each : (x : ℕ) → count x (met keep own b (root_slots p limit t)) ≡ count x (met keep own b (root_slots q limit t))
-        each x =
-            met_measure keep own (count x) refl (count-append x) b (root_slots p limit t)
-            ∙ kept_any_placing (λ ps. count x (filter own ps)) 0 limit p q places others t o b
-            ∙ sym (met_measure keep own (count x) refl (count-append x) b (root_slots q limit t))
-
-    -- and as many nodes are reached
-    pub reached_any_placing : reached_below keep b (root_slots p limit t) ≡ reached_below keep b (root_slots q limit t)
-    reached_any_placing = kept_any_placing (λ ps. 0) 1 limit p q places others t o b
-
 -- the two wide trees have as many nodes
 pub nodes_any_placing : {A : Type 0} (limit : ℕ) (p q : Placing) (places : Places p) (others : Places q) (t : Tree A) → Fine t
     → nodes (wide_of p limit t) ≡ nodes (wide_of q limit t)
@@ -125,5 +109,22 @@ nodes_any_placing limit p q places others t o =
       arith,
       reached_all (box_of t) (root_slots p limit t),
       reached_all (box_of t) (root_slots q limit t),
-      reached_any_placing always (λ b c ps qs h. refl) limit p q places others t o (box_of t),
+      kept_any_placing always (λ b c ps qs h. refl) (λ ps. 0) 1 limit p q places others t o (box_of t),
     )
+
+module _ (keep : Aabb → Aabb → List ℕ → Bool) (stable : Stable keep) {A : Type 0} (limit : ℕ) (p q : Placing) (places : Places p)
+    (others : Places q) (t : Tree A) (o : Fine t) (b : Aabb) where
+  -- the same positions are met, each as often,
+  pub met_any_placing : (own : ℕ → Bool) → Perm (met keep own b (root_slots p limit t)) (met keep own b (root_slots q limit t))
+  unfolding count
+  met_any_placing own = (counts_perm (met keep own b (root_slots p limit t)) (met keep own b (root_slots q limit t))).1 each
+    where
+      each : (x : ℕ) → count x (met keep own b (root_slots p limit t)) ≡ count x (met keep own b (root_slots q limit t))
+      each x =
+          met_measure keep own (count x) refl (count-append x) b (root_slots p limit t)
+          ∙ kept_any_placing keep stable (λ ps. count x (filter own ps)) 0 limit p q places others t o b
+          ∙ sym (met_measure keep own (count x) refl (count-append x) b (root_slots q limit t))
+
+  -- and as many nodes are reached
+  pub reached_any_placing : reached_below keep b (root_slots p limit t) ≡ reached_below keep b (root_slots q limit t)
+  reached_any_placing = kept_any_placing keep stable (λ ps. 0) 1 limit p q places others t o b
