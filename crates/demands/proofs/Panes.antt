@@ -25,7 +25,7 @@ module _ (c : Call) (m d : ℕ) (answers : Answers c m d) where
 module _ (c : Call) (m d : ℕ) (answers : Answers c m d) (panes : List Float) (fine : Panes c.indices panes) (ray : Ray)
     (accepted : AcceptedRay ray) where
   -- the index list names the same panes
-  list_panes : Panes (list_at c) panes
+  pub list_panes : Panes (list_at c) panes
   list_panes = record {
     whole = fine.whole;
     accepted = fine.accepted;

@@ -18,7 +18,7 @@ use Rattle.walk.specs.Slots.{tests_of}
 use Rattle.walk.specs.WordStep.{NodeWords, decoded, decoded_run}
 use Rattle.walk.specs.WordQueries.{decoded_outcome}
 use Rattle.walk.proofs.Ends.{query_run, any_hit_run_lem}
-use Rattle.walk.proofs.Reports.{run_tests, query_notes, reports_exist, miss_reports_lem}
+use Rattle.walk.proofs.Reports.{run_tests, query_notes, reports_exist, miss_reports_lem, miss_listed_lem}
 use Rattle.walk_record.specs.WalkRay.{WalkRay, walk_ray, by_boxes}
 use Rattle.walk_record.specs.Record.{slots_at, node_words_at}
 use Rattle.walk_record.specs.Walk.{run_at, query_at, any_hit_at}
@@ -106,3 +106,13 @@ module _ (bytes : List ℕ) (whole : length bytes % 80 ≡ 0) (are_bytes : (i : 
       ap reported (answers_are (miss pane nearer) none)
       ∙ miss_reports_lem m T pane nearer (steps_for m) n (fresh beam) none
       ∙ ap (λ (l : List Answer). up_to (λ p. (miss pane nearer p beam none).stop) (reported l)) (sym (answers_are (closest pane nearer) none))
+
+  -- And what any-hit's walk does, up to that position.
+  pub miss_any_hit : (pane : ℕ → WalkRay → Pane Float) (nearer : Float → WalkRay → Bool)
+      → reported (answers_made bytes n ray (miss pane nearer) none)
+      ≡ up_to (λ p. (miss pane nearer p beam none).stop) (any_hit_at bytes by_boxes n beam).accumulator
+  miss_any_hit pane nearer =
+      ap reported (answers_are (miss pane nearer) none)
+      ∙ miss_listed_lem m T pane nearer (steps_for m) n (fresh beam) []
+      ∙ ap (λ (l : List Answer). up_to (λ p. (miss pane nearer p beam none).stop) (reported l)) (sym (answers_are append []))
+      ∙ ap (up_to (λ p. (miss pane nearer p beam none).stop)) (sym any_hit_is_run)

@@ -2,15 +2,17 @@
 -- slices it is lent. Both are answered with as many nodes and levels, or both are refused with one number. A ray meets the same panes in the two
 -- records, each the same number of times, after the same number of node tests, so that any-hit's answers, losses and reports are equal.
 use mathlib.Core.Bool.{Bool}
-use mathlib.Core.List.{List, ◌∷◌, ◌++◌, []}
+use mathlib.Core.List.{List, ◌∷◌, ◌++◌, [], Perm}
 use mathlib.Core.Path.{◌≡◌, refl, sym, ap, ap₂, subst, ◌∙◌}
 use Prim.Native.Nat.{ℕ, zero, suc, ◌*◌, ◌<◌}
 use native.Mathlib.Omega.{arith}
 use lib.Dec.{leb}
+use lib.Ieee.{Float}
 use lib.ListN.{length}
 use Rattle.lists.proofs.Perms.{counts_perm}
 use Rattle.causes.specs.Causes.{Condition, ◌unless◌, first_cause}
 use Rattle.ray.specs.declared.Ray.{Ray}
+use Rattle.query.specs.Met.{positions_met, panes_met}
 use Rattle.bvh2.specs.Causes.{Accepted}
 use Rattle.bvh2.specs.Decoded.{Decoded}
 use Rattle.bvh2.proofs.Decoded.{accepted_decoded}
@@ -25,13 +27,16 @@ use Rattle.bvh2_to_cwbvh.proofs.Answers as A
 use Rattle.demands.specs.Call.{Call, Answers, leaf_count, record_at, list_at, defined_record, defined_nodes, deepest_level}
 use Rattle.demands.specs.Call.{Convertible}
 use Rattle.demands.specs.Walks.{CheckedRecord, AcceptedRay}
+use Rattle.demands.specs.Panes.{Panes}
 use Rattle.demands.proofs.Answered.{record_is, list_is}
+use Rattle.demands.proofs.Panes.{list_good, list_panes}
 use Rattle.demands.proofs.Demands.{good_record}
 use Rattle.demands.proofs.SoundWalks.{sizes_fit_lem}
 use Rattle.ordered_reports.specs.Alike.{SizedAlike, AllMetAlike}
 use Rattle.ordered_reports.specs.Ordering.{SameTree, SameRoom, SamePanes, SameTests, SameAnyHit, SameLists, SameLoss}
-use Rattle.ordered_reports.specs.Ordering.{SameReport, MadeRay}
+use Rattle.ordered_reports.specs.Ordering.{SameMiss, SameHit, SameReport, MadeRay}
 use Rattle.ordered_reports.proofs.Alike.{any_hit_alike, lists_alike, loss_alike, report_alike}
+use Rattle.ordered_reports.proofs.Blocked.{Asked, miss_alike, no_hit_alike}
 use Rattle.ordered_reports.proofs.Rearranged.{behind_same}
 use Rattle.ordered_reports.proofs.Trees.{records_alike, nodes_same, levels_same}
 
@@ -181,9 +186,33 @@ module _ (a b : Call) (same : SameTree a b) (m d : ℕ) (answers : Answers a m d
     pub ordering_same_tests : SameTests m a b ray
     ordering_same_tests = by_second a b same (λ c. SameTests m a c ray) (all_alike ray accepted).tests
 
-    -- and any-hit's list names the same panes.
+    -- any-hit's list names the same panes,
     pub ordering_same_lists : SameLists m a b ray
     ordering_same_lists = by_second a b same (λ c. SameLists m a c ray) (lists_alike sizes all_alike ray accepted)
+
+    module _ (panes : List Float) (fine : Panes a.indices panes) where
+      asked : (c : Call) → Answers c m d → a.indices ≡ c.indices → Asked (record_at c m) (list_at c) panes ray
+      asked c h e = record {
+        level = d;
+        good = list_good c m d h;
+        fine = list_panes c m d h panes (subst (λ (x : List ℕ). Panes x panes) e fine) ray accepted;
+        accepted = accepted;
+      }
+
+      panes_rearranged : Perm (panes_met (list_at a) (positions_met (record_at a m) (length (list_at a)) ray))
+          (panes_met (list_at b) (positions_met (record_at b m) (length (list_at b)) ray))
+      panes_rearranged =
+          rw (list_long a b same a m d answers, list_long a b same b m d others) ordering_same_panes.rearranged
+
+    -- over panes without a fault miss answers the same,
+    pub ordering_same_miss : SameMiss m a b ray
+    ordering_same_miss panes fine =
+        miss_alike (asked panes fine a answers refl) (asked panes fine b others same.indices) (panes_rearranged panes fine)
+
+    -- and closest has a hit in both records, or in neither.
+    pub ordering_same_hit : SameHit m a b ray
+    ordering_same_hit panes fine =
+        no_hit_alike (asked panes fine a answers refl) (asked panes fine b others same.indices) (panes_rearranged panes fine)
 
   -- Of a ray that may be refused, any-hit's answer
   pub ordering_same_answer : (ray : Ray) → MadeRay ray → SameAnyHit m a b ray

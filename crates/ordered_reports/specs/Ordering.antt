@@ -1,6 +1,6 @@
 -- What is claimed of ordering (02, [6]): of two calls of the conversion that are given one tree and one leaf limit. Either may ask for ordering or not,
 -- and the slices lent may be any.
-use Rattle.std.specs.Prelude.{◌≡◌, ℕ, ◌≤◌, Float, length}
+use Rattle.std.specs.Prelude.{◌↔◌, ◌≡◌, ℕ, ◌≤◌, Float, length}
 use mathlib.Core.List.{List, Perm}
 use Rattle.lists.specs.Counts.{count}
 use Rattle.ray.specs.declared.Vec3.{Vec3}
@@ -8,11 +8,13 @@ use Rattle.ray.specs.declared.Ray.{Ray}
 use Rattle.ray.specs.Ray.{ray_of}
 use Rattle.query.specs.Met.{positions_met, tests_made, panes_met}
 use Rattle.any_hit.specs.AnyHit.{any_hit_of}
+use Rattle.closest.specs.Panes.{no_hit, closest_of, miss_of}
 use Rattle.loss.specs.Loss.{loss_of, report_of}
 use Rattle.bvh2_tables.specs.Call.{lengths_of}
 use Rattle.bvh2_tables.specs.Tables.{slices_fit}
 use Rattle.demands.specs.Call.{Call, leaf_count, record_at, list_at}
 use Rattle.demands.specs.Walks.{list_left}
+use Rattle.demands.specs.Panes.{Panes}
 
 -- ---- two calls
 
@@ -82,6 +84,16 @@ module _ (m : ℕ) (a b : Call) where
     abbrev pub SameLoss : Type 0
     SameLoss = (panes : ℕ) (losses : List ℕ)
         → loss_of (record_at a m) (list_at a) panes losses ray ≡ loss_of (record_at b m) (list_at b) panes losses ray
+
+    -- Over panes without a fault miss misses in both records, or is blocked in both,
+    abbrev pub SameMiss : Type 0
+    SameMiss = (panes : List Float) → Panes a.indices panes
+        → (miss_of (record_at a m) (list_at a) panes ray).answer ≡ (miss_of (record_at b m) (list_at b) panes ray).answer
+
+    -- and closest has a hit in both, or in neither.
+    abbrev pub SameHit : Type 0
+    SameHit = (panes : List Float) → Panes a.indices panes
+        → (closest_of (record_at a m) (list_at a) panes ray).answer ≡ no_hit ↔ (closest_of (record_at b m) (list_at b) panes ray).answer ≡ no_hit
 
   -- A report, over any rays: all ray totals, all pane totals and the tests, or the same refusal, with the slices lent as they are then left.
   abbrev pub SameReport : Type 0

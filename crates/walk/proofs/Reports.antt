@@ -1,4 +1,5 @@
--- What a query has noted are its reactions to the positions that its steps reported; miss reports what closest does, up to the first that stops it.
+-- What a query has noted are its reactions to the positions that its steps reported; miss reports what closest and any-hit do, up to the first
+-- that stops it.
 use mathlib.Core.Bool.{Bool, true, false, cond}
 use mathlib.Core.List.{List, [], ◌∷◌, ◌++◌}
 use mathlib.Core.Path.{◌≡◌, refl, sym, ap, subst, ◌∙◌}
@@ -8,9 +9,10 @@ use lib.ListN.{length, length-append}
 use Rattle.walk.specs.Tests.{Tests}
 use Rattle.walk.specs.Step.{Walker, Answer, tested, position, done, refused, Stepped, step_of, tell_of}
 use Rattle.walk.specs.Calls.{All, Op, step, tell, Run, run_ops, position_in, reported}
-use Rattle.walk.specs.Queries.{Reaction, told_all, follow, query, calls_after, query_calls}
+use Rattle.walk.specs.Queries.{Reaction, told_all, follow, query, calls_after, query_calls, append}
 use Rattle.walk.specs.Queries.{Pane, distance, faulty, Found, none, hit, closest, miss, lower, lower_at, block_at}
 use Rattle.walk.specs.Reports.{test_of, tested_nodes, told_ray, query_reports, Notes, up_to}
+use Rattle.lists.proofs.Tells.{clash}
 use Rattle.walk.proofs.Cases.{step_cases}
 use Rattle.walk.proofs.Ends.{tell_run}
 
@@ -135,7 +137,7 @@ module _ {RayData Distance : Type 0} (m : ℕ) (T : Tests RayData Distance) wher
         go done v e h = tt
         go (refused k) v e h = tt
 
-  -- ---- miss reports what closest does, up to the first position that stops it, for any panes
+  -- ---- miss reports what a query does that goes along with it, up to the first position that stops it, for any panes
 
   module _ (pane : ℕ → RayData → Pane Distance) (nearer : Distance → RayData → Bool) where
     abbrev near : ℕ → RayData → Found Distance → Reaction Distance (Found Distance)
@@ -147,38 +149,74 @@ module _ {RayData Distance : Type 0} (m : ℕ) (T : Tests RayData Distance) wher
     abbrev cut : RayData → List ℕ → List ℕ
     cut r = up_to (λ p. (block p r none).stop)
 
-    abbrev Cuts : ℕ → ℕ → Type 0
-    Cuts f n = (u : Walker RayData) (x : Found Distance) → query_reports m T block f n u none ≡ cut u.ray (query_reports m T near f n u x)
+    module _ {a : Type 0} (react : ℕ → RayData → a → Reaction Distance a) where
+      -- where no position stops miss, none stops the other, which tells nothing there
+      abbrev GoesAlong : Type 0
+      GoesAlong = (p : ℕ) (r : RayData) (x : a) → (block p r none).stop ≡ false → ((react p r x).stop ≡ false) × ((react p r x).tells ≡ [])
 
-    -- after a position whose pane is at a distance, nearer or not; and after any
-    cuts_at : (f n p : ℕ) (v : Walker RayData) (x : Found Distance) → Cuts f n → (t : Distance) (c : Bool)
-        → from_reaction block f n v (record { accumulator = cond c (hit p t) none; tells = []; stop = c })
-        ≡ cond c [] (cut v.ray (from_reaction near f n v (lower pane nearer c p t x)))
-    unfolding run_ops
-    cuts_at f n p v x h t true = refl
-    cuts_at f n p v x h t false = h v x
+      abbrev Cuts : ℕ → ℕ → Type 0
+      Cuts f n = (u : Walker RayData) (x : a) → query_reports m T block f n u none ≡ cut u.ray (query_reports m T react f n u x)
 
-    cuts_pane : (f n p : ℕ) (v : Walker RayData) (x : Found Distance) → Cuts f n → (q : Pane Distance)
-        → from_reaction block f n v (block_at pane nearer q p v.ray none)
-        ≡ cond (block_at pane nearer q p v.ray none).stop [] (cut v.ray (from_reaction near f n v (lower_at pane nearer q p v.ray x)))
-    unfolding run_ops
-    cuts_pane f n p v x h (distance t) = cuts_at f n p v x h t (nearer t v.ray)
-    cuts_pane f n p v x h (faulty k) = refl
+      goes_on : (f n : ℕ) (v : Walker RayData) (r : Reaction Distance a) → r.stop ≡ false → r.tells ≡ []
+          → from_reaction react f n v r ≡ query_reports m T react f n v r.accumulator
+      goes_on f n v r e g = rw (e, g)
+
+      module _ (along : GoesAlong) where
+        -- after a position whose pane is at a distance, nearer or not; and after any
+        cuts_at : (f n p : ℕ) (v : Walker RayData) (x : a) → Cuts f n → (t : Distance) (c : Bool)
+            → (c ≡ false → from_reaction react f n v (react p v.ray x) ≡ query_reports m T react f n v (react p v.ray x).accumulator)
+            → from_reaction block f n v (record { accumulator = cond c (hit p t) none; tells = []; stop = c })
+            ≡ cond c [] (cut v.ray (from_reaction react f n v (react p v.ray x)))
+        unfolding run_ops
+        cuts_at f n p v x h t true g = refl
+        cuts_at f n p v x h t false g = h v (react p v.ray x).accumulator ∙ ap (cut v.ray) (sym (g refl))
+
+        cuts_pane : (f n p : ℕ) (v : Walker RayData) (x : a) → Cuts f n → (q : Pane Distance) → pane p v.ray ≡ q
+            → from_reaction block f n v (block_at pane nearer q p v.ray none)
+            ≡ cond (block_at pane nearer q p v.ray none).stop [] (cut v.ray (from_reaction react f n v (react p v.ray x)))
+        unfolding run_ops
+        cuts_pane f n p v x h (distance t) e =
+            cuts_at f n p v x h t (nearer t v.ray)
+            (λ c. let k = along p v.ray x (ap (λ (q : Pane Distance). (block_at pane nearer q p v.ray none).stop) e ∙ c) in
+            goes_on f n v (react p v.ray x) k.0 k.1)
+        cuts_pane f n p v x h (faulty k) e = refl
+
+        pub reports_cut : (f n : ℕ) (w : Walker RayData) (x : a)
+            → query_reports m T block f n w none ≡ up_to (λ p. (block p w.ray none).stop) (query_reports m T react f n w x)
+        unfolding run_ops query_calls
+        reports_cut zero n w x = refl
+        reports_cut (suc f) n w x =
+            let v = (step_of m T n w).walker in
+            let b = (step_of m T n w).answer in
+            subst (λ (r : RayData). from_answer block f n b v none ≡ cut r (from_answer react f n b v x)) (step_ray n w) (go b v (reports_cut f n))
+          where
+            go : (b : Answer) (v : Walker RayData) → Cuts f n → from_answer block f n b v none ≡ cut v.ray (from_answer react f n b v x)
+            go (tested c) v h = h v x
+            go (position p) v h =
+                from_position block f n p v none
+                ∙ ap (p ∷◌) (cuts_pane f n p v x h (pane p v.ray) refl)
+                ∙ ap (cut v.ray) (sym (from_position react f n p v x))
+            go done v h = refl
+            go (refused k) v h = refl
+
+    -- closest goes along
+    near_along : GoesAlong near
+    near_along p r x e = go (pane p r) e
+      where
+        lowers : (c : Bool) (t : Distance) → c ≡ false → ((lower pane nearer c p t x).stop ≡ false) × ((lower pane nearer c p t x).tells ≡ [])
+        lowers false t e = (refl, refl)
+        lowers true t e = clash (sym e)
+
+        go : (q : Pane Distance) → (block_at pane nearer q p r none).stop ≡ false
+            → ((lower_at pane nearer q p r x).stop ≡ false) × ((lower_at pane nearer q p r x).tells ≡ [])
+        go (distance t) e = lowers (nearer t r) t e
+        go (faulty k) e = clash (sym e)
 
     pub miss_reports_lem : (f n : ℕ) (w : Walker RayData) (x : Found Distance)
         → query_reports m T block f n w none ≡ up_to (λ p. (block p w.ray none).stop) (query_reports m T near f n w x)
-    unfolding run_ops query_calls
-    miss_reports_lem zero n w x = refl
-    miss_reports_lem (suc f) n w x =
-        let v = (step_of m T n w).walker in
-        let b = (step_of m T n w).answer in
-        subst (λ (r : RayData). from_answer block f n b v none ≡ cut r (from_answer near f n b v x)) (step_ray n w) (go b v (miss_reports_lem f n))
-      where
-        go : (b : Answer) (v : Walker RayData) → Cuts f n → from_answer block f n b v none ≡ cut v.ray (from_answer near f n b v x)
-        go (tested c) v h = h v x
-        go (position p) v h =
-            from_position block f n p v none
-            ∙ ap (p ∷◌) (cuts_pane f n p v x h (pane p v.ray))
-            ∙ ap (cut v.ray) (sym (from_position near f n p v x))
-        go done v h = refl
-        go (refused k) v h = refl
+    miss_reports_lem = reports_cut near near_along
+
+    -- and so does any-hit
+    pub miss_listed_lem : (f n : ℕ) (w : Walker RayData) (x : List ℕ)
+        → query_reports m T block f n w none ≡ up_to (λ p. (block p w.ray none).stop) (query_reports m T append f n w x)
+    miss_listed_lem = reports_cut append (λ p r x e. (refl, refl))
