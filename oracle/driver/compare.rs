@@ -9,6 +9,7 @@ use crate::calls::{agreed_walk, told};
 use crate::join::{self, Seen};
 use crate::join_draws::{CAUSES, drawn, small, some_panes, spoil};
 use crate::loss::Call;
+use crate::ordering::Orders;
 use crate::queries::{aimed, scene};
 use crate::record::{Verdict, check};
 use crate::rng::Rng;
@@ -127,12 +128,14 @@ pub fn run(seed: u64, trees: usize) -> bool {
     let (mut converted, mut deep, mut rays) = (0, 0, Rays::new(seed));
     let mut seated = 0;
     let mut joins = Joins { rng: Rng::new(seed), seen: Seen::default(), refused: 0 };
+    let mut orders = Orders::new(seed);
     let (mut sound, mut damaged, mut laxer, mut stricter) = (0, 0, 0, 0);
     for k in 0..trees {
         joins.compare(k);
         let t = if k % 50 == 0 { large_tree(rng, k) } else { some_tree(rng, k) };
         let n = t.indices.len();
         assert_eq!(conversion_refusal(&t, 3, Room::needed(n)), 0);
+        orders.compare(k, &t);
         let limit = rng.below(4) as u32;
         let c = convert(&t, limit, rng.once_in(2));
         seated += children::agreed(&t, limit);
@@ -173,5 +176,6 @@ pub fn run(seed: u64, trees: usize) -> bool {
     println!("damaged records: {damaged}; unsound, yet validated: {laxer}; sound, yet not validated: {stricter}");
     rays.print();
     joins.print();
+    orders.print();
     stricter == 0
 }

@@ -311,7 +311,7 @@ pub fn reach(rng: &mut Rng) -> f32 {
 }
 
 /// A point of the box, at times with a zero where the box has one.
-fn inside(rng: &mut Rng, b: &Aabb) -> Vec3A {
+pub fn inside(rng: &mut Rng, b: &Aabb) -> Vec3A {
     let spans = [(b.min.x, b.max.x), (b.min.y, b.max.y), (b.min.z, b.max.z)];
     let mut at = |lo: f32, hi: f32| match lo <= 0.0 && 0.0 <= hi && rng.once_in(4) {
         true => zero(rng),

@@ -23,6 +23,7 @@ mod losses;
 mod made;
 mod nodes;
 mod odd;
+mod ordering;
 mod queries;
 mod query;
 mod record;
@@ -64,6 +65,7 @@ fn store(folder: &str) -> bool {
     store::write(&at("large"), &large::groups(SEED + 11));
     store::write(&at("losses"), &losses::groups(SEED + 12));
     store::write(&at("joins"), &joins::groups(SEED + 13));
+    store::write(&at("ordering"), &ordering::groups(SEED + 14));
     store::write(&at("showrecord"), &show::groups(SEED + 4));
     store::write(&at("nodes"), &nodes::groups(SEED + 6));
     store::write(&at("children"), &children::groups(SEED + 7));

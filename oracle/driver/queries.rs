@@ -38,10 +38,15 @@ pub fn target_box(rng: &mut Rng, t: &Tree) -> Aabb {
     t.aabb(if rng.once_in(4) { rng.below(t.count()) } else { rng.pick(&leaves) })
 }
 
+/// The boxes of a record's slots, but for those that hold nothing.
+pub fn slot_boxes(record: &[u8]) -> Vec<Aabb> {
+    let used = |d: &CwBvhNode| (0..8).filter(|&slot| !d.is_child_empty(slot)).map(|slot| d.child_aabb(slot)).collect::<Vec<_>>();
+    nodes_of(record).iter().flat_map(used).collect()
+}
+
 /// A ray along an axis through the middle of a slot's box, if the record has one: from there, or from some way back.
 fn through_slot(rng: &mut Rng, record: &[u8]) -> Option<Ray> {
-    let used = |d: &CwBvhNode| (0..8).filter(|&slot| !d.is_child_empty(slot)).map(|slot| d.child_aabb(slot)).collect::<Vec<_>>();
-    let boxes: Vec<Aabb> = nodes_of(record).iter().flat_map(used).collect();
+    let boxes = slot_boxes(record);
     let b = if boxes.is_empty() { return None } else { rng.pick(&boxes) };
     let d = along_axis(rng);
     let back = (b.max - b.min).max_element() * rng.between(0.0, 2.0);

@@ -40,6 +40,7 @@ pub const LOSSES: u32 = 43;
 pub const LOSS_SIZES: u32 = 44;
 pub const JOINS: u32 = 45;
 pub const JOIN_SIZES: u32 = 46;
+pub const ORDERED_AND_NOT: u32 = 47;
 
 pub struct Group {
     pub kind: u32,

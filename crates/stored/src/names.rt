@@ -38,6 +38,7 @@ pub fn print_name(rt: &impl Print, kind: u32) -> io::Result<()> {
         44 => "losses by lengths",
         45 => "joins",
         46 => "joins by lengths",
+        47 => "ordered and not",
         _ => "unknown",
     })
 }
