@@ -80,7 +80,8 @@ static inline size_t funnelcress_join_marks(size_t first, size_t second) {
  *   words      7 (2n - 1) words of the tree, none for n = 0; read
  *   indices    n words; a leaf's position is a place in them; read
  *   limit      the most leaves of a leaf child, 0 to 3 (0 acts as 1)
- *   order      1: children take the slots that suit the directions of rays; 0: as gathered
+ *   order      1: children take the slots that suit the directions of rays; 0: as gathered. Either way any ray meets the
+ *              same panes as often, by as many node tests; positions and their sequence may differ
  *   decisions, costs   working slices of funnelcress_table_words(n) or more; the tables are left there
  *   record     funnelcress_record_bytes(n) bytes or more
  *   list       n words or more

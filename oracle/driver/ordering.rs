@@ -1,11 +1,11 @@
 //! Ordering: each tree is converted with its children ordered, and with them as gathered. In both records a ray must meet the same
-//! panes by the published any-hit, each as often, by as many node tests; and a report over both must be the same. Where positions
-//! stand, and the sequence in which they come, may differ.
+//! panes by the published any-hit, each as often, by as many node tests; it must be blocked in both or in neither; and a report over
+//! both must be the same. Where positions stand, and the sequence in which they come, may differ.
 use crate::accept::{Room, accepted_ray, conversion_refusal};
 use crate::convert::{Converted, bvh_of, convert};
 use crate::generate::{BOXES, Boxes, SHAPES, any_box, chain, inside, ray, tree};
 use crate::loss::Call;
-use crate::queries::{aimed, slot_boxes, target_box};
+use crate::queries::{aimed, panes, slot_boxes, target_box};
 use crate::query;
 use crate::rng::Rng;
 use crate::scene::ray_words;
@@ -31,7 +31,8 @@ struct Pair {
 }
 
 /// What was compared: trees (with a level over 31, with a child outside its parent's box, with a flat box, with an index word
-/// repeated, with records that differ), rays (that meet something, that meet panes in two sequences), panes, tests, reports.
+/// repeated, with records that differ), rays (that meet something, that meet panes in two sequences), panes, tests, rays asked
+/// whether they are blocked (and that are), reports.
 #[derive(Default)]
 pub struct Seen {
     trees: u32,
@@ -45,6 +46,8 @@ pub struct Seen {
     resequenced: u32,
     panes: u64,
     tests: u64,
+    asked: u32,
+    blocked: u32,
     reports: u32,
 }
 
@@ -180,6 +183,19 @@ impl Pair {
         Met { tests, panes }
     }
 
+    /// Whether these panes block a ray, which must be so in both records or in neither, where closest then has a hit.
+    fn blocked(&self, panes: &[Aabb], r: &Ray, seen: &mut Seen) -> bool {
+        let [ordered, gathered] = self.bvhs.each_ref().map(|bvh| {
+            let missed = query::miss(bvh, panes, *r).found == [1];
+            assert_eq!(missed, query::closest(bvh, panes, *r).found.is_empty());
+            !missed
+        });
+        assert_eq!(ordered, gathered);
+        seen.asked += 1;
+        seen.blocked += ordered as u32;
+        ordered
+    }
+
     /// A report of these rays over both records, with the same losses: its tests and all totals must be the same.
     fn report(&self, rng: &mut Rng, rays: &[Ray], seen: &mut Seen) {
         let [ordered, gathered] = &self.ways;
@@ -207,9 +223,9 @@ impl Display for Seen {
         let Seen { trees, deep, outside, flat, repeated, unlike, .. } = self;
         write!(f, "{trees} trees ({outside} with children outside, {flat} with flat boxes, {repeated} with index words repeated, ")?;
         write!(f, "{deep} with a level over 31), {unlike} with records that differ; ")?;
-        let Seen { rays, meeting, resequenced, panes, tests, reports, .. } = self;
+        let Seen { rays, meeting, resequenced, panes, tests, asked, blocked, reports, .. } = self;
         write!(f, "both ways the same for {rays} rays, of which {meeting} meet {panes} panes, {resequenced} in two sequences, ")?;
-        write!(f, "by {tests} node tests in all, and for {reports} reports")
+        write!(f, "by {tests} node tests in all; for {asked} rays of which {blocked} are blocked; and for {reports} reports")
     }
 }
 
@@ -225,7 +241,7 @@ impl Orders {
         Orders { rng: Rng::new(seed), seen: Seen::default() }
     }
 
-    /// Eight rays over both records of a tree, and a report of them where its index words name panes.
+    /// Eight rays over both records of a tree; and where its index words name panes, whether these block them, and a report.
     fn compare_tree(&mut self, t: &Tree) {
         let Orders { rng, seen } = self;
         let pair = Pair::new(t, rng.below(4) as u32);
@@ -236,6 +252,8 @@ impl Orders {
         let rays: Vec<Ray> = (0..8).map(|_| pair.ray(rng, t)).collect();
         rays.iter().for_each(|r| drop(pair.met(r, seen)));
         if t.indices.iter().all(|&x| (x as usize) < t.indices.len()) {
+            let boxes = query::panes_of(&panes(rng, t));
+            rays.iter().for_each(|r| drop(pair.blocked(&boxes, r, seen)));
             pair.report(rng, &rays, seen);
         }
     }
@@ -278,16 +296,19 @@ impl Stored {
     }
 
     /// Leaves, leaf limit, record nodes, deepest level, rays; node words, index words, the floats of the rays; for each ray its node
-    /// tests, how many panes it meets, and these in rising order, each as often as it is met.
+    /// tests, whether it is blocked where pane k has the box of node k, how many panes it meets, and these in rising order, each as
+    /// often as it is met.
     fn add(&mut self, t: &Tree, limit: u32, pair: &Pair, rays: &[Ray]) {
         self.seen.note(t, pair);
         let nodes = pair.ways[0].record.len() / 80;
         let mut w = vec![t.indices.len() as u32, limit, nodes as u32, pair.ways[0].deepest, rays.len() as u32];
         w.extend(t.nodes.iter().chain(&t.indices));
         w.extend(rays.iter().flat_map(ray_words));
+        let boxes: Vec<Aabb> = (0..t.indices.len()).map(|k| t.aabb(k)).collect();
         for r in rays {
             let met = pair.met(r, &mut self.seen);
-            w.extend([met.tests, met.panes.len() as u32]);
+            let blocked = pair.blocked(&boxes, r, &mut self.seen);
+            w.extend([met.tests, blocked as u32, met.panes.len() as u32]);
             w.extend(met.panes);
         }
         pair.report(&mut self.rng, rays, &mut self.seen);

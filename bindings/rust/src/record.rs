@@ -15,7 +15,8 @@ pub type Pane = [f32; 6];
 pub struct Options {
     /// The most leaves of a leaf child, at most 3; 0 acts as 1.
     pub limit: u32,
-    /// Whether children take the slots that suit the directions of rays.
+    /// Whether children take the slots that suit the directions of rays. Either way any ray meets the same panes as often,
+    /// by as many node tests, and reports are equal; positions and their sequence may differ.
     pub ordered: bool,
 }
 

@@ -3,19 +3,26 @@
 // The most leaves of a stored tree.
 pub const MOST_LEAVES: usize = 64;
 
-// A record with the index words of its positions, and the losses of the panes that these name.
+// Panes: what each takes, and the boxes of six floats each.
 #[derive(Clone, Copy)]
-pub struct Priced<'a> {
+pub struct Panes<'a> {
+    pub losses: &'a [u32],
+    pub boxes: &'a [f32],
+}
+
+// A record with the index words of its positions, and the panes that these name.
+#[derive(Clone, Copy)]
+pub struct Glazed<'a> {
     pub record: &'a [u8],
     pub list: &'a [u32],
-    pub losses: &'a [u32],
+    pub panes: Panes<'a>,
 }
 
 // The record of a tree's conversion with its children ordered, and of the one with them as gathered.
 #[derive(Clone, Copy)]
 pub struct Pair<'a> {
-    pub ordered: Priced<'a>,
-    pub gathered: Priced<'a>,
+    pub ordered: Glazed<'a>,
+    pub gathered: Glazed<'a>,
 }
 
 // What pane k takes: another loss than every other pane.

@@ -1,5 +1,5 @@
 // Reports of losses over both records of a tree.
-use crate::pairs::{MOST_LEAVES, Pair, Priced};
+use crate::pairs::{Glazed, MOST_LEAVES, Pair};
 use causes::Refusal;
 use stored::TOTAL;
 
@@ -14,16 +14,16 @@ struct Totals {
 }
 
 // What a report answers, and what it leaves in the words.
-fn reported(priced: Priced, rays: &[f32]) -> (Result<u64, Refusal>, Totals) {
+fn reported(house: Glazed, rays: &[f32]) -> (Result<u64, Refusal>, Totals) {
     let mut totals = Totals {
         rays: [TOTAL; MOST_RAYS],
         panes: [TOTAL; MOST_LEAVES],
     };
     let answer = loss::report(
-        priced.record,
-        priced.list,
-        priced.losses.len(),
-        priced.losses,
+        house.record,
+        house.list,
+        house.panes.losses.len(),
+        house.panes.losses,
         rays,
         &mut totals.rays,
         &mut totals.panes,

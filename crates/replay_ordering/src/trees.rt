@@ -1,7 +1,7 @@
 // The stored cases of trees that are converted both ways.
 ghost use Rattle.std.specs.Prelude.{◌≤◌};
 
-use crate::pairs::{MOST_LEAVES, Pair, Priced, loss_of};
+use crate::pairs::{Glazed, MOST_LEAVES, Pair, Panes, loss_of};
 use crate::rays;
 use crate::reports::same_reports;
 use bvh2_to_cwbvh::{Converted, bvh2_to_cwbvh};
@@ -68,7 +68,7 @@ fn answered(case: &[u8], floats: &[u8], pair: Pair) -> bool {
 }
 
 // Whether a tree is converted both ways and answered over both records as stored.
-fn compared(case: &[u8], floats: &[u8], words: &[u32], indices: &[u32], losses: &[u32]) -> bool {
+fn compared(case: &[u8], floats: &[u8], words: &[u32], indices: &[u32], panes: Panes) -> bool {
     let mut record = [BYTE; MOST_BYTES];
     let mut list = [WORD; MOST_LEAVES];
     let mut other_record = [BYTE; MOST_BYTES];
@@ -91,21 +91,28 @@ fn compared(case: &[u8], floats: &[u8], words: &[u32], indices: &[u32], losses: 
     ) {
         return false;
     }
-    let ordered = Priced {
+    let ordered = Glazed {
         record: &record[..bytes],
         list: &list[..n],
-        losses,
+        panes,
     };
-    let gathered = Priced {
+    let gathered = Glazed {
         record: &other_record[..bytes],
         list: &other_list[..n],
-        losses,
+        panes,
     };
     answered(case, floats, Pair { ordered, gathered })
 }
 
-// Leaves, leaf limit, record nodes, deepest level, rays; node words, index words, floats of the rays; for each ray its node tests, how many panes it
-// meets, and these in rising order.
+// Pane k has the box of node k.
+fn put_boxes(case: &[u8], boxes: &mut [f32]) {
+    for k in 0..boxes.len() / 6 {
+        copy_words(behind(case, HEAD + 7 * k), &mut boxes[6 * k..6 * k + 6]);
+    }
+}
+
+// Leaves, leaf limit, record nodes, deepest level, rays; node words, index words, floats of the rays; for each ray its node tests, whether it is
+// blocked, how many panes it meets, and these in rising order.
 pub fn both_ways(case: &[u8]) -> bool {
     let n = word(case, 0) as usize;
     if n > MOST_LEAVES {
@@ -117,9 +124,15 @@ pub fn both_ways(case: &[u8]) -> bool {
     for k in 0..MOST_LEAVES {
         losses[k] = loss_of(k as u32);
     }
+    let mut boxes = [0.0f32; MOST_LEAVES * 6];
+    put_boxes(case, &mut boxes[..n * 6]);
     let words: &mut [u32] = &mut word_space[..tree_size(n)];
     let indices: &mut [u32] = &mut index_space[..n];
     let positions = copy_words(behind(case, HEAD), words);
     let floats = copy_words(positions, indices);
-    compared(case, floats, words, indices, &losses[..n])
+    let panes = Panes {
+        losses: &losses[..n],
+        boxes: &boxes[..n * 6],
+    };
+    compared(case, floats, words, indices, panes)
 }
