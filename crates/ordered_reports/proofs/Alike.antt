@@ -1,4 +1,4 @@
--- Over two records that are alike to rays, any-hit gives the same answer and lists positions of the same panes, and a loss and a whole report are equal.
+-- Over two records that are alike to rays any-hit gives the same answer and lists positions of the same panes, and losses and reports are equal.
 use mathlib.Core.Bool.{Bool, true, cond}
 use mathlib.Core.List.{List, [], ◌∷◌, ◌++◌, Perm}
 use mathlib.Core.Path.{◌≡◌, refl, sym, ap, ap₂, subst, ◌∙◌}

@@ -15,7 +15,7 @@ use Rattle.bvh2.specs.Words.{tree_of}
 use Rattle.bvh2.specs.Decoded.{Decoded}
 use Rattle.wide_layout.specs.Wide.{Wide}
 use Rattle.wide_layout.specs.Layout.{index_list, index_count}
-use Rattle.wide_layout.specs.Kept.{met, reached_below}
+use Rattle.wide_layout.specs.Kept.{met_below, reached_below}
 use Rattle.wide_layout.proofs.Kept.{every}
 use Rattle.wide_layout.proofs.Sizes.{index_length}
 use Rattle.wide_tree.specs.WideTree.{wide_of}
@@ -70,15 +70,16 @@ module _ (ws indices : List ℕ) (limit : ℕ) (small : limit ≤ 3) {n : ℕ} (
 
     -- the panes that it meets in the record are those of the positions met of the tree,
     tree_panes : Perm (panes_met (words_at indices (index_list t)) (positions_met (record_bytes t) n ray))
-        (words_at indices (met (keeps ray) every t.box t.slots))
+        (words_at indices (met_below (keeps ray) every t.box t.slots))
     unfolding any_hit_at query_at
     tree_panes =
-        let there = subst (λ (k : ℕ). All (λ p. p < k) (positions_met (record_bytes t) n ray)) (sym (index_length t ∙ count_is)) (met_exist good accepted) in
+        let exist =
+        subst (λ (k : ℕ). All (λ p. p < k) (positions_met (record_bytes t) n ray)) (sym (index_length t ∙ count_is)) (met_exist good accepted) in
         let wide_met = boxes_met t (wide ws limit ordered n h small) ray (walk good_tree accepted) in
-        subst (λ (l : List ℕ). Perm l (words_at indices (met (keeps ray) every t.box t.slots)))
-        (sym (words_twice indices (index_list t) (positions_met (record_bytes t) n ray) there))
+        subst (λ (l : List ℕ). Perm l (words_at indices (met_below (keeps ray) every t.box t.slots)))
+        (sym (words_twice indices (index_list t) (positions_met (record_bytes t) n ray) exist))
         (Perm.map (λ p. get_or indices p 0)
-        (subst (λ (k : ℕ). Perm (words_at (index_list t) (positions_met (record_bytes t) k ray)) (met (keeps ray) every t.box t.slots))
+        (subst (λ (k : ℕ). Perm (words_at (index_list t) (positions_met (record_bytes t) k ray)) (met_below (keeps ray) every t.box t.slots))
         count_is wide_met))
 
     -- and its tests are the first node's and those of the nodes reached below

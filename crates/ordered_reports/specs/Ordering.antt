@@ -1,5 +1,5 @@
--- What is claimed of ordering (02, [6]): of two calls of the conversion that are given one tree and one leaf limit. Either may ask for ordering or not,
--- and the slices lent may be any.
+-- What is claimed of ordering (02, [6]): of two calls of the conversion that are given one tree and one leaf limit. Either may ask for ordering or
+-- not, and the slices lent may be any.
 use Rattle.std.specs.Prelude.{◌↔◌, ◌≡◌, ℕ, ◌≤◌, Float, length}
 use mathlib.Core.List.{List, Perm}
 use Rattle.lists.specs.Counts.{count}
@@ -46,30 +46,30 @@ panes_of c found = panes_met (list_at c) found
 
 module _ (m : ℕ) (c : Call) (ray : Ray) where
   -- the positions met, and the node tests
-  abbrev pub positions_in : List ℕ
-  positions_in = positions_met (record_at c m) (leaf_count c) ray
+  abbrev pub positions_met_in : List ℕ
+  positions_met_in = positions_met (record_at c m) (leaf_count c) ray
 
-  abbrev pub tests_in : ℕ
-  tests_in = tests_made (record_at c m) (leaf_count c) ray
+  abbrev pub tests_made_in : ℕ
+  tests_made_in = tests_made (record_at c m) (leaf_count c) ray
 
   -- a list has room for them
-  abbrev pub Room : List ℕ → Type 0
-  Room before = length positions_in ≤ length before
+  abbrev pub AllFit : List ℕ → Type 0
+  AllFit before = length positions_met_in ≤ length before
 
   -- and what any-hit, lent such a list, leaves in it
-  abbrev pub listed_in : List ℕ → List ℕ
-  listed_in before = list_left (record_at c m) ray (leaf_count c) before
+  abbrev pub left_in : List ℕ → List ℕ
+  left_in before = list_left (record_at c m) ray (leaf_count c) before
 
 module _ (m : ℕ) (a b : Call) where
   module _ (ray : Ray) where
     -- The ray meets the same panes in both records, each the same number of times,
     pub record SamePanes : Type 0 where
-      pub rearranged : Perm (panes_of a (positions_in m a ray)) (panes_of b (positions_in m b ray))
-      pub as_often : (k : ℕ) → count k (panes_of a (positions_in m a ray)) ≡ count k (panes_of b (positions_in m b ray))
+      pub rearranged : Perm (panes_of a (positions_met_in m a ray)) (panes_of b (positions_met_in m b ray))
+      pub as_often : (k : ℕ) → count k (panes_of a (positions_met_in m a ray)) ≡ count k (panes_of b (positions_met_in m b ray))
 
     -- and makes the same number of node tests.
     abbrev pub SameTests : Type 0
-    SameTests = tests_in m a ray ≡ tests_in m b ray
+    SameTests = tests_made_in m a ray ≡ tests_made_in m b ray
 
     -- The public call of any-hit answers the same, whatever the room: so many positions after so many tests, or the length needed, or a refusal.
     abbrev pub SameAnyHit : Type 0
@@ -77,8 +77,8 @@ module _ (m : ℕ) (a b : Call) where
 
     -- What it leaves in lists with room names the same panes, each the same number of times.
     abbrev pub SameLists : Type 0
-    SameLists = (before other : List ℕ) → Room m a ray before → Room m b ray other
-        → Perm (panes_of a (listed_in m a ray before)) (panes_of b (listed_in m b ray other))
+    SameLists = (before other : List ℕ) → AllFit m a ray before → AllFit m b ray other
+        → Perm (panes_of a (left_in m a ray before)) (panes_of b (left_in m b ray other))
 
     -- The ray's loss, for so many panes and any losses: the sum and its tests, or the same refusal.
     abbrev pub SameLoss : Type 0

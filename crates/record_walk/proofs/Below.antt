@@ -46,8 +46,8 @@ pub record KeepsChildren (t : Wide) (keep : Aabb → Aabb → List ℕ → Bool)
   pub inner_kept : (v j : ℕ) → v < nodes t → j < 8 → (c : Aabb) (u : Slots 8) → content_at (layout_entry t v).slots j ≡ inner_child c u
       → passes v j ≡ keep (layout_entry t v).box c (slots_positions u)
 
--- A walk sees the wide tree in the record: the record has the layout's shape; a slot's bit and rank are its inner child's; slots are passed as children
--- are kept; and a position passes its own test as its place in the index list does.
+-- A walk sees the wide tree in the record: the record has the layout's shape; a slot's bit and rank are its inner child's; slots are passed as
+-- children are kept; and a position passes its own test as its place in the index list does.
 pub record SeesTree {RayData Distance : Type 0} (W : WalkRecord RayData Distance) (ray : RayData) (t : Wide)
     (keep : Aabb → Aabb → List ℕ → Bool) (own : ℕ → Bool) : Type 0 where
   pub reads : Reads W.shape t
@@ -134,7 +134,8 @@ module _ {RayData Distance : Type 0} (W : WalkRecord RayData Distance) (Rule : �
             own_value v h,
             sum-add (λ j. leaf_share of_leaf (box v) (content v j)) (λ j. cond (passed_child W ray v j) (gathered (child_number W v j)) 0) 8,
             sum_cong (λ j. leaf_share of_leaf (box v) (content v j) + cond (passed_child W ray v j) (gathered (child_number W v j)) 0)
-                (λ j. share keep of_leaf of_inner (box v) (content v j)) 8 (λ j i. slot_share v j h i (λ c u e. child_value (gathered_below k) j i c u e)),
+                (λ j. share keep of_leaf of_inner (box v) (content v j)) 8
+                (λ j i. slot_share v j h i (λ c u e. child_value (gathered_below k) j i c u e)),
             kept_by_slots keep of_leaf of_inner (box v) (layout_entry t v).slots,
           )
         where
@@ -210,7 +211,8 @@ module _ {RayData Distance : Type 0} (W : WalkRecord RayData Distance) (Rule : �
         let n : own_at slots j ≡ length ps = own_child slots j ∙ ap length e in
         let a = start_of (omega arith) in
         let b = (layout_entry t v).position_base + own_before slots j in
-        let g : take (own_at slots j) (drop b (index_list t)) ≡ ps = node_has (Holding (index_list t)) t (holding t) v h j ∙ positions_content slots j ∙ e in
+        let g : take (own_at slots j) (drop b (index_list t)) ≡ ps =
+        node_has (Holding (index_list t)) t (holding t) v h j ∙ positions_content slots j ∙ e in
         let z = node_has (EntryInside (nodes t) (index_count t)) t (inside t) v h in (
           ap (λ (x : ℕ). word (x + i)) a
               ∙ sym (get_or-drop b (index_list t) i 0)
@@ -254,7 +256,9 @@ module _ {RayData Distance : Type 0} (W : WalkRecord RayData Distance) (Rule : �
 
   -- and the nodes gathered are those reached in it
   pub nodes_gathered : gathered (λ ps. 0) 1 (λ v. 1) 0 ≡ 1 + below (λ ps. 0) 1 (λ v. 1) t.box t.slots
-  nodes_gathered = gathered_first (λ ps. 0) 1 (λ v. 1) (λ v h. omega (arith, sum-zero (λ j. leaf_share (λ ps. 0) (box v) (content v j)) 8 (λ j l. nothing (box v) (content v j))))
+  nodes_gathered =
+      gathered_first (λ ps. 0) 1 (λ v. 1)
+      (λ v h. omega (arith, sum-zero (λ j. leaf_share (λ ps. 0) (box v) (content v j)) 8 (λ j l. nothing (box v) (content v j))))
     where
       nothing : (b : Aabb) (c : Content) → leaf_share (λ ps. 0) b c ≡ 0
       nothing b none = refl

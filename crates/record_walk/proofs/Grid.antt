@@ -13,7 +13,7 @@ use Rattle.wide_layout.specs.Layout.{Entry}
 use Rattle.record.specs.Record.{grid_box, node_of}
 use Rattle.record.specs.Children.{child_bytes}
 use Rattle.record.proofs.Children.{bytes_at}
-use Rattle.record_walk.specs.Kept.{grid_of, box_kept}
+use Rattle.record_walk.specs.Kept.{bare_node, box_kept}
 
 -- two nodes with one corner and one set of exponents
 pub record SameGrid (v u : Node) : Type 0 where
@@ -31,7 +31,7 @@ passes_by_grid v u h t r = rw (h.px, h.py, h.pz, h.ex, h.ey, h.ez)
 -- a slot with the bytes of box c is passed as the box is
 pub slot_kept : (e : Entry) (k : ℕ) (c : Aabb) → child_bytes e.box (content_at e.slots k) ≡ grid_box e.box c → (r : Ray)
     → passes_slot (node_of e) r k ≡ box_kept r e.box c
-unfolding node_of grid_of box_kept
+unfolding node_of bare_node box_kept
 slot_kept e k c h r =
     ap (λ (t : Slot). passes (node_of e) t r) (bytes_at e.box e.slots k ∙ h)
-    ∙ passes_by_grid (node_of e) (grid_of e.box) (record { px = refl; py = refl; pz = refl; ex = refl; ey = refl; ez = refl }) (grid_box e.box c) r
+    ∙ passes_by_grid (node_of e) (bare_node e.box) (record { px = refl; py = refl; pz = refl; ex = refl; ey = refl; ez = refl }) (grid_box e.box c) r

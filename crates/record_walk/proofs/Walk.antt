@@ -1,5 +1,5 @@
--- Any-hit over the record of a wide tree: the positions of the tree that it lists are those met of the tree, each as often, and its tests are the first
--- node's and one for each node reached below.
+-- Any-hit over the record of a wide tree: the positions of the tree that it lists are those met of the tree, each as often, and its tests are the
+-- first node's and one for each node reached below.
 use mathlib.Core.Bool.{Bool}
 use mathlib.Core.List.{List, [], ◌∷◌, ◌++◌, Perm}
 use mathlib.Core.Path.{◌≡◌, refl, sym, ap, ap₂, ◌∙◌}
@@ -19,7 +19,7 @@ use Rattle.node.specs.Node.{inner_bit, child_index}
 use Rattle.wide_layout.specs.Wide.{Wide}
 use Rattle.wide_layout.specs.Layout.{index_list, index_count}
 use Rattle.wide_layout.specs.Shape.{layout_entry}
-use Rattle.wide_layout.specs.Kept.{met, reached_below}
+use Rattle.wide_layout.specs.Kept.{met_below, reached_below}
 use Rattle.wide_layout.proofs.Kept.{every, met_measure}
 use Rattle.record.specs.Record.{node_of, record_bytes}
 use Rattle.record.specs.Children.{child_bytes}
@@ -62,7 +62,8 @@ layout_passes R r t v j = R.passes r v (node_of (layout_entry t v)) j
 
 module _ {RayData Distance : Type 0} (t : Wide) (h : Writable t) (R : Rays RayData Distance) (r : RayData)
     (w : SoundWalk (nodes_at (record_bytes t)) R (index_count t) r) (keep : Aabb → Aabb → List ℕ → Bool) (own : ℕ → Bool)
-    (keeps : KeepsChildren t keep (layout_passes R r t)) (admitted : (p : ℕ) → p < index_count t → R.admits r p ≡ own (get_or (index_list t) p 0)) where
+    (keeps : KeepsChildren t keep (layout_passes R r t))
+    (admitted : (p : ℕ) → p < index_count t → R.admits r p ≡ own (get_or (index_list t) p 0)) where
   abbrev W : WalkRecord RayData Distance
   W = slots_in (nodes_at (record_bytes t)) R (index_count t)
 
@@ -86,7 +87,7 @@ module _ {RayData Distance : Type 0} (t : Wide) (h : Writable t) (R : Rays RayDa
   abbrev listed : List ℕ
   listed = (any_hit_in (nodes_at (record_bytes t)) R (index_count t) r).accumulator
 
-  words_sum : (f : ℕ → ℕ) → sum_over f (words_at (index_list t) listed) ≡ sum_over f (met keep own t.box t.slots)
+  words_sum : (f : ℕ → ℕ) → sum_over f (words_at (index_list t) listed) ≡ sum_over f (met_below keep own t.box t.slots)
   unfolding shape_in sum_over
   words_sum f =
       over_words f (index_list t) listed
@@ -97,9 +98,9 @@ module _ {RayData Distance : Type 0} (t : Wide) (h : Writable t) (R : Rays RayDa
       ∙ sym (met_measure keep own (sum_over f) refl (over_append f) t.box t.slots)
 
   -- what it lists is what is met of the tree,
-  pub walk_is_met : Perm (words_at (index_list t) listed) (met keep own t.box t.slots)
-  walk_is_met = (counts_perm (words_at (index_list t) listed) (met keep own t.box t.slots)).1
-      (λ x. sym (sum_same x (words_at (index_list t) listed)) ∙ words_sum (λ y. same x y) ∙ sum_same x (met keep own t.box t.slots))
+  pub walk_is_met : Perm (words_at (index_list t) listed) (met_below keep own t.box t.slots)
+  walk_is_met = (counts_perm (words_at (index_list t) listed) (met_below keep own t.box t.slots)).1
+      (λ x. sym (sum_same x (words_at (index_list t) listed)) ∙ words_sum (λ y. same x y) ∙ sum_same x (met_below keep own t.box t.slots))
 
   -- and it tests the first node and each that is reached below
   pub walk_tests : (any_hit_in (nodes_at (record_bytes t)) R (index_count t) r).walker.tests ≡ 1 + reached_below keep t.box t.slots
@@ -121,7 +122,7 @@ keeps_boxes t r = record {
 
 module _ (t : Wide) (h : Writable t) (r : Ray) (w : SoundWalk (nodes_at (record_bytes t)) by_boxes (index_count t) (walk_ray r)) where
   pub boxes_met : Perm (words_at (index_list t) (any_hit_in (nodes_at (record_bytes t)) by_boxes (index_count t) (walk_ray r)).accumulator)
-      (met (λ b c ps. box_kept r b c) every t.box t.slots)
+      (met_below (λ b c ps. box_kept r b c) every t.box t.slots)
   boxes_met = walk_is_met t h by_boxes (walk_ray r) w (λ b c ps. box_kept r b c) every (keeps_boxes t r) (λ p l. refl)
 
   pub boxes_tests : (any_hit_in (nodes_at (record_bytes t)) by_boxes (index_count t) (walk_ray r)).walker.tests

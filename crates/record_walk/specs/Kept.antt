@@ -9,11 +9,11 @@ use Rattle.wide_layout.specs.Layout.{entry}
 use Rattle.record.specs.Record.{grid_box, node_of}
 
 -- a record node of box b that has no children: all that the slot test reads of a node is its box's
-unfoldable pub grid_of : Aabb → Node
+unfoldable pub bare_node : Aabb → Node
 unfolding node_of
-grid_of b = node_of (entry b (empty (empty (empty (empty (empty (empty (empty (empty end)))))))) 0 0 0 0 0 0)
+bare_node b = node_of (entry b (empty (empty (empty (empty (empty (empty (empty (empty end)))))))) 0 0 0 0 0 0)
 
 -- the ray passes box c on the grid of box b
 unfoldable pub box_kept : Ray → Aabb → Aabb → Bool
-unfolding grid_of grid_box passes
-box_kept r b c = passes (grid_of b) (grid_box b c) r
+unfolding bare_node grid_box passes
+box_kept r b c = passes (bare_node b) (grid_box b c) r

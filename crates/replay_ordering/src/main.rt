@@ -1,5 +1,6 @@
 // Converts stored trees with their children ordered and with them as gathered, and compares what rays meet in both records, and whether they are
-// blocked, with what is stored, and reports of losses over both. Its argument names a file of answers; how these are made and laid out is said in oracle/README.md.
+// blocked, with what is stored, and reports of losses over both. Its argument names a file of answers; how these are made and laid out is said in
+// oracle/README.md.
 #![tactic(auto)]
 
 mod pairs;

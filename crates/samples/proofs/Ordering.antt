@@ -33,7 +33,15 @@ use Rattle.bvh2_to_cwbvh.specs.Conversion.{record_of, output_positions, index_li
 use Rattle.samples.specs.Ordering.{OrderingSamples}
 
 pub ordering : OrderingSamples
-unfolding record_of index_list_of output_positions link_of box_at read_link box_of positions table decision best_of leaves half_area wide_of slots_from wide_children slots_of gathered_order partner of_bits of_int add sub mul lt cost_table direction_cost dot_of direction_of sign_of center_of assigned least_pair open_pairs pairs row_pairs keep some record_bytes joined_below layout_entry node_of grid_box grid_boxes metas inner_mask node_bytes head_bytes put_slots put_slot slot_offset child_min child_max clamped_byte on_grid reciprocal_of scale_of exponent_of extent_scale next_power max_of to_bits round div le any_hit_at query_at query_words step_words advance_words report_words visit_words pop_words ray_of unsigned_vec plain_vec unsigned_zero is_minus_zero octant_of hit_mask slot_hit hit_bits or_of passes near_of far_of min_of plane_at adjusted_inverse adjusted_origin near_limit node_from le_at sum_of slot_from node_rule head_ok children_ok slots_ok slot_ok leaf_top point_ok exponent_ok in_bounds ones_below field child_index top_of pushed count_leading_zeros safe_inverse bounded_vec accepted_ray neg eq is_nan
+unfolding record_of index_list_of output_positions link_of box_at read_link box_of positions table decision best_of leaves half_area wide_of
+    slots_from wide_children slots_of gathered_order partner of_bits of_int add sub mul lt cost_table direction_cost dot_of direction_of
+    sign_of center_of assigned least_pair open_pairs pairs row_pairs keep some record_bytes joined_below layout_entry node_of grid_box
+    grid_boxes metas inner_mask node_bytes head_bytes put_slots put_slot slot_offset child_min child_max clamped_byte on_grid reciprocal_of
+    scale_of exponent_of extent_scale next_power max_of to_bits round div le any_hit_at query_at query_words step_words advance_words
+    report_words visit_words pop_words ray_of unsigned_vec plain_vec unsigned_zero is_minus_zero octant_of hit_mask slot_hit hit_bits or_of
+    passes near_of far_of min_of plane_at adjusted_inverse adjusted_origin near_limit node_from le_at sum_of slot_from node_rule head_ok
+    children_ok slots_ok slot_ok leaf_top point_ok exponent_ok in_bounds ones_below field child_index top_of pushed count_leading_zeros
+    safe_inverse bounded_vec accepted_ray neg eq is_nan
 ordering = record {
   off = (refl, refl);
   on = (refl, refl);

@@ -1,5 +1,5 @@
--- The samples of ordering (02, [6]): T, T with one pane twice, and T with its leaves exchanged, each with ordering off and on, along the samples' ray.
--- `proofs/Ordering.antt` computes them.
+-- The samples of ordering (02, [6]): T, T with one pane twice, and T with its leaves exchanged, each with ordering off and on, along the samples'
+-- ray. `proofs/Ordering.antt` computes them.
 use Rattle.std.specs.Prelude.{Bool, true, false, List, [], ◌∷◌, ◌++◌, ◌≡◌, ℕ, take, drop}
 use Rattle.query.specs.Met.{positions_met, tests_made, panes_met}
 use Rattle.bvh2_to_cwbvh.specs.Conversion.{record_of, index_list_of}

@@ -37,10 +37,12 @@ module _ (node : ℕ → Entry) where
   in_slots end l p k i c q h j b u e = cc
   in_slots (empty s) l p k i c q h zero b u e = cc
   in_slots (empty s) l p k i c q h (suc j) b u e =
-      renamed (i + inner_before s j) (i + inner_before s j) p (k + 1 + j) (k + suc j) l b u refl (omega arith) (in_slots s l p (k + 1) i c q h j b u e)
+      renamed (i + inner_before s j) (i + inner_before s j) p (k + 1 + j) (k + suc j) l b u refl (omega arith)
+      (in_slots s l p (k + 1) i c q h j b u e)
   in_slots (leaf a ps s) l p k i c q h zero b u e = cc
   in_slots (leaf a ps s) l p k i c q h (suc j) b u e =
-      renamed (i + inner_before s j) (i + inner_before s j) p (k + 1 + j) (k + suc j) l b u refl (omega arith) (in_slots s l p (k + 1) i c q h j b u e)
+      renamed (i + inner_before s j) (i + inner_before s j) p (k + 1 + j) (k + suc j) l b u refl (omega arith)
+      (in_slots s l p (k + 1) i c q h j b u e)
   in_slots (inner a t s) l p k i c q h zero b u e =
       renamed i (i + 0) p k (k + 0) l b u (omega arith) (omega arith)
       (record {

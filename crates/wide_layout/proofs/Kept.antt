@@ -11,7 +11,7 @@ use Rattle.lists.specs.Sums.{sum}
 use Rattle.lists.proofs.Sums.{sum_front}
 use Rattle.wide_layout.specs.Content.{Content, none, leaf_child, inner_child, content_at}
 use Rattle.wide_layout.specs.Sizes.{inner_children, nodes_below, slots_positions}
-use Rattle.wide_layout.specs.Kept.{kept, met, reached_below}
+use Rattle.wide_layout.specs.Kept.{kept, met_below, reached_below}
 
 -- ---- with every child kept
 
@@ -25,7 +25,7 @@ filter_every : (ps : List ℕ) → filter every ps ≡ ps
 filter_every [] = refl
 filter_every (p ∷ ps) = ap (λ (l : List ℕ). p ∷ l) (filter_every ps)
 
-pub met_all : {w : ℕ} (b : Aabb) (s : Slots w) → met always every b s ≡ slots_positions s
+pub met_all : {w : ℕ} (b : Aabb) (s : Slots w) → met_below always every b s ≡ slots_positions s
 unfolding kept
 met_all b end = refl
 met_all b (empty s) = met_all b s
@@ -47,16 +47,16 @@ module _ (keep : Aabb → Aabb → List ℕ → Bool) (own : ℕ → Bool) (μ :
   either true a m e = e
   either false a m e = μ-none
 
-  pub met_measure : {w : ℕ} (b : Aabb) (s : Slots w) → μ (met keep own b s) ≡ kept keep 0 ◌+◌ (λ ps. μ (filter own ps)) 0 b s
+  pub met_measure : {w : ℕ} (b : Aabb) (s : Slots w) → μ (met_below keep own b s) ≡ kept keep 0 ◌+◌ (λ ps. μ (filter own ps)) 0 b s
   unfolding kept
   met_measure b end = μ-none
   met_measure b (empty s) = met_measure b s
   met_measure b (leaf c ps s) =
-      μ-append (cond (keep b c ps) (filter own ps) []) (met keep own b s)
+      μ-append (cond (keep b c ps) (filter own ps) []) (met_below keep own b s)
       ∙ ap₂ ◌+◌ (either (keep b c ps) (filter own ps) (μ (filter own ps)) refl) (met_measure b s)
   met_measure b (inner c t s) =
-      μ-append (cond (keep b c (slots_positions t)) ([] ++ met keep own c t) []) (met keep own b s)
-      ∙ ap₂ ◌+◌ (either (keep b c (slots_positions t)) (met keep own c t) _ (met_measure c t ∙ omega arith)) (met_measure b s)
+      μ-append (cond (keep b c (slots_positions t)) ([] ++ met_below keep own c t) []) (met_below keep own b s)
+      ∙ ap₂ ◌+◌ (either (keep b c (slots_positions t)) (met_below keep own c t) _ (met_measure c t ∙ omega arith)) (met_measure b s)
 
 -- ---- slot by slot
 

@@ -17,8 +17,8 @@ module _ (keep : Aabb → Aabb → List ℕ → Bool) where
     kept b (inner c t s) = join (cond (keep b c (slots_positions t)) (join of_inner (kept c t)) none) (kept b s)
 
   -- the positions met: those of kept leaf children that pass a test of their own
-  abbrev pub met : {w : ℕ} → (ℕ → Bool) → Aabb → Slots w → List ℕ
-  met own b s = kept [] ◌++◌ (filter own) [] b s
+  abbrev pub met_below : {w : ℕ} → (ℕ → Bool) → Aabb → Slots w → List ℕ
+  met_below own b s = kept [] ◌++◌ (filter own) [] b s
 
   -- how many nodes are reached below
   abbrev pub reached_below : {w : ℕ} → Aabb → Slots w → ℕ

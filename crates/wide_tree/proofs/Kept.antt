@@ -16,7 +16,7 @@ use Rattle.cost.specs.Table.{Kind, LEAF, INTERNAL, DISTRIBUTE, table}
 use Rattle.wide_layout.specs.Wide.{Slots}
 use Rattle.wide_layout.specs.Sizes.{slots_positions}
 use Rattle.wide_layout.specs.Layout.{nodes}
-use Rattle.wide_layout.specs.Kept.{kept, met, reached_below}
+use Rattle.wide_layout.specs.Kept.{kept, met_below, reached_below}
 use Rattle.wide_layout.proofs.Kept.{always, reached_all, met_measure, share}
 use Rattle.wide_tree.specs.WideTree.{Child, leaf_child, inner_child, child_box, hold, Placing, filled_slots, child_as, contributed, wide_children}
 use Rattle.wide_tree.specs.WideTree.{root_slots, wide_of}
@@ -115,11 +115,11 @@ nodes_any_placing limit p q places others t o =
 module _ (keep : Aabb → Aabb → List ℕ → Bool) (stable : Stable keep) {A : Type 0} (limit : ℕ) (p q : Placing) (places : Places p)
     (others : Places q) (t : Tree A) (o : Fine t) (b : Aabb) where
   -- the same positions are met, each as often,
-  pub met_any_placing : (own : ℕ → Bool) → Perm (met keep own b (root_slots p limit t)) (met keep own b (root_slots q limit t))
+  pub met_any_placing : (own : ℕ → Bool) → Perm (met_below keep own b (root_slots p limit t)) (met_below keep own b (root_slots q limit t))
   unfolding count
-  met_any_placing own = (counts_perm (met keep own b (root_slots p limit t)) (met keep own b (root_slots q limit t))).1 each
+  met_any_placing own = (counts_perm (met_below keep own b (root_slots p limit t)) (met_below keep own b (root_slots q limit t))).1 each
     where
-      each : (x : ℕ) → count x (met keep own b (root_slots p limit t)) ≡ count x (met keep own b (root_slots q limit t))
+      each : (x : ℕ) → count x (met_below keep own b (root_slots p limit t)) ≡ count x (met_below keep own b (root_slots q limit t))
       each x =
           met_measure keep own (count x) refl (count-append x) b (root_slots p limit t)
           ∙ kept_any_placing keep stable (λ ps. count x (filter own ps)) 0 limit p q places others t o b
