@@ -176,7 +176,7 @@ module _ (a b : Call) (same : SameTree a b) (m d : ℕ) (answers : Answers a m d
   all_alike = alike a b same m d answers second_answers
 
   module _ (ray : Ray) (accepted : AcceptedRay ray) where
-    -- A ray meets the same panes, each the same number of times,
+    -- A ray meets the same panes, each as often,
     pub ordering_same_panes : SamePanes m a b ray
     ordering_same_panes =
         let p = (all_alike ray accepted).panes in

@@ -75,7 +75,7 @@ module _ (m : ℕ) (a b : Call) where
     abbrev pub SameAnyHit : Type 0
     SameAnyHit = (room : ℕ) → any_hit_of (record_at a m) (leaf_count a) ray room ≡ any_hit_of (record_at b m) (leaf_count b) ray room
 
-    -- What it leaves in lists with room names the same panes, each the same number of times.
+    -- What it leaves in lists with room names the same panes, each as often.
     abbrev pub SameLists : Type 0
     SameLists = (before other : List ℕ) → AllFit m a ray before → AllFit m b ray other
         → Perm (panes_of a (left_in m a ray before)) (panes_of b (left_in m b ray other))
