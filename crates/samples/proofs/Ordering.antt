@@ -49,4 +49,6 @@ ordering = record {
   twice_on = refl;
   exchanged_off = (refl, refl);
   exchanged_on = (refl, refl);
+  row_off = (refl, refl);
+  row_on = (refl, refl);
 }
