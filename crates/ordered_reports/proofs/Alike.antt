@@ -168,10 +168,10 @@ module _ {n : ℕ} {bytes list other_bytes other_list : List ℕ} (sized : Sized
     -- ---- many rays
 
     module _ (panes : ℕ) (losses : List ℕ) (rays : List Float) (ray_totals pane_totals : List ℕ) where
-      abbrev here : ReportCall
-      here = record {
-        bytes = bytes;
-        indices = list;
+      abbrev call_over : (record_bytes record_list : List ℕ) → ReportCall
+      call_over record_bytes record_list = record {
+        bytes = record_bytes;
+        indices = record_list;
         panes = panes;
         losses = losses;
         rays = rays;
@@ -179,16 +179,11 @@ module _ {n : ℕ} {bytes list other_bytes other_list : List ℕ} (sized : Sized
         pane_totals = pane_totals;
       }
 
+      abbrev here : ReportCall
+      here = call_over bytes list
+
       abbrev there : ReportCall
-      there = record {
-        bytes = other_bytes;
-        indices = other_list;
-        panes = panes;
-        losses = losses;
-        rays = rays;
-        ray_totals = ray_totals;
-        pane_totals = pane_totals;
-      }
+      there = call_over other_bytes other_list
 
       -- the same is looked at on entry
       entry_same : on_entry here ≡ on_entry there

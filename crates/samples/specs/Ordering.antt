@@ -22,14 +22,14 @@ abbrev pub row_leaf : ℕ → List ℕ
 row_leaf k = row_node (2 * k) (2 * k + 1) (0x4000_0000 + k)
 
 -- nine leaves in a row
-abbrev pub row : List ℕ
-row =
+abbrev pub nine_leaves : List ℕ
+nine_leaves =
     row_node 0 17 1 ++ (row_node 0 7 3 ++ (row_node 8 17 5 ++ (row_node 0 3 7 ++ (row_node 4 7 9 ++ (row_node 8 11 11 ++ (
     row_node 12 17 13 ++ (row_leaf 0 ++ (row_leaf 1 ++ (row_leaf 2 ++ (row_leaf 3 ++ (row_leaf 4 ++ (row_leaf 5 ++ (row_leaf 6 ++ (
     row_node 14 17 15 ++ (row_leaf 7 ++ row_leaf 8)))))))))))))))
 
-abbrev pub row_indices : List ℕ
-row_indices = 0 ∷ 1 ∷ 2 ∷ 3 ∷ 4 ∷ 5 ∷ 6 ∷ 7 ∷ 8 ∷ []
+abbrev pub nine_indices : List ℕ
+nine_indices = 0 ∷ 1 ∷ 2 ∷ 3 ∷ 4 ∷ 5 ∷ 6 ∷ 7 ∷ 8 ∷ []
 
 module _ (limit : ℕ) (words indices : List ℕ) (ordered : Bool) where
   -- the panes that the ray meets in the record that these words become, in walk order, and the node tests
@@ -52,5 +52,5 @@ pub record OrderingSamples : Type 0 where
   pub exchanged_off : (panes_along 3 exchanged indices_t false ≡ 0 ∷ 1 ∷ []) × (tests_along 3 exchanged indices_t false ≡ 1)
   pub exchanged_on : (panes_along 3 exchanged indices_t true ≡ 1 ∷ 0 ∷ []) × (tests_along 3 exchanged indices_t true ≡ 1)
   -- a leaf to a leaf child: nine children are too many for one node, so two nodes are tested
-  pub row_off : (panes_along 1 row row_indices false ≡ 8 ∷ 7 ∷ 6 ∷ 5 ∷ 4 ∷ 3 ∷ 2 ∷ 1 ∷ 0 ∷ []) × (tests_along 1 row row_indices false ≡ 2)
-  pub row_on : (panes_along 1 row row_indices true ≡ 5 ∷ 6 ∷ 7 ∷ 8 ∷ 4 ∷ 3 ∷ 2 ∷ 1 ∷ 0 ∷ []) × (tests_along 1 row row_indices true ≡ 2)
+  pub row_off : (panes_along 1 nine_leaves nine_indices false ≡ 8 ∷ 7 ∷ 6 ∷ 5 ∷ 4 ∷ 3 ∷ 2 ∷ 1 ∷ 0 ∷ []) × (tests_along 1 nine_leaves nine_indices false ≡ 2)
+  pub row_on : (panes_along 1 nine_leaves nine_indices true ≡ 5 ∷ 6 ∷ 7 ∷ 8 ∷ 4 ∷ 3 ∷ 2 ∷ 1 ∷ 0 ∷ []) × (tests_along 1 nine_leaves nine_indices true ≡ 2)
