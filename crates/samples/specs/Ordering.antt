@@ -52,5 +52,7 @@ pub record OrderingSamples : Type 0 where
   pub exchanged_off : (panes_along 3 exchanged indices_t false ≡ 0 ∷ 1 ∷ []) × (tests_along 3 exchanged indices_t false ≡ 1)
   pub exchanged_on : (panes_along 3 exchanged indices_t true ≡ 1 ∷ 0 ∷ []) × (tests_along 3 exchanged indices_t true ≡ 1)
   -- a leaf to a leaf child: nine children are too many for one node, so two nodes are tested
-  pub row_off : (panes_along 1 nine_leaves nine_indices false ≡ 8 ∷ 7 ∷ 6 ∷ 5 ∷ 4 ∷ 3 ∷ 2 ∷ 1 ∷ 0 ∷ []) × (tests_along 1 nine_leaves nine_indices false ≡ 2)
-  pub row_on : (panes_along 1 nine_leaves nine_indices true ≡ 5 ∷ 6 ∷ 7 ∷ 8 ∷ 4 ∷ 3 ∷ 2 ∷ 1 ∷ 0 ∷ []) × (tests_along 1 nine_leaves nine_indices true ≡ 2)
+  pub row_off : (panes_along 1 nine_leaves nine_indices false ≡ 8 ∷ 7 ∷ 6 ∷ 5 ∷ 4 ∷ 3 ∷ 2 ∷ 1 ∷ 0 ∷ [])
+      × (tests_along 1 nine_leaves nine_indices false ≡ 2)
+  pub row_on : (panes_along 1 nine_leaves nine_indices true ≡ 5 ∷ 6 ∷ 7 ∷ 8 ∷ 4 ∷ 3 ∷ 2 ∷ 1 ∷ 0 ∷ [])
+      × (tests_along 1 nine_leaves nine_indices true ≡ 2)
