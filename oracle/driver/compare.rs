@@ -122,14 +122,48 @@ impl Joins {
     }
 }
 
+/// Damaged records: how many, and on how many only the published check finds nothing wrong, or only the rules.
+#[derive(Default)]
+struct Damaged {
+    records: u32,
+    laxer: u32,
+    stricter: u32,
+}
+
+impl Damaged {
+    /// Five times a record of n positions with one thing damaged.
+    fn compare(&mut self, rng: &mut Rng, whole: &[u8], n: usize) {
+        for _ in 0..5 {
+            let (mut record, mut n) = (whole.to_vec(), n);
+            damage(rng, &mut record, &mut n);
+            self.records += 1;
+            let by_rules = match check(&record, n, usize::MAX) {
+                Verdict::Sound(level) => Some(level),
+                _ => None,
+            };
+            if !forward(&record) {
+                continue;
+            }
+            match (by_rules, validated(&record, n)) {
+                (None, Some(_)) => self.laxer += 1,
+                (Some(_), None) => self.stricter += 1,
+                (a, b) => assert_eq!(a, b),
+            }
+        }
+    }
+
+    fn print(&self) {
+        let Damaged { records, laxer, stricter } = self;
+        println!("damaged records: {records}; unsound, yet validated: {laxer}; sound, yet not validated: {stricter}");
+    }
+}
+
 pub fn run(seed: u64, trees: usize) -> bool {
-    let mut rng = Rng::new(seed);
-    let rng = &mut rng;
-    let (mut converted, mut deep, mut rays) = (0, 0, Rays::new(seed));
-    let mut seated = 0;
+    let rng = &mut Rng::new(seed);
+    let (mut converted, mut deep, mut seated, mut rays) = (0, 0, 0, Rays::new(seed));
     let mut joins = Joins { rng: Rng::new(seed), seen: Seen::default(), refused: 0 };
     let mut orders = Orders::new(seed);
-    let (mut sound, mut damaged, mut laxer, mut stricter) = (0, 0, 0, 0);
+    let (mut sound, mut damaged) = (0, Damaged::default());
     for k in 0..trees {
         joins.compare(k);
         let t = if k % 50 == 0 { large_tree(rng, k) } else { some_tree(rng, k) };
@@ -149,23 +183,7 @@ pub fn run(seed: u64, trees: usize) -> bool {
             _ => panic!("a converted record is not sound"),
         }
         sound += 1;
-        for _ in 0..5 {
-            let (mut record, mut n) = (c.record.clone(), n);
-            damage(rng, &mut record, &mut n);
-            damaged += 1;
-            let by_rules = match check(&record, n, usize::MAX) {
-                Verdict::Sound(level) => Some(level),
-                _ => None,
-            };
-            if !forward(&record) {
-                continue;
-            }
-            match (by_rules, validated(&record, n)) {
-                (None, Some(_)) => laxer += 1,
-                (Some(_), None) => stricter += 1,
-                (a, b) => assert_eq!(a, b),
-            }
-        }
+        damaged.compare(rng, &c.record, n);
         if t.indices.iter().any(|&x| x as usize >= n) {
             continue;
         }
@@ -173,9 +191,9 @@ pub fn run(seed: u64, trees: usize) -> bool {
     }
     println!("trees converted: {converted} (and {deep} with a level over 31); sound by both: {sound}");
     println!("children seated: {seated}, in the published order and by one search fewer for each node");
-    println!("damaged records: {damaged}; unsound, yet validated: {laxer}; sound, yet not validated: {stricter}");
+    damaged.print();
     rays.print();
     joins.print();
     orders.print();
-    stricter == 0
+    damaged.stricter == 0
 }

@@ -32,7 +32,8 @@ struct Pair {
 
 /// What was compared: trees (with a level over 31, with a child outside its parent's box, with a flat box, with an index word
 /// repeated, with records that differ), rays (that meet something, that meet panes in two sequences), panes, tests, rays asked
-/// whether they are blocked (and that are), reports.
+/// whether they are blocked (and that are), reports. And what may differ, of the rays asked: closest's distance and tests, and
+/// miss's tests.
 #[derive(Default)]
 pub struct Seen {
     trees: u32,
@@ -49,6 +50,9 @@ pub struct Seen {
     asked: u32,
     blocked: u32,
     reports: u32,
+    farther: u32,
+    closest_tests: u32,
+    miss_tests: u32,
 }
 
 /// Whether some node of a tree has a child that sticks out of its box.
@@ -185,15 +189,17 @@ impl Pair {
 
     /// Whether these panes block a ray, which must be so in both records or in neither, where closest then has a hit.
     fn blocked(&self, panes: &[Aabb], r: &Ray, seen: &mut Seen) -> bool {
-        let [ordered, gathered] = self.bvhs.each_ref().map(|bvh| {
-            let missed = query::miss(bvh, panes, *r).found == [1];
-            assert_eq!(missed, query::closest(bvh, panes, *r).found.is_empty());
-            !missed
-        });
-        assert_eq!(ordered, gathered);
+        let [(hit, miss), (other_hit, other_miss)] =
+            self.bvhs.each_ref().map(|bvh| (query::closest(bvh, panes, *r), query::miss(bvh, panes, *r)));
+        let missed = miss.found == [1];
+        assert_eq!(miss.found, other_miss.found);
+        assert!(missed == hit.found.is_empty() && missed == other_hit.found.is_empty());
         seen.asked += 1;
-        seen.blocked += ordered as u32;
-        ordered
+        seen.blocked += !missed as u32;
+        seen.farther += (hit.found.get(1) != other_hit.found.get(1)) as u32;
+        seen.closest_tests += (hit.tests != other_hit.tests) as u32;
+        seen.miss_tests += (miss.tests != other_miss.tests) as u32;
+        !missed
     }
 
     /// A report of these rays over both records, with the same losses: its tests and all totals must be the same.
@@ -225,7 +231,9 @@ impl Display for Seen {
         write!(f, "{deep} with a level over 31), {unlike} with records that differ; ")?;
         let Seen { rays, meeting, resequenced, panes, tests, asked, blocked, reports, .. } = self;
         write!(f, "both ways the same for {rays} rays, of which {meeting} meet {panes} panes, {resequenced} in two sequences, ")?;
-        write!(f, "by {tests} node tests in all; for {asked} rays of which {blocked} are blocked; and for {reports} reports")
+        write!(f, "by {tests} node tests in all; for {asked} rays of which {blocked} are blocked; and for {reports} reports; ")?;
+        let Seen { farther, closest_tests, miss_tests, .. } = self;
+        write!(f, "closest has another distance for {farther}, and other tests for {closest_tests}, miss for {miss_tests}")
     }
 }
 

@@ -98,6 +98,10 @@ module _ (bytes : List ℕ) (whole : length bytes % 80 ≡ 0) (are_bytes : (i : 
       ∙ any_hit_run_lem m T (steps_for m) n (fresh beam) []
       ∙ ap reported (sym (answers_are append []))
 
+  -- They are below n.
+  pub met_exist : All (λ p. p < n) (any_hit_at bytes by_boxes n beam).accumulator
+  met_exist = subst (All (λ p. p < n)) (sym any_hit_is_run) (reported_exist append [])
+
   -- Miss reports what closest does, up to the first position that stops it.
   pub miss_closest : (pane : ℕ → WalkRay → Pane Float) (nearer : Float → WalkRay → Bool)
       → reported (answers_made bytes n ray (miss pane nearer) none)

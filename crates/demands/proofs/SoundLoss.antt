@@ -1,8 +1,8 @@
 -- Losses and reports over every sound record, and over every converted one (02, [3]): where the index words name panes and the losses fit, no call of
 -- an accepted ray or of a list of them is refused, and no ray's loss is more than 1,000,000 for each position.
 use mathlib.Core.Bool.{true}
-use mathlib.Core.List.{List, []}
-use mathlib.Core.Path.{◌≡◌, refl, sym, ap, subst, ◌∙◌}
+use mathlib.Core.List.{List}
+use mathlib.Core.Path.{◌≡◌, refl, sym, ap, ◌∙◌}
 use Prim.Native.Nat.{ℕ, ◌*◌, ◌≤◌, ◌<◌}
 use native.Mathlib.Omega.{arith}
 use lib.Dec.{leb}
@@ -10,8 +10,6 @@ use lib.ListN.{length, get_or}
 use Rattle.lists.proofs.Tells.{tells_true, eqb_tells, leb_tells, and_tells, below_tells, all_pass}
 use Rattle.ray.specs.Ray.{accepted_ray}
 use Rattle.packed.specs.Packed.{ray_in, rays_accepted}
-use Rattle.walk.specs.Calls.{All}
-use Rattle.walk.specs.Queries.{append, Ended}
 use Rattle.walk.proofs.Lists.{all_map}
 use Rattle.query.specs.Result.{Result}
 use Rattle.query.proofs.Entry.{entry_none}
@@ -24,8 +22,8 @@ use Rattle.demands.specs.Walks.{CheckedRecord, AcceptedRay}
 use Rattle.demands.specs.Loss.{LossCall, Loses, met, ReportCall, Reports, rays_of, single, ray_word, UnrefusedOnEntry, Losses, AcceptedRays}
 use Rattle.demands.specs.Loss.{NotRefused}
 use Rattle.demands.proofs.Rays.{ray_accepted}
-use Rattle.demands.proofs.Runs.{any_hit_is_run, reported_exist}
-use Rattle.demands.proofs.SoundWalks.{sizes_fit_lem, any_hit_meets}
+use Rattle.demands.proofs.Runs.{met_exist}
+use Rattle.demands.proofs.SoundWalks.{sizes_fit_lem, any_hit_meets, ends_met}
 use Rattle.demands.proofs.Summed.{NoFault, loss_none, loss_walked_lem, sum_met, sum_most, call_sums}
 use Rattle.demands.proofs.Totalled.{walks}
 use Rattle.demands.proofs.Words.{words_rearranged}
@@ -49,10 +47,8 @@ module _ (c : LossCall) {d : ℕ} (good : CheckedRecord c.bytes (length c.indice
   sound_faultless = record {
     there =
         tells_true (there_tells c.panes c.indices (met c))
-        (all_map fine.named (met c)
-        (subst (All (λ p. p < length c.indices)) (sym (any_hit_is_run c.bytes good.layout good.are_bytes (length c.indices) accepted))
-        (reported_exist c.bytes good.layout good.are_bytes (length c.indices) accepted append [])));
-    ends = subst Ended (sym (any_hit_meets good accepted).ends) tt;
+        (all_map fine.named (met c) (met_exist c.bytes good.layout good.are_bytes (length c.indices) accepted));
+    ends = ends_met good accepted;
   }
 
   sound_loses : Loses c (sum_met c)

@@ -66,6 +66,10 @@ module _ {bytes : List ℕ} {n d : ℕ} {ray : Ray} (good : CheckedRecord bytes 
   unfolding any_hit_at
   any_hit_meets = W.any_hit_meets walk
 
+  -- its walk is not refused
+  pub ends_met : Ended (any_hit_at bytes by_boxes n (walk_ray ray)).ended
+  ends_met = subst Ended (sym any_hit_meets.ends) tt
+
   -- a position is among those found once if it is passed, and else not
   listed_once : (p : ℕ) → Passed bytes n ray p → count p (found bytes ray n) ≡ 1
   listed_once p q = omega (arith, any_hit_meets.once p, (any_hit_meets.exact p).1 q)
@@ -80,10 +84,9 @@ module _ {bytes : List ℕ} {n d : ℕ} {ray : Ray} (good : CheckedRecord bytes 
   -- with room for what is found
   with_room : (before : List ℕ) → length (found bytes ray n) ≤ length before → AnyHitLists bytes ray n before
   with_room before room =
-      let ends = subst Ended (sym any_hit_meets.ends) tt in
-      let same = list_found bytes n ray (sizes_fit_lem good) accepted.accepted ends before room in
+      let same = list_found bytes n ray (sizes_fit_lem good) accepted.accepted ends_met before room in
       record {
-        answer = answers_listed bytes n ray (sizes_fit_lem good) accepted.accepted ends before room;
+        answer = answers_listed bytes n ray (sizes_fit_lem good) accepted.accepted ends_met before room;
         listing = same ∙ any_hit_meets.lists;
         passed_once = λ p q. ap (count p) same ∙ listed_once p q;
         no_other = λ p q. ap (count p) same ∙ not_listed p q;

@@ -14,7 +14,8 @@ use Rattle.causes.specs.Causes.{Condition, ◌unless◌, first_cause}
 use Rattle.causes.proofs.Causes.{passed_none, passed_parts, none_passed}
 use Rattle.causes.proofs.Sizes.{Fit}
 use Rattle.ray.specs.declared.Ray.{Ray}
-use Rattle.ray.specs.Ray.{accepted_ray}
+use Rattle.ray.specs.declared.Beam.{Beam}
+use Rattle.ray.specs.Ray.{ray_from, accepted_ray}
 use Rattle.packed.specs.Packed.{ray_in, ray_count, rays_accepted}
 use Rattle.walk.specs.Queries.{Ended}
 use Rattle.walk_record.specs.WalkRay.{walk_ray}
@@ -33,7 +34,6 @@ use Rattle.demands.proofs.Listed.{list_found}
 use Rattle.demands.proofs.Rays.{ray_accepted}
 use Rattle.demands.proofs.Totalled.{on_entry, by_walks, report_refusal, left_by, walks, none_enters, in_order_lem}
 use Rattle.ordered_reports.specs.Alike.{SizedAlike, MetAlike, AllMetAlike}
-use Rattle.ordered_reports.specs.Ordering.{MadeRay}
 use Rattle.ordered_reports.proofs.Rearranged.{sum_rearranged, there_rearranged, values_same, all_same, behind_same}
 
 -- ---- on entry
@@ -133,24 +133,25 @@ module _ {n : ℕ} {bytes list other_bytes other_list : List ℕ} (sized : Sized
   -- ---- for all rays
 
   module _ (alike : AllMetAlike n bytes list other_bytes other_list) where
-    -- of a ray as it is made, accepted or not
-    module _ (r : Ray) (made : MadeRay r) where
-      met_if : accepted_ray r ≡ true → MetAlike n bytes list other_bytes other_list r
-      met_if h = alike r (record {
-        origin = made.origin;
-        direction = made.direction;
-        tmin = made.tmin;
-        tmax = made.tmax;
-        made = made.made;
+    -- of a ray as it is asked for, accepted or not
+    module _ (beam : Beam) where
+      met_if : accepted_ray (ray_from beam) ≡ true → MetAlike n bytes list other_bytes other_list (ray_from beam)
+      met_if h = alike (ray_from beam) (record {
+        origin = beam.origin;
+        direction = beam.direction;
+        tmin = beam.tmin;
+        tmax = beam.tmax;
+        made = refl;
         accepted = h;
       })
 
       -- Any-hit answers the same: the same refusal on entry, or as many positions after as many tests, or the same length that is lacking.
-      pub any_hit_alike : (room : ℕ) → any_hit_of bytes n r room ≡ any_hit_of other_bytes n r room
+      pub any_hit_alike : (room : ℕ) → any_hit_of bytes n (ray_from beam) room ≡ any_hit_of other_bytes n (ray_from beam) room
       any_hit_alike = any_hit_same met_if
 
       -- A loss is the same, and so is its refusal.
-      pub loss_alike : (panes : ℕ) (losses : List ℕ) → loss_of bytes list panes losses r ≡ loss_of other_bytes other_list panes losses r
+      pub loss_alike : (panes : ℕ) (losses : List ℕ)
+          → loss_of bytes list panes losses (ray_from beam) ≡ loss_of other_bytes other_list panes losses (ray_from beam)
       loss_alike = loss_same met_if
 
     -- Lists with room for all positions that an accepted ray meets are left with positions of the same panes, each as often.

@@ -12,6 +12,8 @@ use lib.ListN.{length}
 use Rattle.lists.proofs.Perms.{counts_perm}
 use Rattle.causes.specs.Causes.{Condition, ◌unless◌, first_cause}
 use Rattle.ray.specs.declared.Ray.{Ray}
+use Rattle.ray.specs.declared.Beam.{Beam}
+use Rattle.ray.specs.Ray.{ray_from}
 use Rattle.query.specs.Met.{positions_met, panes_met}
 use Rattle.bvh2.specs.Causes.{Accepted}
 use Rattle.bvh2.specs.Decoded.{Decoded}
@@ -34,7 +36,7 @@ use Rattle.demands.proofs.Demands.{good_record}
 use Rattle.demands.proofs.SoundWalks.{sizes_fit_lem}
 use Rattle.ordered_reports.specs.Alike.{SizedAlike, AllMetAlike}
 use Rattle.ordered_reports.specs.Ordering.{SameTree, SameRoom, SamePanes, SameTests, SameAnyHit, SameLists, SameLoss}
-use Rattle.ordered_reports.specs.Ordering.{SameMiss, SameHit, SameReport, MadeRay}
+use Rattle.ordered_reports.specs.Ordering.{SameMiss, SameHit, SameReport}
 use Rattle.ordered_reports.proofs.Alike.{any_hit_alike, lists_alike, loss_alike, report_alike}
 use Rattle.ordered_reports.proofs.Blocked.{Asked, miss_alike, no_hit_alike}
 use Rattle.ordered_reports.proofs.Rearranged.{behind_same}
@@ -214,13 +216,13 @@ module _ (a b : Call) (same : SameTree a b) (m d : ℕ) (answers : Answers a m d
     ordering_same_hit panes fine =
         no_hit_alike (asked panes fine a answers refl) (asked panes fine b others same.indices) (panes_rearranged panes fine)
 
-  -- Of a ray that may be refused, any-hit's answer
-  pub ordering_same_answer : (ray : Ray) → MadeRay ray → SameAnyHit m a b ray
-  ordering_same_answer ray r = by_second a b same (λ c. SameAnyHit m a c ray) (any_hit_alike sizes all_alike ray r)
+  -- Of any ray that a call asks for, refused or not, any-hit's answer
+  pub ordering_same_answer : (beam : Beam) → SameAnyHit m a b (ray_from beam)
+  ordering_same_answer beam = by_second a b same (λ c. SameAnyHit m a c (ray_from beam)) (any_hit_alike sizes all_alike beam)
 
   -- and its loss are the same,
-  pub ordering_same_loss : (ray : Ray) → MadeRay ray → SameLoss m a b ray
-  ordering_same_loss ray r = by_second a b same (λ c. SameLoss m a c ray) (loss_alike sizes all_alike ray r)
+  pub ordering_same_loss : (beam : Beam) → SameLoss m a b (ray_from beam)
+  ordering_same_loss beam = by_second a b same (λ c. SameLoss m a c (ray_from beam)) (loss_alike sizes all_alike beam)
 
   -- and so is a report over any rays.
   pub ordering_same_report : SameReport m a b

@@ -28,13 +28,12 @@ use Rattle.bvh2_to_cwbvh.specs.Conversion.{record_of, nodes_of, level_of, output
 use Rattle.record_walk.specs.Kept.{box_kept}
 use Rattle.record_walk.proofs.Walk.{boxes_met, boxes_tests}
 use Rattle.walk.specs.Calls.{All}
-use Rattle.walk.specs.Queries.{append, Ended}
 use Rattle.walk_record.specs.Walk.{query_at, any_hit_at}
-use Rattle.query.specs.Met.{walk_met, positions_met, tests_made, panes_met}
+use Rattle.query.specs.Met.{positions_met, tests_made, panes_met}
 use Rattle.demands.specs.Walks.{CheckedRecord, AcceptedRay}
 use Rattle.demands.proofs.Answered.{wide}
-use Rattle.demands.proofs.Runs.{any_hit_is_run, reported_exist}
-use Rattle.demands.proofs.SoundWalks.{any_hit_meets, walk}
+use Rattle.demands.proofs.Runs.{met_exist}
+use Rattle.demands.proofs.SoundWalks.{ends_met, walk}
 use Rattle.ordered_reports.specs.Alike.{MetAlike}
 
 -- words at places of words at places
@@ -42,16 +41,6 @@ words_twice : (indices list ps : List ℕ) → All (λ p. p < length list) ps �
 words_twice indices list [] h = refl
 words_twice indices list (p ∷ ps) h =
     ap₂ (λ (x : ℕ) (l : List ℕ). x ∷ l) (get_or-map (λ q. get_or indices q 0) list p 0 0 h.0) (words_twice indices list ps h.1)
-
--- over a sound record, a walk ends and meets only positions that there are
-module _ {bytes : List ℕ} {n d : ℕ} {ray : Ray} (good : CheckedRecord bytes n d) (accepted : AcceptedRay ray) where
-  ends_lem : Ended (walk_met bytes n ray).ended
-  ends_lem = subst Ended (sym (any_hit_meets good accepted).ends) tt
-
-  met_exist : All (λ p. p < n) (positions_met bytes n ray)
-  met_exist =
-      subst (All (λ p. p < n)) (sym (any_hit_is_run bytes good.layout good.are_bytes n accepted))
-      (reported_exist bytes good.layout good.are_bytes n accepted append [])
 
 -- a ray keeps a child by its box on its parent's grid
 abbrev keeps : Ray → Aabb → Aabb → List ℕ → Bool
@@ -74,7 +63,7 @@ module _ (ws indices : List ℕ) (limit : ℕ) (small : limit ≤ 3) {n : ℕ} (
     unfolding any_hit_at query_at
     tree_panes =
         let exist =
-        subst (λ (k : ℕ). All (λ p. p < k) (positions_met (record_bytes t) n ray)) (sym (index_length t ∙ count_is)) (met_exist good accepted) in
+        subst (λ (k : ℕ). All (λ p. p < k) (positions_met (record_bytes t) n ray)) (sym (index_length t ∙ count_is)) (met_exist (record_bytes t) good.layout good.are_bytes n accepted) in
         let wide_met = boxes_met t (wide ws limit ordered n h small) ray (walk good_tree accepted) in
         subst (λ (l : List ℕ). Perm l (words_at indices (met_below (keeps ray) every t.box t.slots)))
         (sym (words_twice indices (index_list t) (positions_met (record_bytes t) n ray) exist))
@@ -96,8 +85,8 @@ module _ (ws indices : List ℕ) (limit : ℕ) (small : limit ≤ 3) {n : ℕ} (
       (record_bytes (wide_tree_of ws y limit)) (words_at indices (index_list (wide_tree_of ws y limit))) ray
   unfolding wide_of
   trees_alike x y good other = record {
-    ends = ends_lem good accepted;
-    other_ends = ends_lem other accepted;
+    ends = ends_met good accepted;
+    other_ends = ends_met other accepted;
     panes = Perm.trans (tree_panes x good)
         (Perm.trans (Perm.map (λ p. get_or indices p 0)
         (met_any_placing (keeps ray) (λ b c ps qs r. refl) limit (placing x) (placing y) (places x) (places y) (tree_of ws) (fine ws n h)
@@ -117,8 +106,8 @@ pub records_alike : (ws indices : List ℕ) (limit : ℕ) → limit ≤ 3 → (x
     (words_at indices (output_positions ws n limit y)) ray
 unfolding record_of output_positions
 records_alike ws indices limit small x y zero h good other accepted = record {
-  ends = ends_lem good accepted;
-  other_ends = ends_lem other accepted;
+  ends = ends_met good accepted;
+  other_ends = ends_met other accepted;
   panes = Perm.refl _;
   tests = refl;
 }

@@ -3,9 +3,7 @@
 use Rattle.std.specs.Prelude.{◌↔◌, ◌≡◌, ℕ, ◌≤◌, Float, length}
 use mathlib.Core.List.{List, Perm}
 use Rattle.lists.specs.Counts.{count}
-use Rattle.ray.specs.declared.Vec3.{Vec3}
 use Rattle.ray.specs.declared.Ray.{Ray}
-use Rattle.ray.specs.Ray.{ray_of}
 use Rattle.query.specs.Met.{positions_met, tests_made, panes_met}
 use Rattle.any_hit.specs.AnyHit.{any_hit_of}
 use Rattle.closest.specs.Panes.{no_hit, closest_of, miss_of}
@@ -27,16 +25,6 @@ pub record SameTree (a b : Call) : Type 0 where
 -- the slices lent have room in both, or in neither
 abbrev pub SameRoom : Call → Call → Type 0
 SameRoom a b = slices_fit (leaf_count a) (lengths_of a) ≡ slices_fit (leaf_count b) (lengths_of b)
-
--- ---- a ray
-
--- as it is made from its origin, direction, start and reach; cause 9 may hold of it
-pub record MadeRay (ray : Ray) : Type 0 where
-  pub origin : Vec3
-  pub direction : Vec3
-  pub tmin : Float
-  pub tmax : Float
-  pub made : ray ≡ ray_of origin direction tmin tmax
 
 -- ---- what a ray meets in the record of m nodes that a call left
 
