@@ -1,6 +1,6 @@
 -- Closest and miss over every sound record, for every accepted ray and panes without a fault: neither is refused; a hit is the nearest of the
 -- positions reported that are seen, the first met of equal ones; and miss is blocked exactly if closest has a hit.
-use mathlib.Core.List.{List, [], Nodup}
+use mathlib.Core.List.{List, Nodup}
 use mathlib.Core.Logic.{◌⊎◌, inl, inr, ◌↔◌}
 use mathlib.Core.Path.{◌≡◌, refl, sym, ap, subst, ◌∙◌}
 use Prim.Native.Nat.{ℕ, ◌%◌, ◌<◌}
@@ -14,7 +14,7 @@ use Rattle.ray.proofs.Counts.{seen_itself, seen-number}
 use Rattle.record_shape.specs.Record.{node_count}
 use Rattle.walk.specs.Tests.{Tests}
 use Rattle.walk.specs.Calls.{All, reported}
-use Rattle.walk.specs.Queries.{Reaction, append, Found, none, hit, distance, closest, miss, Ended}
+use Rattle.walk.specs.Queries.{Reaction, Found, none, hit, distance, closest, miss, Ended}
 use Rattle.walk.specs.Reports.{tested_nodes, up_to, NoneBelow, Nearest}
 use Rattle.walk.specs.Slots.{tests_of}
 use Rattle.walk.proofs.Lists.{all_map}
@@ -37,7 +37,7 @@ use Rattle.demands.specs.Panes.{Panes, distance_of, closest_steps, miss_steps, c
 use Rattle.demands.proofs.Rays.{distance_known}
 use Rattle.demands.proofs.NearLimit.{hits_apart, blocks_apart}
 use Rattle.demands.proofs.SoundWalks.{sizes_fit_lem, sound_walks, query_not_refused}
-use Rattle.demands.proofs.Runs.{query_tests, reported_exist, query_noted, any_hit_is_run, miss_closest, miss_any_hit}
+use Rattle.demands.proofs.Runs.{query_tests, reported_exist, query_noted, met_exist, miss_closest, miss_any_hit}
 
 -- ---- answers
 
@@ -105,10 +105,10 @@ module _ {bytes indices : List ℕ} {panes : List Float} {d : ℕ} {ray : Ray} (
     number = seen-number ray (enters_at p) (distance_known accepted _ (fine.accepted (get_or indices p 0) (fine.named p h)));
   }
 
-  all_seen : {a : Type 0} (react : ℕ → WalkRay → a → Reaction Float a) (x : a)
-      → All (Seen (pane_of indices panes) sees Number sees_at (walk_ray ray)) (reported (answers_made bytes n ray react x))
-  all_seen react x =
-      all_map seen (reported (answers_made bytes n ray react x)) (reported_exist bytes good.layout good.are_bytes n accepted react x)
+  all_seen : (react : React) → All (Seen (pane_of indices panes) sees Number sees_at (walk_ray ray)) (reported (answers_made bytes n ray react none))
+  all_seen react =
+      all_map seen (reported (answers_made bytes n ray react none))
+      (reported_exist bytes good.layout good.are_bytes n accepted react none)
 
   -- ---- closest
 
@@ -123,7 +123,7 @@ module _ {bytes indices : List ℕ} {panes : List Float} {d : ℕ} {ray : Ray} (
   unfolding closest_walk
   closest_picked =
       closest_picks (node_count bytes) T (pane_of indices panes) nearer lt (λ b. b.ray.tmax) sees (panes_reached indices panes) Number
-      distances_ordered sees_at (closest_reports bytes indices panes ray) (walk_ray ray) none _ (all_seen near none)
+      distances_ordered sees_at (closest_reports bytes indices panes ray) (walk_ray ray) none _ (all_seen near)
       (query_noted bytes good.layout good.are_bytes n accepted near none)
 
   closest_tests : (closest_walk bytes indices panes ray).walker.tests ≡ length (tested_nodes (closest_steps bytes indices panes ray))
@@ -185,7 +185,7 @@ module _ {bytes indices : List ℕ} {panes : List Float} {d : ℕ} {ray : Ray} (
   unfolding miss_walk
   miss_stopped =
       miss_stops (node_count bytes) T (pane_of indices panes) nearer lt (λ b. b.ray.tmax) sees (panes_reached indices panes) Number
-      distances_ordered sees_at (miss_reports bytes indices panes ray) (walk_ray ray) none _ (all_seen block none)
+      distances_ordered sees_at (miss_reports bytes indices panes ray) (walk_ray ray) none _ (all_seen block)
       (query_noted bytes good.layout good.are_bytes n accepted block none)
 
   miss_tests : (miss_walk bytes indices panes ray).walker.tests ≡ length (tested_nodes (miss_steps bytes indices panes ray))
@@ -196,7 +196,7 @@ module _ {bytes indices : List ℕ} {panes : List Float} {d : ℕ} {ray : Ray} (
   as_closest =
       miss_closest bytes good.layout good.are_bytes n accepted (pane_of indices panes) nearer
       ∙ stops_below (node_count bytes) T (pane_of indices panes) nearer lt (λ b. b.ray.tmax) sees (panes_reached indices panes) Number
-      distances_ordered sees_at (closest_reports bytes indices panes ray) (walk_ray ray) (all_seen near none)
+      distances_ordered sees_at (closest_reports bytes indices panes ray) (walk_ray ray) (all_seen near)
 
   -- no position that miss reports is below the reach exactly if closest has no hit
   none_reported : NoneBelow lt sees_at ray.tmax (miss_reports bytes indices panes ray) ↔ (closest_of bytes indices panes ray).answer ≡ no_hit
@@ -247,8 +247,7 @@ module _ {bytes indices : List ℕ} {panes : List Float} {d : ℕ} {ray : Ray} (
       miss_any_hit bytes good.layout good.are_bytes n accepted (pane_of indices panes) nearer
       ∙ stops_below (node_count bytes) T (pane_of indices panes) nearer lt (λ b. b.ray.tmax) sees (panes_reached indices panes) Number
       distances_ordered sees_at (positions_met bytes n ray) (walk_ray ray)
-      (subst (All (Seen (pane_of indices panes) sees Number sees_at (walk_ray ray)))
-      (sym (any_hit_is_run bytes good.layout good.are_bytes n accepted)) (all_seen append []))
+      (all_map seen (positions_met bytes n ray) (met_exist bytes good.layout good.are_bytes n accepted))
 
   -- It misses exactly if no position that any-hit lists is seen below the reach.
   pub missed_met : (miss_of bytes indices panes ray).answer ≡ missed ↔ NoneBelow lt sees_at ray.tmax (positions_met bytes n ray)
