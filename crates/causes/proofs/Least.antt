@@ -19,7 +19,7 @@ use Rattle.causes.specs.Refusal.{cause_number}
 
 -- the numbers that the order compares
 numbers : List ℤ
-numbers = pos 1 ∷ pos 2 ∷ pos 3 ∷ pos 4 ∷ pos 5 ∷ pos 6 ∷ pos 7 ∷ pos 8 ∷ pos 9 ∷ pos 10 ∷ pos 12 ∷ pos 13 ∷ []
+numbers = pos 1 ∷ pos 2 ∷ pos 3 ∷ pos 4 ∷ pos 5 ∷ pos 6 ∷ pos 7 ∷ pos 8 ∷ pos 9 ∷ pos 10 ∷ pos 12 ∷ pos 13 ∷ pos 14 ∷ []
 
 number_is : (f : Refusal) → number the_type numbers f ≡ pos (cause_number f)
 unfolding numbers
@@ -35,6 +35,7 @@ number_is R.RayRefused = refl
 number_is R.Fault = refl
 number_is R.LossesUnfit = refl
 number_is R.IndexOver = refl
+number_is R.SpansUnfit = refl
 
 ordered : (f g : Refusal) → cmp-value.it f g ≡ int_cmp (pos (cause_number f)) (pos (cause_number g))
 unfolding numbers

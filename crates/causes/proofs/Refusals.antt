@@ -21,6 +21,7 @@ some_number R.RayRefused e = omega arith
 some_number R.Fault e = omega arith
 some_number R.LossesUnfit e = omega arith
 some_number R.IndexOver e = omega arith
+some_number R.SpansUnfit e = omega arith
 
 module _ {A : Type 0} {r : Result A Refusal} {k : ℕ} where
   -- a call whose cause is k gave an answer: no cause holds

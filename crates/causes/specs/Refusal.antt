@@ -17,6 +17,7 @@ cause_number R.RayRefused = 9
 cause_number R.Fault = 10
 cause_number R.LossesUnfit = 12
 cause_number R.IndexOver = 13
+cause_number R.SpansUnfit = 14
 
 -- the number of the cause that refuses, or 0 where there is an answer
 abbrev pub cause_in : {A : Type 0} → Result A Refusal → ℕ

@@ -21,6 +21,7 @@ pub enum Refusal {
     Fault = 10,
     LossesUnfit = 12,
     IndexOver = 13,
+    SpansUnfit = 14,
 }
 
 impl From<Refusal> for u32 {

@@ -22,7 +22,7 @@ apart e = absurd (omega arith)
 abbrev at_number : ℕ → Refusal
 at_number k =
     get_or (R.Fault ∷ R.LengthUnfit ∷ R.TooMany ∷ R.LimitOver ∷ R.SliceShort ∷ R.LinkOutside ∷ R.BoxRefused ∷ R.NotOneTree ∷ R.TooDeep
-    ∷ R.RayRefused ∷ R.Fault ∷ R.Fault ∷ R.LossesUnfit ∷ R.IndexOver ∷ []) k R.Fault
+    ∷ R.RayRefused ∷ R.Fault ∷ R.Fault ∷ R.LossesUnfit ∷ R.IndexOver ∷ R.SpansUnfit ∷ []) k R.Fault
 
 number_back : (f : Refusal) → at_number (cause_number f) ≡ f
 number_back R.LengthUnfit = refl
@@ -37,6 +37,7 @@ number_back R.RayRefused = refl
 number_back R.Fault = refl
 number_back R.LossesUnfit = refl
 number_back R.IndexOver = refl
+number_back R.SpansUnfit = refl
 
 same_refusal : (f g : Refusal) → cause_number f ≡ cause_number g → f ≡ g
 same_refusal f g e = sym (number_back f) ∙ ap at_number e ∙ number_back g
