@@ -1,6 +1,6 @@
 -- The near limit of a ray (02, [1]): the larger of its start and 0.0001, whatever float the start is; and what follows for starts up to 0.0001.
 use mathlib.Core.Path.{◌≡◌, refl, sym, ap, ◌∙◌, subst}
-use mathlib.Core.Bool.{Bool, true, false, not, cond}
+use mathlib.Core.Bool.{Bool, true, false, not, ◌&&◌, cond}
 use mathlib.Core.Logic.{◌⊎◌, inl, inr}
 use Prim.Native.Nat.{ℕ}
 use lib.Dec.{T}
@@ -15,10 +15,11 @@ use Rattle.words.proofs.Ors.{or_of_congr}
 use Rattle.ray.specs.declared.Ray.{Ray}
 use Rattle.ray.specs.Ray.{starting_at}
 use Rattle.node.specs.declared.Slot.{Slot}
+use Rattle.gate.specs.Gates.{Gates}
 use Rattle.node.specs.declared.Node.{Node}
 use Rattle.node.specs.Node.{no_slot}
 use Rattle.node_slot.specs.Slot.{least_limit, near_limit, near_x, near_y, near_z, far_x, far_y, far_z, near_of, far_of, passes}
-use Rattle.node_slot.specs.Mask.{only_if, hit_bits, passes_slot, slot_hit, hit_mask_of, hit_mask}
+use Rattle.node_slot.specs.Mask.{only_if, hit_bits, passes_open, slot_hit, hit_mask_of, hit_mask}
 
 -- 0.0001 is a number
 least_number : T (not (is_nan least_limit))
@@ -114,8 +115,10 @@ module _ (r : Ray) (early : lt least_limit r.tmin ≡ false) where
   passes_early v t = rw limit_early
 
   -- and have the same hit masks
-  pub hits_early : (v : Node) (octant : ℕ) → hit_mask v r octant ≡ hit_mask v (starting_at plus_zero r) octant
+  pub hits_early : (g : Gates) (number : ℕ) (v : Node) (octant : ℕ) → hit_mask g number v r octant
+      ≡ hit_mask g number v (starting_at plus_zero r) octant
   unfolding hit_mask hit_mask_of slot_hit
-  hits_early v octant =
-      or_of_congr 8 (slot_hit (passes_slot v r) v octant) (slot_hit (passes_slot v (starting_at plus_zero r)) v octant)
-      (λ k _. ap (λ (b : Bool). only_if b (hit_bits octant (get_or v.child_meta k 0))) (passes_early v (get_or v.slots k no_slot)))
+  hits_early g number v octant =
+      or_of_congr 8 (slot_hit (passes_open g number v r) v octant) (slot_hit (passes_open g number v (starting_at plus_zero r)) v octant)
+      (λ k _. ap (λ (b : Bool). only_if (g.opens number k && b) (hit_bits octant (get_or v.child_meta k 0)))
+      (passes_early v (get_or v.slots k no_slot)))

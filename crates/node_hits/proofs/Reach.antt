@@ -1,6 +1,6 @@
 -- A ray with a lower reach or a greater near limit passes no more slots, and sets no more bits of the hit mask: for any node and any floats.
 use mathlib.Core.Path.{◌≡◌, refl, sym, ap, ◌∙◌, subst}
-use mathlib.Core.Bool.{Bool, true, false, not, cond}
+use mathlib.Core.Bool.{Bool, true, false, not, ◌&&◌, cond}
 use Prim.Native.Nat.{ℕ}
 use native.Mathlib.Omega.{arith}
 use lib.Dec.{T}
@@ -14,10 +14,11 @@ use Rattle.words.proofs.Ors.{bit_from, bit_to, zero_bit}
 use Rattle.ray.specs.declared.Ray.{Ray}
 use Rattle.ray.specs.Ray.{starting_at, reaching}
 use Rattle.node.specs.declared.Slot.{Slot}
+use Rattle.gate.specs.Gates.{Gates}
 use Rattle.node.specs.declared.Node.{Node}
 use Rattle.node.specs.Node.{no_slot}
 use Rattle.node_slot.specs.Slot.{near_limit, near_x, near_y, near_z, far_x, far_y, far_z, near_of, far_of, passes}
-use Rattle.node_slot.specs.Mask.{only_if, hit_bits, passes_slot, slot_hit, hit_mask_of, hit_mask}
+use Rattle.node_slot.specs.Mask.{only_if, hit_bits, passes_open, slot_hit, hit_mask_of, hit_mask}
 use Rattle.node_hits.proofs.Limit.{limit_number, number_right, limit_rises}
 
 -- two rays that differ in start and reach alone: the first has no lower near limit and no higher reach
@@ -101,8 +102,13 @@ fewer_hits a b v octant j h e =
     kept x false d h e = absurd (omega (arith, zero_bit j))
 
 -- so each bit of the narrower ray's hit mask is one of the other's
-pub narrower_hits_fewer : (v : Node) (r s : Ray) (octant j : ℕ) → Narrower r s → field 1 j (hit_mask v r octant) ≡ 1
-    → field 1 j (hit_mask v s octant) ≡ 1
+pub narrower_hits_fewer : (g : Gates) (number : ℕ) (v : Node) (r s : Ray) (octant j : ℕ) → Narrower r s
+    → field 1 j (hit_mask g number v r octant) ≡ 1 → field 1 j (hit_mask g number v s octant) ≡ 1
 unfolding hit_mask
-narrower_hits_fewer v r s octant j l =
-    fewer_hits (passes_slot v r) (passes_slot v s) v octant j (λ k. passes_fewer v (get_or v.slots k no_slot) r s l)
+narrower_hits_fewer g number v r s octant j l =
+    fewer_hits (passes_open g number v r) (passes_open g number v s) v octant j
+    (λ k. open_too (g.opens number k) (passes_fewer v (get_or v.slots k no_slot) r s l))
+  where
+    open_too : (a : Bool) {b c : Bool} → (b ≡ true → c ≡ true) → a && b ≡ true → a && c ≡ true
+    open_too true h = h
+    open_too false h = λ e. e

@@ -8,6 +8,7 @@ ghost use Rattle.node_slot.specs.Slot.{plane_at};
 ghost use Rattle.node_slot.specs.Mask.{only_if, hit_mask};
 ghost use Rattle.node_slot.specs.Parts.{extents_of, point_of, ray_grid_of, near_end, ends_of, box_passes, slot_passes, word_mask, Marks, PlacesFit};
 
+use gate::Gate;
 use node::NodeRef;
 use ray::{Ray, Vec3};
 
@@ -189,15 +190,16 @@ impl Aim {
     }
 }
 
-// The hit mask of a node, for a ray of this octant.
-pub fn intersect_ray(node: NodeRef, aim: &Aim) -> u32
-    ensures { result ≡ hit_mask (node_from node.entry.bytes.now 0) aim.now.ray aim.now.octant }
+// The hit mask of a node, number v of its record, for a ray of this octant.
+pub fn intersect_ray<G: Gate>(node: NodeRef, v: usize, aim: &Aim, gate: G) -> u32
+    ensures { result ≡ hit_mask (G.gates gate) v (node_from node.entry.bytes.now 0) aim.now.ray aim.now.octant }
 {
     let g = ray_in_grid(node, aim.ray);
-    let on = marks(node, aim.ends, g);
-    if on == 0 {
+    let passed = marks(node, aim.ends, g);
+    if passed == 0 {
         return 0;
     }
+    let on = gate.keep_open(v, passed);
     let bits = node_meta::get_child_and_index_bits(node.metas(), aim.octant);
     marked_bits(on, bits.child, bits.index)
 }
