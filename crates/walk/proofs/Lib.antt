@@ -24,3 +24,5 @@ pub mod Nearest
 pub mod Hits
 pub mod Noted
 pub mod Told
+pub mod Alike
+pub mod Filters

@@ -57,6 +57,20 @@ module _ {RayData Distance : Type 0} (W : WalkRecord RayData Distance) where
   pub position_tells : (ray : RayData) (v x : ℕ) → Tells (PassedSlot ray v x × (W.admits ray x ≡ true)) (passed_position W ray v x)
   position_tells ray v x = and_tells (slot_tells ray v x) (true_tells (W.admits ray x))
 
+  -- a position found stands in the leaf range of a slot that the ray passes, and passes itself
+  pub stands_passed : (ray : RayData) (v x : ℕ) → v < W.shape.nodes → In x (positions_passed W ray v) → PassesPosition W ray v x
+  stands_passed ray v x h i =
+      let q = in_falling x (λ b. W.position_base v + b) (λ b. passed_position W ray v (W.position_base v + b)) 24 i in
+      let t = told (position_tells ray v (W.position_base v + q.0)) q.2 in
+      let r = subst (λ (y : ℕ). in_range y (W.shape.start v t.0.0) (W.shape.count v t.0.0) ≡ 1) (sym q.3) t.0.2.0 in
+      let z = range_stands x (W.shape.start v t.0.0) (W.shape.count v t.0.0) (omega arith) in
+      record {
+        slot = t.0.0;
+        holds = record { node = h; slot = t.0.1; from = z.0; before = z.1 };
+        passes = t.0.2.1;
+        admitted = subst (λ (y : ℕ). W.admits ray y ≡ true) (sym q.3) t.1;
+      }
+
 module _ {RayData Distance : Type 0} (W : WalkRecord RayData Distance) (Rule : ℕ → Type 0) (laws : SlotLaws W Rule) where
   -- ---- children
 
@@ -118,21 +132,8 @@ module _ {RayData Distance : Type 0} (W : WalkRecord RayData Distance) (Rule : �
   -- a position is found exactly if it stands in the leaf range of a slot that the ray passes, and passes itself
   pub positions_iff : (ray : RayData) (v x : ℕ) → v < W.shape.nodes → Rule v
       → In x (positions_passed W ray v) ↔ PassesPosition W ray v x
-  positions_iff ray v x h rule = (to, from)
+  positions_iff ray v x h rule = (stands_passed W ray v x h, from)
     where
-      to : In x (positions_passed W ray v) → PassesPosition W ray v x
-      to i =
-          let q = in_falling x (λ b. W.position_base v + b) (λ b. passed_position W ray v (W.position_base v + b)) 24 i in
-          let t = told (position_tells W ray v (W.position_base v + q.0)) q.2 in
-          let r = subst (λ (y : ℕ). in_range y (W.shape.start v t.0.0) (W.shape.count v t.0.0) ≡ 1) (sym q.3) t.0.2.0 in
-          let z = range_stands x (W.shape.start v t.0.0) (W.shape.count v t.0.0) (omega arith) in
-          record {
-            slot = t.0.0;
-            holds = record { node = h; slot = t.0.1; from = z.0; before = z.1 };
-            passes = t.0.2.1;
-            admitted = subst (λ (y : ℕ). W.admits ray y ≡ true) (sym q.3) t.1;
-          }
-
       from : PassesPosition W ray v x → In x (positions_passed W ray v)
       from q =
           let j = q.slot in

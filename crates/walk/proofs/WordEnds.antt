@@ -45,7 +45,7 @@ positions-length : (g : Group) → length (positions_in (λ p. false) g) ≡ one
 positions-length g = ones_falling (λ b. g.base + b) g.bits 32
 
 -- without the highest it has one less,
-ones_rest : (g : Group) → 0 < g.bits → g.bits < 2 ^ 32 → ones_below 32 g.bits ≡ suc (ones_below 32 (rest_of g).bits)
+pub ones_rest : (g : Group) → 0 < g.bits → g.bits < 2 ^ 32 → ones_below 32 g.bits ≡ suc (ones_below 32 (rest_of g).bits)
 ones_rest g h l =
     let e : length (positions_in (λ p. false) g) ≡ suc (length (positions_in (λ p. false) (rest_of g))) =
     ap length (positions_first (λ p. false) g h l refl) in

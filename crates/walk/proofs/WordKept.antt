@@ -1,12 +1,13 @@
 -- What a step in words leaves where it goes no further: refused, the walker as it was; done, a walker with nothing left, which is done or refused on
 -- every record from then on, whatever it is told. And a walker whose hand begins with a position that is not passed over, as every one does where
--- none is, takes its turn as it stands. Whatever a step does, it leaves the ray as it was.
+-- none is, takes its turn as it stands. Whatever a step does, it leaves the ray as it was, and reports
+-- no position that is passed over or absent.
 use mathlib.Core.Bool.{Bool, true, false, not, ◌&&◌, cond}
 use mathlib.Core.Path.{◌≡◌, refl, sym, ap, ◌∙◌, subst}
-use Prim.Native.Nat.{ℕ, ◌-◌}
+use Prim.Native.Nat.{ℕ, ◌-◌, ◌^◌, ◌<◌}
 use native.Mathlib.Omega.{arith}
 use lib.Dec.{eqb, leb, ltb}
-use borrow.Author.Tests.{eqb-true, eq-eqb, ltb-false, le-ltb}
+use borrow.Author.Tests.{eqb-true, eq-eqb, ltb-true, ltb-false, le-ltb}
 use Rattle.faststack.specs.Stack.{top_of}
 use Rattle.causes.specs.Sizes.{sizes_fit}
 use Rattle.walk.specs.Step.{Answer, tested, position, done, refused}
@@ -15,7 +16,7 @@ use Rattle.walk.specs.WordStep.{WalkerWords, SteppedWords, NodeWords, stay_words
 use Rattle.walk.specs.WordStep.{only_first_words, bad_child, report_words, visit_words, pop_words, turn_words, advance_words, step_words, tell_words}
 use Rattle.lists.proofs.Tells.{both_pass}
 use Rattle.walk.proofs.Cases.{cond_elim, and-false}
-use Rattle.walk.proofs.Words.{AtFront, front_stays, empty_front}
+use Rattle.walk.proofs.Words.{AtFront, front_first, front_stays, skipped_front, empty_front}
 
 first_and_last : (a b c d e : Bool) → a && b && c && d && e ≡ true → (a ≡ true) × (e ≡ true)
 first_and_last a b c d e h =
@@ -184,6 +185,47 @@ module _ {RayData Distance : Type 0} (m : ℕ) (N : NodeWords RayData Distance) 
       let z = ltb-false 0 w.positions.bits f.positions in
       unskipped_step m N n w (empty_front (N.skips w.ray) w.positions z)
       ∙ rw (eq-eqb w.positions.bits 0 (omega arith), f.current, and-false (leb m 0), f.positions, f.stack)
+
+-- ---- a position reported
+
+module _ {RayData Distance : Type 0} (m : ℕ) (N : NodeWords RayData Distance) (n : ℕ) (w : WalkerWords RayData) where
+  -- a position that is reported is neither passed over nor absent
+  abbrev Admits : Answer → Type 0
+  Admits (tested v) = Unit {0}
+  Admits (position p) = (N.skips w.ray p ≡ false) × (N.absent w.ray p ≡ false)
+  Admits done = Unit {0}
+  Admits (refused e) = Unit {0}
+
+  abbrev AdmitsOf : SteppedWords RayData → Type 0
+  AdmitsOf r = Admits r.answer
+
+  visit_admits : (u : WalkerWords RayData) (g : Group) (e : ℕ) → AdmitsOf (visit_words m N n u g e)
+  unfolding visit_words
+  visit_admits u g e = cond_elim AdmitsOf (bad_child m N n u g e) _ _ (λ _. tt) (λ _. tt)
+
+  advance_admits : w.positions.bits < 2 ^ 32 → AdmitsOf (advance_words m N n w)
+  unfolding advance_words turn_words report_words pop_words
+  advance_admits l =
+      let u = past_skips N w in
+      let front : AtFront (N.skips w.ray) u.positions = skipped_front (N.skips w.ray) 32 w.positions (omega arith) l in
+      cond_elim AdmitsOf (ltb 0 u.positions.bits) _ _
+      (λ h. cond_elim AdmitsOf (N.absent w.ray (first_position u.positions)) _ _ (λ _. tt)
+      (λ a. cond_elim AdmitsOf (leb n (first_position u.positions)) _ _ (λ _. tt)
+      (λ _. (front_first (N.skips w.ray) u.positions front (ltb-true 0 u.positions.bits h), a))))
+      (λ _. cond_elim AdmitsOf (has_child u.current) _ _ (λ _. visit_admits u u.current u.depth)
+      (λ _. cond_elim AdmitsOf (ltb 0 (waiting_depth u.stack u.depth)) _ _ (λ _. visit_admits u _ _) (λ _. tt)))
+
+  step_admits : w.positions.bits < 2 ^ 32 → AdmitsOf (step_words m N n w)
+  unfolding step_words
+  step_admits l =
+      cond_elim AdmitsOf (sizes_fit m n) _ _
+      (λ _. cond_elim AdmitsOf (forged_words m N w) _ _ (λ _. tt)
+      (λ _. cond_elim AdmitsOf (leb m 0 && only_first_words m N (past_skips N w)) _ _ (λ _. tt) (λ _. advance_admits l)))
+      (λ _. tt)
+
+  pub reports_admitted : w.positions.bits < 2 ^ 32 → (p : ℕ) → (step_words m N n w).answer ≡ position p
+      → (N.skips w.ray p ≡ false) × (N.absent w.ray p ≡ false)
+  reports_admitted l p e = subst Admits e (step_admits l)
 
 -- done stays done, whatever count a later step on the same record brings, if it is no cause of refusal
 pub words_done_stays : {RayData Distance : Type 0} (m : ℕ) (N : NodeWords RayData Distance) (n : ℕ) (w : WalkerWords RayData)

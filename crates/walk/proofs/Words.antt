@@ -1,6 +1,6 @@
 -- The list that a word of bits stands for: its highest bit is the list's first, and clearing it leaves the rest. Positions that are passed over are
 -- not in it.
-use mathlib.Core.Bool.{Bool, true, false, not, ◌&&◌}
+use mathlib.Core.Bool.{Bool, true, false, not, ◌&&◌, cond}
 use mathlib.Core.List.{List, [], ◌∷◌}
 use mathlib.Core.Path.{◌≡◌, refl, sym, ap, ◌∙◌}
 use Prim.Native.Nat.{ℕ, zero, suc, ◌+◌, ◌-◌, ◌/◌, ◌%◌, ◌^◌, ◌≤◌, ◌<◌}
@@ -113,6 +113,17 @@ module _ (skips : ℕ → Bool) where
 pub rest_lt : (g : Group) → g.bits < 2 ^ 32 → (rest_of g).bits < 2 ^ 32
 rest_lt g h = omega (arith, mod-le g.bits (2 ^ highest g.bits))
 
+-- and is below a power of two for each bit less
+rest_shorter : (k : ℕ) (g : Group) → suc k ≤ 32 → g.bits < 2 ^ suc k → 0 < g.bits → (rest_of g).bits < 2 ^ k
+rest_shorter k g h l p =
+    let t = highest_is g.bits p (omega (arith, pow_mono {i = suc k} {j = 32} h)) in
+    let i : highest g.bits ≤ k = below (dec_lt k (highest g.bits)) t in
+    omega (arith, mod-lt g.bits (pow_pos (highest g.bits)), pow_mono {i = highest g.bits} {j = k} i)
+  where
+    below : Dec (k < highest g.bits) → Top 32 g.bits (highest g.bits) → highest g.bits ≤ k
+    below (yes q) t = absurd (omega (arith, t.low, pow_mono {i = suc k} {j = highest g.bits} q))
+    below (no q) t = omega arith
+
 -- ---- positions that are passed over
 
 module _ (skips : ℕ → Bool) where
@@ -157,18 +168,28 @@ module _ (skips : ℕ → Bool) where
   skipped_front zero g h l = empty_front g (omega arith)
   skipped_front (suc k) g h l =
       cond_elim AtFront (skips (first_position g) && ltb 0 g.bits) (past_skipped skips k (rest_of g)) g
-      (λ e. skipped_front k (rest_of g) (omega arith) (lower (ltb-true 0 g.bits (both_pass (skips (first_position g)) (ltb 0 g.bits) e).1)))
+      (λ e. skipped_front k (rest_of g) (omega arith)
+      (rest_shorter k g h l (ltb-true 0 g.bits (both_pass (skips (first_position g)) (ltb 0 g.bits) e).1)))
       (λ e. e)
+
+  -- more turns than a group has bits pass over no more
+  past_more : (k : ℕ) (g : Group) → k ≤ 32 → g.bits < 2 ^ k → past_skipped skips (suc k) g ≡ past_skipped skips k g
+  past_more zero g h l = front_stays 1 g (empty_front g (omega arith))
+  past_more (suc k) g h l = go (skips (first_position g) && ltb 0 g.bits) refl (past_more k (rest_of g) (omega arith))
     where
-      lower : 0 < g.bits → (rest_of g).bits < 2 ^ k
-      lower p =
-          let t = highest_is g.bits p (omega (arith, pow_mono {i = suc k} {j = 32} h)) in
-          let i : highest g.bits ≤ k = below (dec_lt k (highest g.bits)) t in
-          omega (arith, mod-lt g.bits (pow_pos (highest g.bits)), pow_mono {i = highest g.bits} {j = k} i)
-        where
-          below : Dec (k < highest g.bits) → Top 32 g.bits (highest g.bits) → highest g.bits ≤ k
-          below (yes q) t = absurd (omega (arith, t.low, pow_mono {i = suc k} {j = highest g.bits} q))
-          below (no q) t = omega arith
+      go : (b : Bool) → (skips (first_position g) && ltb 0 g.bits) ≡ b
+          → ((rest_of g).bits < 2 ^ k → past_skipped skips (suc k) (rest_of g) ≡ past_skipped skips k (rest_of g))
+          → cond b (past_skipped skips (suc k) (rest_of g)) g ≡ cond b (past_skipped skips k (rest_of g)) g
+      go true e more = more (rest_shorter k g h l (ltb-true 0 g.bits (both_pass (skips (first_position g)) (ltb 0 g.bits) e).1))
+      go false e more = refl
+
+  -- and once the first is passed over, what follows is the same
+  pub rest_past : (g : Group) → skips (first_position g) ≡ true → 0 < g.bits → g.bits < 2 ^ 32
+      → past_skipped skips 32 g ≡ past_skipped skips 32 (rest_of g)
+  rest_past g e h l =
+      let f : (skips (first_position g) && ltb 0 g.bits) ≡ true = rw (e, lt-ltb 0 g.bits h) refl in
+      ap (λ (b : Bool). cond b (past_skipped skips 31 (rest_of g)) g) f
+      ∙ sym (past_more 31 (rest_of g) (omega arith) (rest_shorter 31 g (omega arith) l h))
 
 -- ---- children
 

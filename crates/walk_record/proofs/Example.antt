@@ -26,7 +26,7 @@ use Rattle.walk.specs.Words.{Group}
 use Rattle.walk.specs.WordStep.{WalkerWords, no_group, fresh_words, step_words, advance_words, report_words, visit_words, pop_words, run_words}
 use Rattle.walk.specs.WordQueries.{query_words}
 use Rattle.walk_record.specs.Record.{Rays}
-use Rattle.walk_record.specs.WalkRay.{WalkRay, walk_ray, by_boxes}
+use Rattle.walk_record.specs.WalkRay.{WalkRay, walk_ray, rays_of, by_boxes}
 use Rattle.walk_record.specs.Walk.{run_at, query_at, any_hit_at}
 
 -- a node with this mask, these two bases and these metas; every slot has the whole box
@@ -64,14 +64,7 @@ holds positions current = record { ray = along; tests = 0; positions = positions
 
 -- with a test of positions, or with positions that are not there
 abbrev with_positions : (ℕ → Bool) → (ℕ → Bool) → Rays WalkRay Float
-with_positions admits absent = record {
-  passes = by_boxes.passes;
-  admits = λ b p. admits p;
-  absent = λ b p. absent p;
-  octant = by_boxes.octant;
-  told = by_boxes.told;
-  forged = by_boxes.forged;
-}
+with_positions admits absent = rays_of (record { opens = λ v k. true; admits = admits; absent = absent; forged = false })
 
 pub record Examples : Type 0 where
   -- slot 0 comes before slot 5 in octant 7, and after it in octant 3; positions fall in both

@@ -4,3 +4,4 @@ pub mod Demands
 pub mod WalkRay
 pub mod Reach
 pub mod Example
+pub mod Runs

@@ -17,9 +17,10 @@ use Rattle.float.specs.Magnitude.{Within}
 use Rattle.float.proofs.Magnitude.{atmost_no_nan}
 use Rattle.float.proofs.Sign.{no_nan_lt_l, self_equal}
 use Rattle.lists.proofs.Tells.{both_pass}
-use Rattle.walk.proofs.Cases.{not_false_true}
+use Rattle.gate.specs.Gates.{Gates}
+use Rattle.walk.proofs.Cases.{not_false_true, or_false}
 use Rattle.walk_record.specs.Record.{RayLaws, AllPresent}
-use Rattle.walk_record.specs.WalkRay.{WalkRay, walk_ray, plain_ray, own_inverse, forged_ray, told_walk_ray, by_boxes}
+use Rattle.walk_record.specs.WalkRay.{WalkRay, walk_ray, plain_ray, own_inverse, forged_ray, told_walk_ray, rays_of, by_boxes}
 
 -- what a ray must have that is not forged
 pub record Unforged (b : WalkRay) : Type 0 where
@@ -65,8 +66,22 @@ reach_accepted t b true n f =
 told_accepted : (t : Float) (b : WalkRay) → forged_ray b ≡ false → forged_ray (told_walk_ray t b) ≡ false
 told_accepted t b = reach_accepted t b _ (λ e. no_nan_lt_l t b.ray.tmax (counts_below b.ray t e))
 
-pub walk_ray_laws : RayLaws by_boxes
-walk_ray_laws = record { octant_lt = octant_lt; octant_told = λ t b. refl; admits_told = λ t b. refl; told_accepted = told_accepted }
+-- beside any gates
+module _ (g : Gates) where
+  -- a ray that is not forged there is forged by no means
+  pub gated_accepted : (b : WalkRay) → (rays_of g).forged b ≡ false → (g.forged ≡ false) × (forged_ray b ≡ false)
+  gated_accepted b f = or_false g.forged (forged_ray b) f
+
+  pub gated_forged : (b : WalkRay) → g.forged ≡ false → forged_ray b ≡ false → (rays_of g).forged b ≡ false
+  gated_forged b h f = rw (h, f)
+
+  pub walk_ray_laws : RayLaws (rays_of g)
+  walk_ray_laws = record {
+    octant_lt = λ b f. octant_lt b (gated_accepted b f).1;
+    octant_told = λ t b. refl;
+    admits_told = λ t b. refl;
+    told_accepted = λ t b f. let h = gated_accepted b f in gated_forged (told_walk_ray t b) h.0 (told_accepted t b h.1);
+  }
 
 pub by_boxes_present : (n : ℕ) → AllPresent by_boxes n
 by_boxes_present n b p h = refl

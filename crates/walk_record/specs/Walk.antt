@@ -3,9 +3,10 @@ use mathlib.Core.List.{List, []}
 use Rattle.std.specs.Prelude.{ℕ}
 use Rattle.ray.specs.declared.Ray.{Ray}
 use Rattle.record_shape.specs.Record.{Nodes, nodes_at}
+use Rattle.walk.specs.Step.{fresh}
 use Rattle.walk.specs.Calls.{Op}
 use Rattle.walk.specs.Listing.{listing}
-use Rattle.walk.specs.Queries.{Reaction, steps_for, append}
+use Rattle.walk.specs.Queries.{Reaction, query_calls, steps_for, append}
 use Rattle.walk.specs.Slots.{tests_of, ReachedBySlots, PassedBySlots}
 use Rattle.walk.specs.WordStep.{WalkerWords, SteppedWords, RunWords, fresh_words, step_words, run_words}
 use Rattle.walk.specs.WordQueries.{OutcomeWords, query_words}
@@ -27,6 +28,10 @@ module _ {RayData Distance : Type 0} (N : Nodes) (R : Rays RayData Distance) whe
   unfoldable pub query_in : {a : Type 0} → (ℕ → RayData → a → Reaction Distance a) → a → ℕ → RayData → OutcomeWords RayData a
   unfolding query_words
   query_in react x n r = query_words N.count (node_words_in N R) react (steps_for N.count) n (fresh_words r) x
+
+  -- the steps and tellings that it makes
+  abbrev pub calls_in : {a : Type 0} → (ℕ → RayData → a → Reaction Distance a) → a → ℕ → RayData → List (Op Distance)
+  calls_in react x n r = query_calls N.count (tests_of (slots_in N R n)) react (steps_for N.count) n (fresh r) x
 
   -- any-hit: what it has noted is its list
   abbrev pub any_hit_in : ℕ → RayData → OutcomeWords RayData (List ℕ)
