@@ -6,12 +6,13 @@ ghost use Rattle.causes.proofs.Sizes.{Fit};
 ghost use Rattle.record_shape.specs.Record.{node_count};
 ghost use Rattle.walk.specs.Words.{packed, unpacked, first_position, first_child, rest_of};
 ghost use Rattle.walk.specs.WordStep.{visit_words, advance_words, seek_words};
-ghost use Rattle.walk_record.specs.WalkRay.{by_boxes};
+ghost use Rattle.walk_record.specs.WalkRay.{rays_of};
 ghost use Rattle.walk_record.specs.Record.{node_words_at};
 ghost use Rattle.advance.specs.Turn.{group_of, walker_of, begun, turned, seeking, due_in, due_group, lacks_room, waits, stacked, is_past};
 ghost use Rattle.advance.specs.Turn.{followed, goes_on};
 
 use causes::Refusal;
+use gate::Gate;
 use node_slot::Aim;
 use node_test::Tested;
 
@@ -215,12 +216,12 @@ fn follow(tests: u32, t: Tested, depth: u32) -> Walk
     }
 }
 
-// Tests the first child of a group; what is left of the group waits above those below it. Aim, stack and record go by themselves here and below:
-// closest lowers an aim's reach, a walk changes the stack, and the record stays.
-fn visit(walk: Walk, g: Due, aim: &Aim, stack: &mut Stack, bvh: CwBvh) -> Turn
+// Tests the first child of a group; what is left of the group waits above those below it. Aim, gate, stack and record go by themselves here and
+// below: closest lowers an aim's reach, a walk changes the stack, and gate and record stay.
+fn visit<G: Gate>(walk: Walk, g: Due, aim: &Aim, gate: G, stack: &mut Stack, bvh: CwBvh) -> Turn
     requires { 0x100_0000 ≤ g.group.bits }
     ensures { let bytes = bvh.entry.bytes.now in turned aim.now.ray aim.now.octant result stack.new
-        ≡ visit_words (node_count bytes) (node_words_at bytes by_boxes) bvh.entry.positions
+        ≡ visit_words (node_count bytes) (node_words_at bytes (rays_of (G.gates gate))) bvh.entry.positions
         (walker_of aim.now.ray aim.now.octant walk stack.old) (group_of g.group) g.depth }
 {
     let group = g.group;
@@ -239,7 +240,7 @@ fn visit(walk: Walk, g: Due, aim: &Aim, stack: &mut Stack, bvh: CwBvh) -> Turn
             walk,
         };
     }
-    let Some(t) = node_test::test_node(bvh.bytes, child, m, bvh.positions, aim) else {
+    let Some(t) = node_test::test_node(bvh.bytes, child, m, bvh.positions, aim, gate) else {
         return Turn {
             answer: Answer::Refused(Refusal::Fault),
             walk,
@@ -253,10 +254,10 @@ fn visit(walk: Walk, g: Due, aim: &Aim, stack: &mut Stack, bvh: CwBvh) -> Turn
 }
 
 // One turn without positions in hand: the node that is due is tested, or nothing is left.
-fn test_due(walk: Walk, aim: &Aim, stack: &mut Stack, bvh: CwBvh) -> Turn
+fn test_due<G: Gate>(walk: Walk, aim: &Aim, gate: G, stack: &mut Stack, bvh: CwBvh) -> Turn
     requires { walk.positions.bits ≡ 0 }
     ensures { let bytes = bvh.entry.bytes.now in turned aim.now.ray aim.now.octant result stack.new
-        ≡ advance_words (node_count bytes) (node_words_at bytes by_boxes) bvh.entry.positions
+        ≡ advance_words (node_count bytes) (node_words_at bytes (rays_of (G.gates gate))) bvh.entry.positions
         (walker_of aim.now.ray aim.now.octant walk stack.old) }
 {
     let Some(g) = due_group(walk.current, walk.depth, stack) else {
@@ -265,7 +266,7 @@ fn test_due(walk: Walk, aim: &Aim, stack: &mut Stack, bvh: CwBvh) -> Turn
             walk,
         };
     };
-    visit(walk, g, aim, stack, bvh)
+    visit(walk, g, aim, gate, stack, bvh)
 }
 
 // Whether a search for positions goes on after a turn: it tested a node, none of whose positions is passed, and tests are left.
@@ -279,7 +280,7 @@ fn goes_on(turn: Turn, left: u32) -> bool
 // On from a walk without positions in hand until some are, nothing is left, or a test is refused: one test, and up to `most` more. It takes the
 // walk's numbers one by one, which go in registers: a struct would go through memory, and what is stored in parts and read whole waits for the
 // stores.
-pub fn seek(
+pub fn seek<G: Gate>(
     tests: u32,
     held: u32,
     current: u32,
@@ -287,11 +288,12 @@ pub fn seek(
     depth: u32,
     most: u32,
     aim: &Aim,
+    gate: G,
     stack: &mut Stack,
     bvh: CwBvh,
 ) -> Turn
     ensures { let bytes = bvh.entry.bytes.now in turned aim.now.ray aim.now.octant result stack.new
-        ≡ seek_words (node_count bytes) (node_words_at bytes by_boxes) most bvh.entry.positions
+        ≡ seek_words (node_count bytes) (node_words_at bytes (rays_of (G.gates gate))) most bvh.entry.positions
         (walker_of aim.now.ray aim.now.octant (seeking tests held current bits depth) stack.old) }
 {
     let mut walk = Walk {
@@ -309,7 +311,7 @@ pub fn seek(
     // not a `for` over `left`: the loop gives what its last turn gave
     let mut left = most;
     loop {
-        let turn = test_due(walk, aim, stack, bvh);
+        let turn = test_due(walk, aim, gate, stack, bvh);
         if !goes_on(turn, left) {
             return turn;
         }
@@ -320,9 +322,9 @@ pub fn seek(
 
 // The same from a walk, until positions are in hand or the walk ends. Compiled into each query, so that the walk's numbers go in registers.
 #[inline(always)]
-pub fn seek_on(walk: Walk, aim: &Aim, stack: &mut Stack, bvh: CwBvh) -> Turn
+pub fn seek_on<G: Gate>(walk: Walk, aim: &Aim, gate: G, stack: &mut Stack, bvh: CwBvh) -> Turn
     ensures { let bytes = bvh.entry.bytes.now in turned aim.now.ray aim.now.octant result stack.new
-        ≡ seek_words (node_count bytes) (node_words_at bytes by_boxes) 0xffff_ffff bvh.entry.positions
+        ≡ seek_words (node_count bytes) (node_words_at bytes (rays_of (G.gates gate))) 0xffff_ffff bvh.entry.positions
         (walker_of aim.now.ray aim.now.octant (seeking walk.tests walk.positions.base walk.current.base walk.current.bits walk.depth) stack.old) }
 {
     let current = walk.current;
@@ -334,6 +336,7 @@ pub fn seek_on(walk: Walk, aim: &Aim, stack: &mut Stack, bvh: CwBvh) -> Turn
         walk.depth,
         ALL_TESTS,
         aim,
+        gate,
         stack,
         bvh,
     )
