@@ -15,6 +15,7 @@ use Rattle.walk.specs.Step as S
 use Rattle.walk.specs.Queries.{Ended}
 use Rattle.walk.specs.WordQueries.{OutcomeWords}
 use Rattle.walk_record.specs.WalkRay.{WalkRay}
+use Rattle.query.specs.Ending.{Ending, ending}
 use Rattle.query.specs.Entry.{entry_conditions, entry_cause}
 use Rattle.query.specs.Result.{Result}
 use Rattle.query.specs.Result as R
@@ -96,3 +97,32 @@ found_at_end refuse found zero o (S.position p) e h = refl
 found_at_end refuse found zero o S.done e h = refl
 found_at_end refuse found zero o (S.refused k) e h = absurd h
 found_at_end refuse found (suc c) o b e h = absurd (omega arith)
+
+-- what a walk gives that ended like this
+module _ {A N : Type 0} (refuse : ℕ → A) (found : N → ℕ → Result A) (o : OutcomeWords WalkRay N) (noted : N) (tests : ℕ) where
+  abbrev by_end : Ending N → Result A
+  by_end x = R.walked refuse found o x.ended
+
+  pub ended_done : record { noted = noted; tests = tests; ended = S.done } ≡ ending o → found noted tests ≡ R.walked refuse found o o.ended
+  unfolding R.walked
+  ended_done e = ap (λ (x : Ending N). found x.noted x.tests) e ∙ ap by_end e
+
+  pub ended_refused : (k : ℕ) → record { noted = noted; tests = tests; ended = S.refused k } ≡ ending o
+      → R.unanswered (refuse k) ≡ R.walked refuse found o o.ended
+  unfolding R.walked
+  ended_refused k e = ap by_end e
+
+  pub ended_stopped : (p : ℕ) → record { noted = noted; tests = tests; ended = S.position p } ≡ ending o
+      → found noted tests ≡ R.walked refuse found o o.ended
+  unfolding R.walked
+  ended_stopped p e = ap (λ (x : Ending N). found x.noted x.tests) e ∙ ap by_end e
+
+-- where a cause of the query's own holds it does not matter what the walk would give
+pub own_cause_alike : {A : Type 0} (refuse : ℕ → A) (fits : Bool) (bytes n between : ℕ) (r : Ray) (w u : Result A) → (between ≡ 0 → ⊥)
+    → R.entered refuse (entry_cause fits bytes n between r) w ≡ R.entered refuse (entry_cause fits bytes n between r) u
+unfolding R.entered
+own_cause_alike refuse fits bytes n between r w u h = go (entry_cause fits bytes n between r) refl
+  where
+    go : (k : ℕ) → entry_cause fits bytes n between r ≡ k → R.entered refuse k w ≡ R.entered refuse k u
+    go zero e = absurd (h (entered fits bytes n between r e).none)
+    go (suc k) e = refl

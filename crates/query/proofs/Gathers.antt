@@ -17,6 +17,7 @@ use Rattle.walk.specs.WordStep.{WalkerWords, SteppedWords, NodeWords, past_skips
 use Rattle.walk.specs.WordStep.{report_words, visit_words, pop_words, turn_words, advance_words, step_words}
 use Rattle.walk.specs.WordQueries.{OutcomeWords, follow_words, query_words}
 use Rattle.walk.proofs.Cases.{cond_elim}
+use Rattle.query.specs.Ending.{Ending}
 use Rattle.query.proofs.Leads.{Leads}
 
 module _ {RayData Distance : Type 0} (m : ℕ) (N : NodeWords RayData Distance) (n : ℕ) where
@@ -53,10 +54,10 @@ module _ {RayData Distance : Type 0} (m : ℕ) (N : NodeWords RayData Distance) 
       go (S.refused k) u r = omega arith
 
   -- what a walk has noted stands in front of what it will have
-  pub leads_front : {goal : OutcomeWords RayData (List ℕ)} {w : WalkerWords RayData} {x : List ℕ} → Leads m N n append goal w x
-      → (rest : List ℕ) × (goal.accumulator ≡ x ++ rest)
+  pub leads_front : {goal : Ending (List ℕ)} {w : WalkerWords RayData} {x : List ℕ} → Leads m N n append goal w x
+      → (rest : List ℕ) × (goal.noted ≡ x ++ rest)
   leads_front {goal} {w} {x} L =
-      ((noting L.steps w []).accumulator, ap (λ (o : OutcomeWords RayData (List ℕ)). o.accumulator) (sym L.rest) ∙ noted_front L.steps w x)
+      ((noting L.steps w []).accumulator, ap (λ (o : Ending (List ℕ)). o.noted) (sym L.rest) ∙ noted_front L.steps w x)
 
   -- ---- refusals
 

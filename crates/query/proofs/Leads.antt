@@ -20,6 +20,7 @@ use Rattle.walk.proofs.Words.{AtFront, empty_front, front_stays}
 use Rattle.walk.proofs.WordKept.{unskipped_turn}
 use Rattle.walk.proofs.WordEnds.{steps_left_words}
 use Rattle.advance.proofs.Shows.{Shows, turn_shows, turn_is_step}
+use Rattle.query.specs.Ending.{Ending, ending}
 
 -- what a loop over turns leans on: a step leaves words in range and lowers the number of steps left, and telling makes no ray forged
 pub record Steady {RayData Distance : Type 0} (m : ℕ) (N : NodeWords RayData Distance) (n : ℕ) : Type 0 where
@@ -40,16 +41,16 @@ pub record OnWay {RayData Distance : Type 0} (m : ℕ) (N : NodeWords RayData Di
 
 -- from this walker, with x noted, the query ends as the goal says, with steps to spare
 pub record Leads {RayData Distance a : Type 0} (m : ℕ) (N : NodeWords RayData Distance) (n : ℕ) (react : ℕ → RayData → a → Reaction Distance a)
-    (goal : OutcomeWords RayData a)
+    (goal : Ending a)
     (w : WalkerWords RayData) (x : a) : Type 0 where
   pub way : OnWay m N w
   pub steps : ℕ
   pub enough : steps_left_words m w < steps
-  pub rest : query_words m N react steps n w x ≡ goal
+  pub rest : ending (query_words m N react steps n w x) ≡ goal
 
 -- the query goes on from walker w, with y noted and fewer steps left than from u
 pub record Goes {RayData Distance a : Type 0} (m : ℕ) (N : NodeWords RayData Distance) (n : ℕ) (react : ℕ → RayData → a → Reaction Distance a)
-    (goal : OutcomeWords RayData a)
+    (goal : Ending a)
     (u w : WalkerWords RayData) (y : a) : Type 0 where
   pub leads : Leads m N n react goal w y
   pub less : steps_left_words m w < steps_left_words m u
@@ -76,7 +77,7 @@ module _ {RayData Distance : Type 0} (m : ℕ) (N : NodeWords RayData Distance) 
 -- ---- a turn of a walker on its way
 
 module _ {RayData Distance a : Type 0} {m : ℕ} {N : NodeWords RayData Distance} {n : ℕ} {react : ℕ → RayData → a → Reaction Distance a}
-    {goal : OutcomeWords RayData a} {w : WalkerWords RayData} {x : a}
+    {goal : Ending a} {w : WalkerWords RayData} {x : a}
     (steady : Steady m N n) (L : Leads m N n react goal w x) where
   abbrev o : OnWay m N w
   o = L.way
@@ -88,19 +89,20 @@ module _ {RayData Distance a : Type 0} {m : ℕ} {N : NodeWords RayData Distance
   record Follows (r : SteppedWords RayData) : Type 0 where
     pub spare : ℕ
     pub enough : steps_left_words m w ≤ spare
-    pub rest : follow_words m N react r.answer r.walker x (query_words m N react spare n) ≡ goal
+    pub rest : ending (follow_words m N react r.answer r.walker x (query_words m N react spare n)) ≡ goal
 
   module _ (r : SteppedWords RayData) (e : r ≡ advance_words m N n w) where
     follows : Follows r
     unfolding query_words
     follows = go L.steps L.enough L.rest
       where
-        go : (k : ℕ) → steps_left_words m w < k → query_words m N react k n w x ≡ goal → Follows r
+        go : (k : ℕ) → steps_left_words m w < k → ending (query_words m N react k n w x) ≡ goal → Follows r
         go zero h p = absurd (omega arith)
         go (suc f) h p = record {
           spare = f;
           enough = omega arith;
-          rest = ap (λ (u : SteppedWords RayData). follow_words m N react u.answer u.walker x (query_words m N react f n)) (e ∙ sym is_step) ∙ p;
+          rest = ap (λ (u : SteppedWords RayData). ending (follow_words m N react u.answer u.walker x (query_words m N react f n)))
+              (e ∙ sym is_step) ∙ p;
         }
 
     shown : Shows m N n w r.answer r.walker
@@ -115,6 +117,14 @@ module _ {RayData Distance a : Type 0} {m : ℕ} {N : NodeWords RayData Distance
 
   -- ---- a position in hand
 
+  -- which is absent, and not passed over, refuses the query
+  pub leads_absent : AtFront (N.skips w.ray) w.positions → N.absent w.ray (first_position w.positions) ≡ true → 0 < w.positions.bits
+      → record { noted = x; tests = w.tests; ended = S.refused 10 } ≡ goal
+  unfolding turn_words
+  leads_absent front gone held =
+      let e : stay_words w (S.refused 10) ≡ advance_words m N n w = rw (unskipped_turn m N n w front, lt-ltb 0 w.positions.bits held, gone) refl in
+      (follows _ e).rest
+
   -- which is neither passed over nor absent
   module _ (front : AtFront (N.skips w.ray) w.positions) (present : N.absent w.ray (first_position w.positions) ≡ false)
       (held : 0 < w.positions.bits) (p : ℕ) (named : p ≡ first_position w.positions) where
@@ -123,7 +133,7 @@ module _ {RayData Distance a : Type 0} {m : ℕ} {N : NodeWords RayData Distance
     is_due = rw (unskipped_turn m N n w front, lt-ltb 0 w.positions.bits held, present)
 
     -- one past the n refuses the query
-    pub leads_past : n ≤ p → record { walker = w; accumulator = x; ended = S.refused 10 } ≡ goal
+    pub leads_past : n ≤ p → record { noted = x; tests = w.tests; ended = S.refused 10 } ≡ goal
     unfolding report_words
     leads_past h =
         let e : stay_words w (S.refused 10) ≡ report_words n w = rw (← named, le-leb n p h) in
@@ -146,9 +156,9 @@ module _ {RayData Distance a : Type 0} {m : ℕ} {N : NodeWords RayData Distance
 
       -- the query stops there,
       pub leads_stops : {y : a} {ds : List Distance} → react p w.ray x ≡ record { accumulator = y; tells = ds; stop = true }
-          → record { walker = told_all_words N ds reported; accumulator = y; ended = S.position p } ≡ goal
+          → ending (record { walker = told_all_words N ds reported; accumulator = y; ended = S.position p }) ≡ goal
       unfolding followed
-      leads_stops q = let g = follows _ is_report in ap (followed g.spare) (sym q) ∙ g.rest
+      leads_stops q = let g = follows _ is_report in ap (λ (r : Reaction Distance a). ending (followed g.spare r)) (sym q) ∙ g.rest
 
       -- or goes on
       pub leads_on : {y : a} {ds : List Distance} → react p w.ray x ≡ record { accumulator = y; tells = ds; stop = false }
@@ -164,7 +174,7 @@ module _ {RayData Distance a : Type 0} {m : ℕ} {N : NodeWords RayData Distance
                   (record { accepted = o.accepted; tests = o.tests; deep = o.deep; range = in_range_lem _ is_report });
               steps = g.spare;
               enough = omega (arith, g.enough);
-              rest = ap (followed g.spare) (sym q) ∙ g.rest;
+              rest = ap (λ (r : Reaction Distance a). ending (followed g.spare r)) (sym q) ∙ g.rest;
             };
             less = omega arith;
           }
@@ -173,16 +183,16 @@ module _ {RayData Distance a : Type 0} {m : ℕ} {N : NodeWords RayData Distance
 
 -- how a search for positions leaves a query: it goes on after a test, and ends with done or a refusal
 abbrev pub Sought : {RayData Distance a : Type 0} (m : ℕ) (N : NodeWords RayData Distance) (n : ℕ) (react : ℕ → RayData → a → Reaction Distance a)
-    (goal : OutcomeWords RayData a)
+    (goal : Ending a)
     (w : WalkerWords RayData) (x : a) → S.Answer → WalkerWords RayData → Type 0
 Sought m N n react goal w x (S.tested v) u = Goes m N n react goal w u x
 Sought m N n react goal w x (S.position p) u = ⊥
-Sought m N n react goal w x S.done u = record { walker = u; accumulator = x; ended = S.done } ≡ goal
-Sought m N n react goal w x (S.refused k) u = record { walker = u; accumulator = x; ended = S.refused k } ≡ goal
+Sought m N n react goal w x S.done u = record { noted = x; tests = u.tests; ended = S.done } ≡ goal
+Sought m N n react goal w x (S.refused k) u = record { noted = x; tests = u.tests; ended = S.refused k } ≡ goal
 
 -- what a later turn's search gives, a first one gives too
 sought_after : {RayData Distance a : Type 0} (m : ℕ) (N : NodeWords RayData Distance) (n : ℕ) (react : ℕ → RayData → a → Reaction Distance a)
-    (goal : OutcomeWords RayData a) (x : a)
+    (goal : Ending a) (x : a)
     (w u : WalkerWords RayData) (b : S.Answer) (v : WalkerWords RayData)
     → steps_left_words m u < steps_left_words m w → Sought m N n react goal u x b v → Sought m N n react goal w x b v
 sought_after m N n react goal x w u (S.tested j) v l h = record { leads = h.leads; less = omega (arith, l, h.less) }
@@ -191,7 +201,7 @@ sought_after m N n react goal x w u S.done v l h = h
 sought_after m N n react goal x w u (S.refused k) v l h = h
 
 module _ {RayData Distance a : Type 0} {m : ℕ} {N : NodeWords RayData Distance} {n : ℕ} {react : ℕ → RayData → a → Reaction Distance a}
-    {goal : OutcomeWords RayData a} {x : a}
+    {goal : Ending a} {x : a}
     (steady : Steady m N n) where
   -- one turn without positions in hand
   turn_sought : (w : WalkerWords RayData) → Leads m N n react goal w x → w.positions.bits ≤ 0 → (r : SteppedWords RayData)
@@ -204,7 +214,7 @@ module _ {RayData Distance a : Type 0} {m : ℕ} {N : NodeWords RayData Distance
       go : (b : S.Answer) (u : WalkerWords RayData) → Shows m N n w b u → WordsFit u → (Going b → steps_left_words m u < steps_left_words m w)
           → (k : ℕ)
           → steps_left_words m w ≤ k
-          → follow_words m N react b u x (query_words m N react k n) ≡ goal → Sought m N n react goal w x b u
+          → ending (follow_words m N react b u x (query_words m N react k n)) ≡ goal → Sought m N n react goal w x b u
       go (S.tested v) u h i f k l q = record {
         leads = record {
           way = record { accepted = ap N.forged h.3 ∙ L.way.accepted; tests = omega (arith, h.1, h.4); deep = h.2; range = i };

@@ -13,9 +13,9 @@ use Rattle.walk_record.proofs.WalkRay.{begun_accepted}
 use Rattle.query.specs.Entry.{entry_cause}
 use Rattle.query.proofs.Entry.{Entered, entered}
 
-module _ (fits : Bool) (b : Beam) (bytes : List ℕ) (n : ℕ) (none : entry_cause fits (length bytes) n 0 (ray_from b) ≡ 0) where
-  pub enters : Entered fits (length bytes) n 0 (ray_from b)
-  enters = entered fits (length bytes) n 0 (ray_from b) none
+module _ (fits : Bool) (b : Beam) (bytes : List ℕ) (n between : ℕ) (none : entry_cause fits (length bytes) n between (ray_from b) ≡ 0) where
+  pub enters : Entered fits (length bytes) n between (ray_from b)
+  enters = entered fits (length bytes) n between (ray_from b) none
 
   pub unforged : forged_ray (walk_ray (ray_from b)) ≡ false
   unforged = begun_accepted b.origin b.direction b.tmin b.tmax enters.accepted

@@ -1,4 +1,5 @@
 pub mod Begun
+pub mod Ending
 pub mod Entry
 pub mod Met
 pub mod Result

@@ -51,8 +51,7 @@ pub fn check_entry(
 impl<'a> Query<'a> {
     ghost use Rattle.query.specs.Begun.{Begun};
 
-    // Where the walk of a query begins, for the ray that is asked for; none over a record without nodes. No cause of the query's own stands between
-    // 2 and 9.
+    // Where the walk of a query begins, for the ray that is asked for; none over a record without nodes.
     // Compiled into each query, since what it gives is large.
     #[inline(always)]
     #[tactic(auto, using(ray::proofs::Bounds::octant_lt))]
@@ -60,13 +59,14 @@ impl<'a> Query<'a> {
         fits: bool,
         record: &'a [u8],
         n: usize,
+        between: Result<(), Refusal>,
         beam: Beam,
     ) -> Result<Option<Query<'a>>, Refusal>
-        ensures value { cause_in result ≡ entry_cause fits (length «record».now) n 0 (ray_from beam) }
+        ensures value { cause_in result ≡ entry_cause fits (length «record».now) n (cause_in between) (ray_from beam) }
         ensures walk { IfOk result (Begun «record».now n (ray_from beam)) }
     {
         let ray = Ray::new(beam);
-        check_entry(fits, record.len(), n, Ok(()), ray)?;
+        check_entry(fits, record.len(), n, between, ray)?;
         if record.is_empty() {
             return Ok(None);
         }

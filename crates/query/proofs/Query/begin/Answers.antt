@@ -11,8 +11,8 @@ use Rattle.query.proofs.Query.begin.Goals.{After-check_entry}
 
 -- the cause is that of the ray that is asked for
 cause : (c : After-check_entry) → let a = c.args in
-    cause_in c.check_entry.result ≡ entry_cause a.fits (length a.«record».now) a.n 0 (ray_from a.beam)
-cause c = c.check_entry.ensures ∙ ap (entry_cause c.args.fits _ _ 0) c.new-ray.ensures
+    cause_in c.check_entry.result ≡ entry_cause a.fits (length a.«record».now) a.n (cause_in a.between) (ray_from a.beam)
+cause c = c.check_entry.ensures ∙ ap (entry_cause c.args.fits _ _ (cause_in c.args.between)) c.new-ray.ensures
 
 pub returns-in_err-check_entry : goal.returns-in_err-check_entry
 returns-in_err-check_entry c =
@@ -29,7 +29,7 @@ pub invariant_of-bvh : goal.invariant_of-bvh
 invariant_of-bvh c =
     let a = c.args in
     let z = sym (cause (goal.at.invariant_of-bvh c).After-check_entry) ∙ ap cause_in c.in_ok-check_entry.was in
-    record { fit = (enters a.fits a.beam a.«record».now a.n z).sizes }
+    record { fit = (enters a.fits a.beam a.«record».now a.n (cause_in a.between) z).sizes }
 
 pub invariant_of-result : goal.invariant_of-result
 invariant_of-result c =
@@ -37,8 +37,9 @@ invariant_of-result c =
     let z = sym (cause (goal.at.invariant_of-result c).After-check_entry) ∙ ap cause_in c.in_ok-check_entry.was in
     let same = c.new-aim.ensures.0 in
     record {
-      some = some_nodes a.fits a.beam a.«record».now a.n z (search rules);
-      accepted = ap (λ (r : Ray). forged_ray (walk_ray r)) (same ∙ c.new-ray.ensures) ∙ unforged a.fits a.beam a.«record».now a.n z;
+      some = some_nodes a.fits a.beam a.«record».now a.n (cause_in a.between) z (search rules);
+      accepted = ap (λ (r : Ray). forged_ray (walk_ray r)) (same ∙ c.new-ray.ensures) ∙ unforged a.fits a.beam a.«record».now a.n
+          (cause_in a.between) z;
       own = c.new-aim.ensures.1 ∙ c.octant.ensures ∙ ap (λ (r : Ray). octant_of r.direction) (sym same);
       fields = bytes_fit _ (λ i. (c.type_inv.record i).fits);
     }
