@@ -1,4 +1,3 @@
-pub mod Begun
-pub mod Reports
 pub mod Steps
+pub mod Begun
 pub mod Calls

@@ -1,5 +1,5 @@
 -- The walker as the machine of words has it, and its calls on a record as bytes (01, "Walking"; "Causes of refusal").
-use Rattle.std.specs.Prelude.{Bool, true, false, not, ◌&&◌, ◌||◌, List, [], ℕ, ◌%◌, eqb, leb, ltb, length, replicate, Float}
+use Rattle.std.specs.Prelude.{true, false, List, [], ℕ, ◌%◌, eqb, length, replicate, Float}
 use Rattle.std.specs.Prelude.{Result, Ok, Err}
 use Rattle.float.specs.Compare.{plus_zero}
 use Rattle.causes.specs.declared.Refusal.{Refusal}
@@ -9,9 +9,8 @@ use Rattle.ray.specs.declared.Vec3.{Vec3}
 use Rattle.ray.specs.Ray.{accepted_ray}
 use Rattle.faststack.specs.Stack.{capacity}
 use Rattle.walk.specs.Step as S
-use Rattle.walk.specs.Words as W
 use Rattle.walk.specs.WordStep.{WalkerWords, SteppedWords, no_group, fresh_words, stay_words, tell_words}
-use Rattle.walk_record.specs.WalkRay.{WalkRay, walk_ray, forged_ray, by_boxes}
+use Rattle.walk_record.specs.WalkRay.{WalkRay, walk_ray, by_boxes}
 use Rattle.walk_record.specs.Record.{node_words_at}
 use Rattle.walk_record.specs.Walk.{step_at}
 use Rattle.advance.specs.Turn.{step_answer, walker_of}
@@ -75,15 +74,3 @@ told_walker t w = tell_words (node_words_at [] by_boxes) t w
 unfoldable pub step_bytes : List ℕ → ℕ → WalkerWords WalkRay → SteppedWords WalkRay
 unfolding step_at
 step_bytes bytes n w = elim (eqb (length bytes % 80) 0) [ false ↦ stay_words w (S.refused 1) | true ↦ step_at bytes by_boxes n w ]
-
--- ---- parts of a step
-
--- the walker is forged on a record of m nodes
-abbrev pub is_forged : Ray → (octant depth tests m : ℕ) → Bool
-is_forged r octant depth tests m = forged_ray (record { ray = r; octant = octant }) || ltb capacity depth || ltb m tests
-
--- there are no nodes, only the first is in hand, and nothing waits
-abbrev pub is_over : ℕ → W.Group → W.Group → (depth octant : ℕ) → Bool
-is_over m positions current depth octant =
-    leb m 0 && (eqb positions.bits 0 && W.has_child current && eqb (W.first_child octant current) 0 && not (W.has_child (W.rest_of current)) && eqb
-    depth 0)
