@@ -1,5 +1,0 @@
-pub mod Written
-pub mod Few
-pub mod Walks
-pub mod Copies
-pub mod Answers

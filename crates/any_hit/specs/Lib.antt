@@ -1,2 +1,1 @@
 pub mod AnyHit
-pub mod Gather

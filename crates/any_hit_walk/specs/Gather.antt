@@ -10,15 +10,17 @@ use Rattle.walk.specs.Queries.{append}
 use Rattle.walk.specs.WordStep.{WalkerWords}
 use Rattle.walk.specs.WordQueries.{OutcomeWords}
 use Rattle.walk.proofs.WordEnds.{steps_left_words}
-use Rattle.walk_record.specs.WalkRay.{WalkRay, walk_ray, by_boxes}
+use Rattle.gate.specs.Gates.{Gates}
+use Rattle.walk_record.specs.WalkRay.{WalkRay, walk_ray, rays_of}
 use Rattle.walk_record.specs.Record.{node_words_at}
 use Rattle.walk_record.specs.Walk.{any_hit_at}
 use Rattle.advance.specs.declared.Answer.{Answer}
 use Rattle.advance.specs.declared.Answer.TheVariants as A
 use Rattle.advance.specs.Turn.{walker_of}
+use Rattle.query.specs.Ending.{ending}
 use Rattle.query.proofs.Leads.{Leads}
-use Rattle.any_hit.specs.AnyHit.{fitted, list_for}
-use Rattle.any_hit.specs.declared.Gathered.{Gathered}
+use Rattle.any_hit_walk.specs.AnyHit.{fitted, list_for}
+use Rattle.any_hit_walk.specs.declared.Gathered.{Gathered}
 
 -- positions in front of what was there, as many as there is room for
 abbrev pub met_in : List ℕ → List ℕ → List ℕ
@@ -35,15 +37,15 @@ done_by (A.Position p) = Ok false
 done_by A.Done = Ok true
 done_by (A.Refused f) = Err f
 
-module _ (bytes : List ℕ) (n : ℕ) (ray : Ray) where
+module _ (g : Gates) (bytes : List ℕ) (n : ℕ) (ray : Ray) where
   -- how the whole query ends
   abbrev pub any_hit_outcome : OutcomeWords WalkRay (List ℕ)
-  any_hit_outcome = any_hit_at bytes by_boxes n (walk_ray ray)
+  any_hit_outcome = any_hit_at bytes (rays_of g) n (walk_ray ray)
 
   -- so many positions are noted and written, and what is left of the query, run from here, is the whole query's outcome
   pub record Walking (w : WalkerWords WalkRay) (count : ℕ) (before found : List ℕ) : Type 0 where
     pub accumulator : List ℕ
-    pub leads : Leads (node_count bytes) (node_words_at bytes by_boxes) n append any_hit_outcome w accumulator
+    pub leads : Leads (node_count bytes) (node_words_at bytes (rays_of g)) n append (ending any_hit_outcome) w accumulator
     pub counted : count ≡ length accumulator
     pub few : count + steps_left_words (node_count bytes) w ≤ 25 * node_count bytes
     pub met : found ≡ met_in before accumulator

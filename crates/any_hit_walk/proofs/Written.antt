@@ -9,7 +9,7 @@ use lib.ListN.{length, take, drop, set, length-append, length-take}
 use lib.Seq.{take_all, take-append-le, take-append_seam, drop-append-add, drop-drop, set_out}
 use Rattle.lists.specs.Splice.{splice}
 use Rattle.lists.proofs.Splice.{set-splice, written_next, length-splice}
-use Rattle.any_hit.specs.Gather.{met_in}
+use Rattle.any_hit_walk.specs.Gather.{met_in}
 
 module _ (before noted found : List ℕ) (e : found ≡ met_in before noted) where
   -- no more is written than there is room for

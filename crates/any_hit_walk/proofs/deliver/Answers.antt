@@ -1,9 +1,9 @@
 use Rattle.std.proofs.Common.{take, ap, ◌∙◌}
 use Rattle.query.specs.Result.{Result}
-use Rattle.any_hit.specs.AnyHit.{AnyHitAnswer, any_hit_answer, list_for, result_of}
-use Rattle.any_hit.proofs.Answers.{fits, lacks}
-use Rattle.any_hit.proofs.Copies.{copied}
-use Rattle.any_hit.proofs.deliver.Goals as goal
+use Rattle.any_hit_walk.specs.AnyHit.{AnyHitAnswer, any_hit_answer, list_for, result_of}
+use Rattle.any_hit_walk.proofs.Answers.{fits, lacks}
+use Rattle.any_hit_walk.proofs.Copies.{copied}
+use Rattle.any_hit_walk.proofs.deliver.Goals as goal
 
 pub returns-then-short : goal.returns-then-short
 unfolding any_hit_answer result_of list_for

@@ -1,0 +1,2 @@
+pub mod AnyHit
+pub mod Gather
