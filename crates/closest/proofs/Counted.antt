@@ -12,7 +12,7 @@ use Rattle.ray.proofs.Counts.{counts_below, counts_from, counts_between, early_n
 use Rattle.walk.specs.Queries.{Reaction, Found, distance, closest, miss}
 use Rattle.walk_record.specs.WalkRay.{WalkRay, told_walk_ray}
 use Rattle.closest.specs.Panes.{pane_of, nearer}
-use Rattle.closest.proofs.Queries.{closest_at, miss_at}
+use Rattle.pane_walk.proofs.Reactions.{closest_at, miss_at}
 
 -- the start is the ray's own with any reach, so what counts up to a lower reach counts
 counts_lower : (r : Ray) (t u : Float) → lt t r.tmax ≡ true → counts (reaching t r) u ≡ true → counts r u ≡ true

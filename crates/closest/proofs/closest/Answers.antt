@@ -1,10 +1,6 @@
-use Rattle.closest.specs.Panes.{closest_given, closest_answer}
+use Rattle.closest.specs.Panes.{closest_of, closest_walk}
 use Rattle.closest.proofs.closest.Goals as goal
 
-pub returns-in-Ok : goal.returns-in-Ok
-unfolding closest_given
-returns-in-Ok c = c.in-Ok.ensures
-
-pub returns-in-Err : goal.returns-in-Err
-unfolding closest_given closest_answer
-returns-in-Err c = c.in-Err.ensures
+pub returns : goal.returns
+unfolding closest_of closest_walk
+returns c = c.closest.ensures

@@ -1,65 +1,6 @@
-use Rattle.std.proofs.Common.{◌≡◌, List, ℕ, length, refl, ap, ◌∙◌, rules}
-use Rattle.std.specs.Prelude as P
-use Rattle.std.specs.Prelude.{Option, Some}
-use Rattle.causes.specs.Refusal.{cause_number, cause_in}
-use Rattle.causes.proofs.Refusals.{holds_of}
-use Rattle.ray.specs.Ray.{ray_from}
-use Rattle.walk.specs.Queries.{miss}
-use Rattle.walk_record.proofs.Laws.{bytes_fit}
-use Rattle.query.specs.Result.{unanswered}
-use Rattle.closest.specs.Panes.{pane_of, nearer, refused_miss, miss_found, miss_walk, miss_walked, miss_of}
-use Rattle.closest.specs.Panes.{miss_answer, miss_result}
-use Rattle.query.specs.declared.Query.{Query}
-use Rattle.query.specs.Begun.{Begun}
-use Rattle.closest.proofs.Queries.{Reacts}
-use Rattle.closest.proofs.Starts.{Starting, start_refused, start_walked, start_empty}
+use Rattle.closest.specs.Panes.{miss_of, miss_walk}
 use Rattle.closest.proofs.miss.Goals as goal
-use Rattle.closest.proofs.miss.Goals.{After-begin}
 
-module _ (c : After-begin) where
-  -- what is known where the walk begun
-  starting : let a = c.args in
-      Starting a.«record».now a.indices.now a.panes.now a.beam (ray_from a.beam) (cause_in c.begin.result)
-  starting = record { ray_is = refl; cause_is = c.begin.ensures.value }
-
-  -- and of the walk
-  abbrev begun_by : Option Query → Type 0
-  begun_by = Begun c.args.«record».now (length c.args.indices.now) (ray_from c.args.beam)
-
-  begun : (o q : Option Query) → c.begin.result ≡ P.Ok o → o ≡ q → begun_by q
-  begun o q e f = holds_of begun_by c.begin.ensures.walk e f
-
-  -- what it does at a position
-  abbrev react : Reacts
-  react = miss (pane_of c.args.indices.now c.args.panes.now) nearer
-
-pub returns-in_err-query : goal.returns-in_err-query
-unfolding miss_of miss_result miss_walk
-returns-in_err-query c =
-    let k = (goal.at.returns-in_err-query c).After-begin in
-    let f = c.in_err-query.field-0.0 in
-    let own : miss_result c.from_residual.result ≡ unanswered (refused_miss (cause_number f)) = search rules in
-    own ∙ start_refused (starting k) refused_miss miss_found (react k) f (ap cause_in c.in_err-query.was)
-
-pub returns-in-None : goal.returns-in-None
-unfolding miss_of miss_result miss_walk miss_answer miss_found
-returns-in-None c =
-    let k = (goal.at.returns-in-None c).After-begin in
-    let fit = bytes_fit _ (λ j. (c.type_inv.record j).fits) in
-    start_empty (starting k) refused_miss miss_found (react k) (ap cause_in c.in_ok-query.was) (begun k _ _ c.in_ok-query.was c.in-None.is) fit
-
-pub returns-in-Some : goal.returns-in-Some
+pub returns : goal.returns
 unfolding miss_of miss_walk
-returns-in-Some c =
-    let k = (goal.at.returns-in-Some c).After-begin in
-    let I = c.args.indices.now in
-    let P = c.args.panes.now in
-    let e : Begun c.args.«record».now (length I) (ray_from c.args.beam) (Some c.in-Some.query) = begun k _ _ c.in_ok-query.was c.in-Some.is in
-    c.walk_miss.ensures ∙ ap (λ (b : List ℕ). miss_walked b I P c.in-Some.query.aim.ray) e.0
-    ∙ ap (miss_walked c.args.«record».now I P) e.2
-    ∙ start_walked (starting k) refused_miss miss_found (react k) (ap cause_in c.in_ok-query.was)
-
-pub walk_miss-requires : goal.walk_miss-requires
-walk_miss-requires c =
-    let k = (goal.at.walk_miss-requires c).After-begin in
-    (begun k _ _ c.in_ok-query.was c.in-Some.is).1
+returns c = c.miss.ensures

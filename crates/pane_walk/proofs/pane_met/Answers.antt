@@ -1,9 +1,9 @@
 use Rattle.std.proofs.Common.{sym, ap, ◌∙◌}
 use Rattle.std.specs.Float.Ieee.{Float}
 use Rattle.walk.specs.Queries.{distance}
-use Rattle.closest.specs.Panes.{pane_of_met}
-use Rattle.closest.proofs.Panes.{met_nowhere, met_faulty, met_at}
-use Rattle.closest.proofs.pane_met.Goals as goal
+use Rattle.pane_walk.specs.Panes.{pane_of_met}
+use Rattle.pane_walk.proofs.Panes.{met_nowhere, met_faulty, met_at}
+use Rattle.pane_walk.proofs.pane_met.Goals as goal
 
 pub returns-then-k-panes : goal.returns-then-k-panes
 unfolding pane_of_met

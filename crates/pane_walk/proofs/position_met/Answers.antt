@@ -1,7 +1,7 @@
 use Rattle.std.proofs.Common.{sym, ◌∙◌}
-use Rattle.closest.specs.Panes.{pane_of_met}
-use Rattle.closest.proofs.Panes.{position_there, position_past}
-use Rattle.closest.proofs.position_met.Goals as goal
+use Rattle.pane_walk.specs.Panes.{pane_of_met}
+use Rattle.pane_walk.proofs.Panes.{position_there, position_past}
+use Rattle.pane_walk.proofs.position_met.Goals as goal
 
 pub returns-then-p-on : goal.returns-then-p-on
 returns-then-p-on c =

@@ -11,7 +11,7 @@ use Rattle.aabb.specs.declared.Aabb.{Aabb}
 use Rattle.aabb.specs.Aabb.{accepted_box, entry_distance}
 use Rattle.packed.specs.Packed.{box_in}
 use Rattle.walk.specs.Queries.{distance, faulty}
-use Rattle.closest.specs.Panes.{pane_met, position_met}
+use Rattle.pane_walk.specs.Panes.{pane_met, position_met}
 
 module _ (panes : List Float) (k : ℕ) (r : Ray) where
   pub met_nowhere : length panes / 6 ≤ k → faulty 10 ≡ pane_met panes k r

@@ -1,0 +1,67 @@
+use Rattle.std.proofs.Common.{◌≡◌, List, ℕ, length, ap, ◌∙◌, rules}
+use Rattle.std.specs.Prelude as P
+use Rattle.std.specs.Prelude.{Option, Some}
+use Rattle.causes.specs.Refusal.{cause_number, cause_in}
+use Rattle.causes.proofs.Refusals.{holds_of}
+use Rattle.ray.specs.Ray.{ray_from}
+use Rattle.gate.specs.Gates.{Gates}
+use Rattle.walk.specs.Queries.{miss}
+use Rattle.walk_record.proofs.Laws.{bytes_fit}
+use Rattle.query.specs.Result.{unanswered}
+use Rattle.pane_walk.specs.Panes.{pane_of, nearer, refused_miss, miss_found, gated_miss_walked, miss_answer, miss_result}
+use Rattle.query.specs.declared.Query.{Query}
+use Rattle.query.specs.Begun.{Begun}
+use Rattle.pane_walk.proofs.Queries.{Reacts}
+use Rattle.pane_walk.proofs.Starts.{Starting, start_ready, start_refused, start_walked, start_empty}
+use Rattle.pane_walk.proofs.miss.Goals as goal
+use Rattle.pane_walk.proofs.miss.Goals.{After-begin}
+
+module _ (g : _) (c : After-begin g) where
+  abbrev gates : Gates
+  gates = g.G.Gate.gates c.args.gate
+
+  -- what is known where the walk begins
+  starting : let a = c.args in Starting a.«record».now a.on.indices.now a.on.panes.now a.beam (cause_in a.between) (cause_in c.begin.result)
+  starting = record { is = c.begin.ensures.value }
+
+  -- and of the walk
+  abbrev begun_by : Option Query → Type 0
+  begun_by = Begun c.args.«record».now (length c.args.on.indices.now) (ray_from c.args.beam)
+
+  begun : (o q : Option Query) → c.begin.result ≡ P.Ok o → o ≡ q → begun_by q
+  begun o q e f = holds_of begun_by c.begin.ensures.walk e f
+
+  -- what it does at a position
+  abbrev react : Reacts
+  react = miss (pane_of c.args.on.indices.now c.args.on.panes.now) nearer
+
+pub returns-in_err-query : goal.returns-in_err-query
+unfolding miss_result
+returns-in_err-query g c =
+    let k = (goal.at.returns-in_err-query g c).After-begin in
+    let f = c.in_err-query.field-0.0 in
+    let own : miss_result c.from_residual.result ≡ unanswered (refused_miss (cause_number f)) = search rules in
+    own ∙ start_refused (gates g k) (starting g k) refused_miss miss_found (react g k) f (ap cause_in c.in_err-query.was)
+
+pub returns-in-None : goal.returns-in-None
+unfolding miss_result miss_answer miss_found
+returns-in-None g c =
+    let k = (goal.at.returns-in-None g c).After-begin in
+    let fit = bytes_fit _ (λ j. (c.type_inv.record j).fits) in
+    start_empty (gates g k) (starting g k) refused_miss miss_found (react g k) (ap cause_in c.in_ok-query.was) c.requires
+    (begun g k _ _ c.in_ok-query.was c.in-None.is) fit
+
+pub returns-in-Some : goal.returns-in-Some
+returns-in-Some g c =
+    let k = (goal.at.returns-in-Some g c).After-begin in
+    let I = c.args.on.indices.now in
+    let P = c.args.on.panes.now in
+    let e : Begun c.args.«record».now (length I) (ray_from c.args.beam) (Some c.in-Some.query) = begun g k _ _ c.in_ok-query.was c.in-Some.is in
+    c.walk_miss.ensures ∙ ap (λ (b : List ℕ). gated_miss_walked (gates g k) b I P c.in-Some.query.aim.ray) e.0
+    ∙ ap (gated_miss_walked (gates g k) c.args.«record».now I P) e.2
+    ∙ start_walked (gates g k) (starting g k) refused_miss miss_found (react g k) (ap cause_in c.in_ok-query.was)
+
+pub walk_miss-requires-clause-unforged : goal.walk_miss-requires-clause-unforged
+walk_miss-requires-clause-unforged g c =
+    let k = (goal.at.walk_miss-requires-clause-unforged g c).After-begin in
+    start_ready (gates g k) (starting g k) (ap cause_in c.in_ok-query.was) c.requires
