@@ -1,163 +1,87 @@
 -- What refuses a report on entry, by the tests that the code makes in turn, and what holds where nothing does.
 use mathlib.Core.Bool.{Bool, true, false, ◌&&◌}
 use mathlib.Core.List.{List, [], ◌∷◌, ◌++◌}
-use mathlib.Core.Path.{◌≡◌, refl, sym, ap, ◌∙◌}
-use Prim.Native.Nat.{ℕ, zero, suc, ◌%◌, ◌≤◌, ◌<◌}
-use borrow.Author.Tests.{eq-eqb, ne_eqb, le-leb, lt-leb, leb-true, eqb-true}
-use lib.Dec.{leb}
+use mathlib.Core.Path.{◌≡◌, refl, ap, ◌∙◌}
+use Prim.Native.Nat.{ℕ, ◌%◌, ◌≤◌}
+use lib.Dec.{eqb, leb}
 use lib.Ieee.{Float}
 use lib.ListN.{length}
-use Rattle.lists.specs.Below.{all_below}
-use Rattle.causes.specs.Causes.{Condition, ◌unless◌, first_cause, order, place_in, place_of}
-use Rattle.causes.specs.Sizes.{record_conditions, record_cause}
-use Rattle.causes.proofs.Causes.{first_here, first_later, append_first, append_later, Passed, passed_none, passed_parts, none_passed, sorted}
-use Rattle.causes.proofs.Sizes.{Fit, record_passed, record_fit}
+use Rattle.causes.specs.Causes.{Condition, ◌unless◌, first_cause}
+use Rattle.causes.specs.Sizes.{record_conditions}
+use Rattle.causes.proofs.Causes.{given-same, sorted}
+use Rattle.causes.proofs.Sizes.{Fit}
+use Rattle.ray.specs.declared.Ray.{Ray}
 use Rattle.packed.specs.Packed.{ray_count, rays_accepted}
-use Rattle.lists.proofs.Tells.{both_pass}
-use Rattle.walk.proofs.Cases.{and-false}
-use Rattle.loss.specs.Loss.{losses_fit, loss_cause, walks_by, refused_report, Report, report_conditions, walk_conditions, totals_in, report_by}
+use Rattle.gate.specs.Gates.{all_open}
+use Rattle.query.specs.Entry.{entry_cause}
+use Rattle.query.specs.Result.{entered}
+use Rattle.loss_walk.specs.Entry.{own_cause, conditions_between}
+use Rattle.loss_walk.proofs.Causes as C
+use Rattle.loss_walk.specs.Gated.{gated_loss_of, gated_report, gated_report_of}
+use Rattle.loss.specs.Loss.{refused, every_open, losses_fit, loss_cause, loss_walked, loss_of, report_conditions, walk_conditions, report_by}
 use Rattle.loss.specs.Loss.{report_of}
-use Rattle.loss.specs.Charged.{RaysEntered}
 
--- losses of which cause 12 does not hold fit
-pub cause_fits : (panes : ℕ) (losses : List ℕ) → loss_cause panes losses ≡ 0 → losses_fit panes losses ≡ true
-unfolding sorted place_of order place_in
-cause_fits panes losses e = (none_passed 0 (12 unless losses_fit panes losses ∷ []) tt e).0
+-- no other cause of the call's own is looked at
+pub own_alone : (panes : ℕ) (losses : List ℕ) → own_cause panes losses 0 ≡ loss_cause panes losses
+unfolding first_cause sorted
+own_alone panes losses = given-same (12 unless losses_fit panes losses ∷ []) [] [] tt
+
+and_true : (a : Bool) → a && true ≡ a
+and_true true = refl
+and_true false = refl
 
 module _ (bytes indices : List ℕ) (panes : ℕ) (losses : List ℕ) (rays : List Float) (rayRoom paneRoom : ℕ) where
   abbrev cause : ℕ
   cause = first_cause (report_conditions bytes indices panes losses rays rayRoom paneRoom)
 
-  -- behind the record's sizes
-  abbrev own : List Condition
-  own =
-      2 unless leb (ray_count rays) 65536 ∷ 4 unless (leb (ray_count rays) rayRoom && leb panes paneRoom) ∷ 12 unless losses_fit panes losses
-      ∷ 9 unless rays_accepted rays ∷ []
+  -- behind the lengths, up to the losses
+  abbrev from_rays : List Condition
+  from_rays =
+      2 unless leb (ray_count rays) 65536 ∷ 4 unless (leb (ray_count rays) rayRoom && leb panes paneRoom) ∷ 12 unless losses_fit panes losses ∷ []
 
-  pub cause_lengths : (length rays % 8 ≡ 0 → ⊥) → 1 ≡ cause
-  unfolding report_conditions
-  cause_lengths h = sym (first_here _ (ne_eqb (length rays % 8) 0 h))
+  abbrev behind : List Condition
+  behind = record_conditions (length bytes) (length indices) ++ from_rays
 
-  module _ (whole : length rays % 8 ≡ 0) where
-    pub cause_sizes : (record_cause (length bytes) (length indices) ≡ 0 → ⊥) → record_cause (length bytes) (length indices) ≡ cause
-    unfolding report_conditions
-    cause_sizes h =
-        sym (first_later 1 _ (eq-eqb (length rays % 8) 0 whole) ∙ append_first (record_conditions (length bytes) (length indices)) own h)
+  -- no other list counts, and no other cause, whatever is looked at later
+  pub none_between : (later : List Condition)
+      → first_cause (conditions_between true 0 bytes indices panes losses rays rayRoom paneRoom ++ later)
+      ≡ first_cause (report_conditions bytes indices panes losses rays rayRoom paneRoom ++ later)
+  unfolding conditions_between report_conditions record_conditions first_cause sorted
+  none_between later =
+      ap (λ (b : Bool). first_cause (1 unless b ∷ behind ++ 0 unless true ∷ 9 unless rays_accepted rays ∷ later)) (and_true (eqb (length rays % 8) 0))
+      ∙ given-same (1 unless eqb (length rays % 8) 0 ∷ behind) [] (9 unless rays_accepted rays ∷ later) tt
 
-    module _ (fit : Fit (length bytes) (length indices)) where
-      behind : cause ≡ first_cause own
-      unfolding report_conditions
-      behind =
-          first_later 1 _ (eq-eqb (length rays % 8) 0 whole)
-          ∙ append_later (record_conditions (length bytes) (length indices)) own (record_passed (length bytes) (length indices) fit)
-
-      pub cause_rays : 65536 < ray_count rays → 2 ≡ cause
-      cause_rays h = sym (behind ∙ first_here _ (lt-leb (ray_count rays) 65536 h))
-
-      module _ (few : ray_count rays ≤ 65536) where
-        after_rays : cause ≡ first_cause (4 unless (leb (ray_count rays) rayRoom && leb panes paneRoom) ∷ 12 unless losses_fit panes losses
-            ∷ 9 unless rays_accepted rays ∷ [])
-        after_rays = behind ∙ first_later 2 _ (le-leb (ray_count rays) 65536 few)
-
-        pub cause_ray_room : rayRoom < ray_count rays → 4 ≡ cause
-        cause_ray_room h = sym (after_rays ∙ first_here _ (ap (λ (b : Bool). b && leb panes paneRoom) (lt-leb (ray_count rays) rayRoom h)))
-
-        pub cause_pane_room : paneRoom < panes → 4 ≡ cause
-        cause_pane_room h =
-            sym (after_rays
-            ∙ first_here _ (ap (λ (b : Bool). leb (ray_count rays) rayRoom && b) (lt-leb panes paneRoom h)
-            ∙ and-false (leb (ray_count rays) rayRoom)))
-
-        module _ (ray_room : ray_count rays ≤ rayRoom) (pane_room : panes ≤ paneRoom) where
-          after_room : cause ≡ first_cause (12 unless losses_fit panes losses ∷ 9 unless rays_accepted rays ∷ [])
-          after_room =
-              after_rays
-              ∙ first_later 4 _
-              (ap (λ (b : Bool). b && leb panes paneRoom) (le-leb (ray_count rays) rayRoom ray_room) ∙ le-leb panes paneRoom pane_room)
-
-          pub cause_losses : losses_fit panes losses ≡ false → 12 ≡ cause
-          cause_losses h = sym (after_room ∙ first_here _ h)
-
-          pub cause_accepted : losses_fit panes losses ≡ true → rays_accepted rays ≡ false → 9 ≡ cause
-          cause_accepted f h = sym (after_room ∙ first_later 12 _ f ∙ first_here _ h)
-
-          pub cause_none : losses_fit panes losses ≡ true → rays_accepted rays ≡ true → 0 ≡ cause
-          cause_none f h = sym (after_room ∙ passed_none _ (f, (h, tt)))
+  pub entry_alone : first_cause (conditions_between true 0 bytes indices panes losses rays rayRoom paneRoom) ≡ cause
+  unfolding conditions_between report_conditions record_conditions
+  entry_alone = none_between []
 
   -- where nothing refuses it
-  pub record Entering : Type 0 where
-    pub whole : length rays % 8 ≡ 0
-    pub sizes : Fit (length bytes) (length indices)
-    pub fitting : losses_fit panes losses ≡ true
-    pub entered : RaysEntered rays
-    pub ray_room : ray_count rays ≤ rayRoom
-    pub pane_room : panes ≤ paneRoom
-
-  all_passed : cause ≡ 0 → Passed (report_conditions bytes indices panes losses rays rayRoom paneRoom)
-  unfolding report_conditions record_conditions sorted place_of
-  all_passed e = none_passed 0 (report_conditions bytes indices panes losses rays rayRoom paneRoom) tt e
+  abbrev pub Entering : Type 0
+  Entering = C.Entering true 0 bytes indices panes losses rays rayRoom paneRoom
 
   pub none_entering : cause ≡ 0 → Entering
-  unfolding report_conditions
-  none_entering e =
-      let p = all_passed e in
-      let q = passed_parts (record_conditions (length bytes) (length indices)) own p.1 in
-      let r = both_pass (leb (ray_count rays) rayRoom) (leb panes paneRoom) q.1.1.0 in
-      record {
-        whole = eqb-true (length rays % 8) 0 p.0;
-        sizes = record_fit (length bytes) (length indices) q.0;
-        fitting = q.1.1.1.0;
-        entered = record { few = leb-true (ray_count rays) 65536 q.1.0; accepted = q.1.1.1.1.0 };
-        ray_room = leb-true (ray_count rays) rayRoom r.0;
-        pane_room = leb-true panes paneRoom r.1;
-      }
+  none_entering e = C.none_entering true 0 bytes indices panes losses rays rayRoom paneRoom (entry_alone ∙ e)
 
--- ---- the report, by what refuses it
+  -- nothing does
+  pub cause_none : length rays % 8 ≡ 0 → Fit (length bytes) (length indices) → ray_count rays ≤ 65536 → ray_count rays ≤ rayRoom
+      → panes ≤ paneRoom → losses_fit panes losses ≡ true → rays_accepted rays ≡ true → 0 ≡ cause
+  cause_none whole fit few ray_room pane_room fitting accepted =
+      C.cause_none true 0 bytes indices panes losses rays rayRoom paneRoom whole refl fit few ray_room pane_room fitting refl accepted
+      ∙ entry_alone
 
-module _ (bytes indices : List ℕ) (panes : ℕ) (losses : List ℕ) (rays : List Float) (ray_totals pane_totals : List ℕ) where
-  abbrev entry : List Condition
-  entry = report_conditions bytes indices panes losses rays (length ray_totals) (length pane_totals)
+-- ---- the calls, as calls beside gates that are all open, with no causes of their own
 
-  abbrev walks : ℕ → Bool
-  walks = walks_by bytes indices panes losses rays
+pub loss_alone : (bytes indices : List ℕ) (panes : ℕ) (losses : List ℕ) (r : Ray)
+    → gated_loss_of all_open 0 bytes indices panes losses r ≡ loss_of bytes indices panes losses r
+unfolding loss_of loss_walked
+loss_alone bytes indices panes losses r =
+    ap (λ (k : ℕ). entered refused (entry_cause true (length bytes) (length indices) k r) (loss_walked bytes indices panes losses r))
+    (own_alone panes losses)
 
-  -- refused with a number, both slices as they were
-  abbrev refusing : ℕ → Report
-  refusing k = record { answer = refused_report k; ray_totals = ray_totals; pane_totals = pane_totals }
-
-  by_number : (k : ℕ) → (k ≡ 0 → ⊥) → refusing k ≡ report_by bytes indices panes losses rays k ray_totals pane_totals
-  unfolding report_by
-  by_number zero h = absurd (h refl)
-  by_number (suc k) h = refl
-
-  -- on entry
-  pub report_entry : (k : ℕ) → k ≡ first_cause entry → (k ≡ 0 → ⊥) → refusing k ≡ report_of bytes indices panes losses rays ray_totals pane_totals
-  unfolding report_of
-  report_entry k e h =
-      by_number k h
-      ∙ ap (λ (j : ℕ). report_by bytes indices panes losses rays j ray_totals pane_totals)
-      (e ∙ sym (append_first entry (walk_conditions bytes indices panes losses rays) (λ z. h (e ∙ z))))
-
-  module _ (none : first_cause entry ≡ 0) where
-    -- by the walks alone
-    behind_entry : first_cause (entry ++ walk_conditions bytes indices panes losses rays)
-        ≡ first_cause (walk_conditions bytes indices panes losses rays)
-    behind_entry =
-        append_later entry (walk_conditions bytes indices panes losses rays)
-        (all_passed bytes indices panes losses rays (length ray_totals) (length pane_totals) none)
-
-    pub report_fault : (k : ℕ) → k ≡ first_cause (walk_conditions bytes indices panes losses rays) → (k ≡ 0 → ⊥)
-        → refusing k ≡ report_of bytes indices panes losses rays ray_totals pane_totals
-    unfolding report_of
-    report_fault k e h =
-        by_number k h
-        ∙ ap (λ (j : ℕ). report_by bytes indices panes losses rays j ray_totals pane_totals) (e ∙ sym behind_entry)
-
-    pub none_walks : first_cause (walk_conditions bytes indices panes losses rays) ≡ 0 → all_below walks (ray_count rays) ≡ true
-    unfolding walk_conditions sorted place_of
-    none_walks e = (none_passed 0 (walk_conditions bytes indices panes losses rays) tt e).0
-
-    pub report_totals : first_cause (walk_conditions bytes indices panes losses rays) ≡ 0
-        → totals_in bytes indices panes losses rays ray_totals pane_totals ≡ report_of bytes indices panes losses rays ray_totals pane_totals
-    unfolding report_of report_by
-    report_totals e = ap (λ (j : ℕ). report_by bytes indices panes losses rays j ray_totals pane_totals) (sym (behind_entry ∙ e))
+pub report_alone : (bytes indices : List ℕ) (panes : ℕ) (losses : List ℕ) (rays : List Float) (ray_totals pane_totals : List ℕ)
+    → gated_report_of every_open bytes indices panes losses rays true 0 ray_totals pane_totals
+    ≡ report_of bytes indices panes losses rays ray_totals pane_totals
+unfolding report_of gated_report
+report_alone bytes indices panes losses rays ray_totals pane_totals =
+    ap (λ (k : ℕ). report_by bytes indices panes losses rays k ray_totals pane_totals)
+    (none_between bytes indices panes losses rays (length ray_totals) (length pane_totals) (walk_conditions bytes indices panes losses rays))

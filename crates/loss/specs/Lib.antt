@@ -1,2 +1,1 @@
 pub mod Loss
-pub mod Charged

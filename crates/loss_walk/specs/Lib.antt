@@ -1,0 +1,4 @@
+pub mod Losses
+pub mod Entry
+pub mod Gated
+pub mod Charged
