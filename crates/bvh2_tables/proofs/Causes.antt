@@ -41,7 +41,8 @@ structure_range ws n = pick (first_among (leb 5) (structure_conditions ws n) (nu
     pick (inr h) = inr (leb→le 5 (structure_cause ws n) h)
 
 -- ---- the first cause
-prepare_sorted : (ws : List ℕ) (n limit : ℕ) (l : Lengths) → T (sorted 0 (prepare_conditions ws n limit l))
+-- the causes stand in order
+pub prepare_sorted : (ws : List ℕ) (n limit : ℕ) (l : Lengths) → T (sorted 0 (prepare_conditions ws n limit l))
 unfolding prepare_conditions size_conditions structure_conditions sorted
 prepare_sorted ws zero limit l = tt
 prepare_sorted ws (suc n) limit l = tt

@@ -28,15 +28,20 @@ module _ (c : Call) where
     pub list_is : (conversion_of c).list ≡ splice c.list 0 (defined_list c)
 
   -- ---- the cause that an answer tells
-  zero_cause : (k m d : ℕ) → answer_for c k ≡ converted m d → (k ≡ 0) × (m ≡ defined_nodes c) × (d ≡ deepest_level c)
+  pub zero_cause : (k m d : ℕ) → answer_for c k ≡ converted m d → (k ≡ 0) × (m ≡ defined_nodes c) × (d ≡ deepest_level c)
   unfolding answer_for
   zero_cause zero m d e = (refl, (cc), (cc))
   zero_cause (suc k) m d e = let z : ◌≡◌ {A = ℕ} 0 1 = cc in absurd (omega arith)
 
-  some_cause : (k r : ℕ) → answer_for c k ≡ refused r → (k ≡ r) × (0 < r)
+  pub some_cause : (k r : ℕ) → answer_for c k ≡ refused r → (k ≡ r) × (0 < r)
   unfolding answer_for
   some_cause zero r e = let z : ◌≡◌ {A = ℕ} 0 1 = cc in absurd (omega arith)
   some_cause (suc k) r e = let f : suc k ≡ r = cc in (f, omega arith)
+
+  pub cause_refuses : (k r : ℕ) → k ≡ r → 0 < r → answer_for c k ≡ refused r
+  unfolding answer_for
+  cause_refuses k zero e h = absurd (omega arith)
+  cause_refuses k (suc r) e h = ap (answer_for c) e
 
   -- ---- which causes lie behind it
   early_none : conversion_cause c ≡ 0 → first_cause (early c) ≡ 0
@@ -97,31 +102,26 @@ module _ (c : Call) where
 
   -- ---- refused, for the first cause
   pub refused_cause : (k : ℕ) → (conversion_of c).answer ≡ refused k ↔ ((conversion_cause c ≡ k) × (0 < k))
-  unfolding conversion_of outcome_for answer_for
-  refused_cause k = (some_cause (conversion_cause c) k, λ h. from k h.0 h.1)
-    where
-      from : (k : ℕ) → conversion_cause c ≡ k → 0 < k → answer_for c (conversion_cause c) ≡ refused k
-      from zero e h = absurd (omega arith)
-      from (suc k) e h = ap (answer_for c) e
+  unfolding conversion_of outcome_for
+  refused_cause k = (some_cause (conversion_cause c) k, λ h. cause_refuses (conversion_cause c) k h.0 h.1)
 
   -- the slices then: the outputs as they were, the working slices as they were for causes 1 to 4, else cleared
-  pub record Kept (k : ℕ) : Type 0 where
-    pub decisions : (conversion_of c).decisions ≡ work_after 0 (word_of c.limit) c.words (leaf_count c) k c.decisions
-    pub costs : (conversion_of c).costs ≡ work_after plus_zero (cost_of c.limit) c.words (leaf_count c) k c.costs
-    pub bytes_kept : (conversion_of c).bytes ≡ c.bytes
-    pub list_kept : (conversion_of c).list ≡ c.list
+  pub record Kept (o : Outcome) (k : ℕ) : Type 0 where
+    pub decisions : o.decisions ≡ work_after 0 (word_of c.limit) c.words (leaf_count c) k c.decisions
+    pub costs : o.costs ≡ work_after plus_zero (cost_of c.limit) c.words (leaf_count c) k c.costs
+    pub bytes_kept : o.bytes ≡ c.bytes
+    pub list_kept : o.list ≡ c.list
 
-  pub refused_keeps : (k : ℕ) → (conversion_of c).answer ≡ refused k → Kept k
-  unfolding conversion_of outcome_for output_after
-  refused_keeps k e = let h = (refused_cause k).0 e in go k h.0 h.1
-    where
-      go : (k : ℕ) → conversion_cause c ≡ k → 0 < k → Kept k
-      go zero e h = absurd (omega arith)
-      go (suc k) e h =
-          let o = ap (outcome_for c) e in
-          record {
-            decisions = ap (λ (x : Outcome). x.decisions) o;
-            costs = ap (λ (x : Outcome). x.costs) o;
-            bytes_kept = ap (λ (x : Outcome). x.bytes) o;
-            list_kept = ap (λ (x : Outcome). x.list) o;
-          }
+  pub cause_keeps : (o : Outcome) (k : ℕ) → o ≡ outcome_for c k → 0 < k → Kept o k
+  unfolding outcome_for output_after
+  cause_keeps o zero e h = absurd (omega arith)
+  cause_keeps o (suc k) e h = record {
+    decisions = ap (λ (x : Outcome). x.decisions) e;
+    costs = ap (λ (x : Outcome). x.costs) e;
+    bytes_kept = ap (λ (x : Outcome). x.bytes) e;
+    list_kept = ap (λ (x : Outcome). x.list) e;
+  }
+
+  pub refused_keeps : (k : ℕ) → (conversion_of c).answer ≡ refused k → Kept (conversion_of c) k
+  unfolding conversion_of
+  refused_keeps k e = let h = (refused_cause k).0 e in cause_keeps (conversion_of c) k (ap (outcome_for c) h.0) h.1

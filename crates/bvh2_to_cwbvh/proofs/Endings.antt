@@ -73,13 +73,13 @@ unfolding nodes_of level_of record_of output_positions
 nothing ws zero limit ordered z = record { nodes = refl; level = refl; bytes = refl; list = refl }
 nothing ws (suc n) limit ordered z = absurd (omega arith)
 
-record There (ws : List ℕ) (n limit : ℕ) (ordered : Bool) : Type 0 where
-  nodes : nodes_of ws n limit ordered ≡ W.nodes (wide_tree_of ws ordered limit)
-  level : level_of ws n limit ordered ≡ W.level (wide_tree_of ws ordered limit)
-  bytes : record_of ws n limit ordered ≡ record_bytes (wide_tree_of ws ordered limit)
-  list : output_positions ws n limit ordered ≡ W.index_list (wide_tree_of ws ordered limit)
+pub record There (ws : List ℕ) (n limit : ℕ) (ordered : Bool) : Type 0 where
+  pub nodes : nodes_of ws n limit ordered ≡ W.nodes (wide_tree_of ws ordered limit)
+  pub level : level_of ws n limit ordered ≡ W.level (wide_tree_of ws ordered limit)
+  pub bytes : record_of ws n limit ordered ≡ record_bytes (wide_tree_of ws ordered limit)
+  pub list : output_positions ws n limit ordered ≡ W.index_list (wide_tree_of ws ordered limit)
 
-there : (ws : List ℕ) (n limit : ℕ) (ordered : Bool) → 0 < n → There ws n limit ordered
+pub there : (ws : List ℕ) (n limit : ℕ) (ordered : Bool) → 0 < n → There ws n limit ordered
 unfolding nodes_of level_of record_of output_positions
 there ws zero limit ordered h = absurd (omega arith)
 there ws (suc n) limit ordered h = record { nodes = refl; level = refl; bytes = refl; list = refl }

@@ -5,3 +5,4 @@ pub mod Range
 pub mod Bytes
 pub mod ShapeRead
 pub mod Rule
+pub mod Words

@@ -7,7 +7,8 @@ use lib.ListN.{length, get_or}
 use Rattle.words.specs.Ones.{ones_below}
 use Rattle.node.specs.Node.{inner_bit}
 use Rattle.wide_layout.specs.Wide.{Slots, end, empty, leaf, inner}
-use Rattle.wide_layout.specs.Sizes.{own_before, own_at, SmallLeaves}
+use Rattle.wide_layout.specs.Sizes.{own_before, own_at, positions_at, SmallLeaves}
+use Rattle.wide_layout.proofs.Held.{at_length}
 use Rattle.wide_layout.proofs.Sizes.{own_inside, own_most, own_at_most}
 use Rattle.record.specs.Record.{metas, inner_mask}
 use Rattle.wide_layout.specs.Content.{Content, none, leaf_child, inner_child, content_at}
@@ -32,16 +33,19 @@ small_child (leaf b ps s) h (suc k) = small_child s h.2 k
 small_child (inner b t s) h zero = tt
 small_child (inner b t s) h (suc k) = small_child s h.1 k
 
--- how many positions a slot has
-pub own_child : {w : ℕ} (s : Slots w) (k : ℕ) → own_at s k ≡ length (child_positions (content_at s k))
+-- which positions a slot has, and how many
+pub positions_content : {w : ℕ} (s : Slots w) (k : ℕ) → positions_at s k ≡ child_positions (content_at s k)
 unfolding content_at child_positions
-own_child end k = refl
-own_child (empty s) zero = refl
-own_child (empty s) (suc k) = own_child s k
-own_child (leaf b ps s) zero = refl
-own_child (leaf b ps s) (suc k) = own_child s k
-own_child (inner b t s) zero = refl
-own_child (inner b t s) (suc k) = own_child s k
+positions_content end k = refl
+positions_content (empty s) zero = refl
+positions_content (empty s) (suc k) = positions_content s k
+positions_content (leaf b ps s) zero = refl
+positions_content (leaf b ps s) (suc k) = positions_content s k
+positions_content (inner b t s) zero = refl
+positions_content (inner b t s) (suc k) = positions_content s k
+
+pub own_child : {w : ℕ} (s : Slots w) (k : ℕ) → own_at s k ≡ length (child_positions (content_at s k))
+own_child s k = sym (at_length s k) ∙ ap length (positions_content s k)
 
 child_count_lem : (c : Content) (i before : ℕ) → length (child_positions c) ≤ 3 → before < 32 → slot_positions (child_inner c) (child_meta c i before)
     ≡ length (child_positions c)

@@ -6,26 +6,22 @@ use mathlib.Core.Path.{◌≡◌, refl, sym, ap, ap₂, ◌∙◌}
 use Prim.Native.Nat.{ℕ, zero, suc, ◌+◌, ◌≤◌, ◌<◌}
 use native.Mathlib.Omega.{arith}
 use lib.Dec.{eqb}
-use lib.ListN.{length, get_or, take, drop}
+use lib.ListN.{length, get_or}
 use Rattle.std.specs.List.{filter}
-use Rattle.std.proofs.lemmas.List.{get_or-drop, get_or-take}
 use Rattle.lists.specs.Counts.{upto}
 use Rattle.lists.specs.Sums.{sum, sum_over}
 use Rattle.lists.proofs.Sums.{sum_cong, sum-zero, sum-add}
 use Rattle.aabb.specs.declared.Aabb.{Aabb}
 use Rattle.soundness.specs.Sound.{Sound}
 use Rattle.node.specs.Node.{inner_bit}
-use Rattle.wide_layout.specs.Wide.{Slots, end, empty, leaf, inner, Wide}
+use Rattle.wide_layout.specs.Wide.{Slots, Wide}
 use Rattle.wide_layout.specs.Content.{Content, none, leaf_child, inner_child, content_at}
-use Rattle.wide_layout.specs.Sizes.{inner_before, own_before, own_at, positions_at, slots_positions}
+use Rattle.wide_layout.specs.Sizes.{inner_before, slots_positions}
 use Rattle.wide_layout.specs.Layout.{Entry, nodes, index_list, index_count}
-use Rattle.wide_layout.specs.Ranges.{Holding}
-use Rattle.wide_layout.specs.Shape.{layout_entry, EntryInside, ReadsNode, Reads}
+use Rattle.wide_layout.specs.Shape.{layout_entry, Reads}
 use Rattle.wide_layout.specs.Kept.{kept}
-use Rattle.wide_layout.proofs.Sizes.{own_inside}
-use Rattle.wide_layout.proofs.Placed.{some-node, inside}
-use Rattle.wide_layout.proofs.Each.{node_has, node-each, node-number}
-use Rattle.wide_layout.proofs.Held.{holding}
+use Rattle.wide_layout.proofs.Placed.{some-node}
+use Rattle.wide_layout.proofs.Each.{node-each}
 use Rattle.wide_layout.proofs.ChildNodes.{node_child, child_there}
 use Rattle.wide_layout.proofs.Kept.{share, kept_by_slots}
 use Rattle.record.specs.Children.{child_inner, child_positions}
@@ -35,7 +31,7 @@ use Rattle.walk.proofs.Lists.{joined_sum}
 use Rattle.walk.proofs.Gather.{gather_is}
 use Rattle.walk.proofs.Listing.{passed_rises}
 use Rattle.walk.proofs.Slots.{slots_sound}
-use Rattle.record_laws.proofs.Slots.{own_child}
+use Rattle.record_laws.proofs.Words.{count_of, held_word}
 use Rattle.record_walk.proofs.BySlots.{zero_either, slot_passed, children_sum, positions_sum}
 
 -- A test of slots keeps the tree's children: in each node of the layout it passes a slot as `keep` says of the node's box, the child's box and the
@@ -57,16 +53,6 @@ pub record SeesTree {RayData Distance : Type 0} (W : WalkRecord RayData Distance
   pub admitted : (p : ℕ) → p < index_count t → W.admits ray p ≡ own (get_or (index_list t) p 0)
 
 -- ---- what a slot has
-
-positions_content : {w : ℕ} (s : Slots w) (k : ℕ) → positions_at s k ≡ child_positions (content_at s k)
-unfolding content_at child_positions
-positions_content end k = refl
-positions_content (empty s) zero = refl
-positions_content (empty s) (suc k) = positions_content s k
-positions_content (leaf b ps s) zero = refl
-positions_content (leaf b ps s) (suc k) = positions_content s k
-positions_content (inner b t s) zero = refl
-positions_content (inner b t s) (suc k) = positions_content s k
 
 bit_clear : (b : ℕ) (p : Bool) → b ≡ 0 → (eqb b 1 && p) ≡ false
 bit_clear b p e = rw e
@@ -191,35 +177,8 @@ module _ {RayData Distance : Type 0} (W : WalkRecord RayData Distance) (Rule : �
       here false e r = rw e r
 
   module _ (v j : ℕ) (h : v < nodes t) (l : j < 8) where
-    abbrev slots : Slots 8
-    slots = (layout_entry t v).slots
-
-    reads_node : ReadsNode W.shape (layout_entry t v)
-    reads_node = node_has (ReadsNode W.shape) t sees.reads.each v h
-
-    count_of : W.shape.count v j ≡ length (child_positions (content v j))
-    count_of = ap (λ (i : ℕ). W.shape.count i j) (sym (node-number t v h)) ∙ reads_node.count j l ∙ own_child slots j
-
-    -- the leaf range of a slot with positions
-    start_of : 0 < own_at slots j → W.shape.start v j ≡ (layout_entry t v).position_base + own_before slots j
-    start_of p = ap (λ (i : ℕ). W.shape.start i j) (sym (node-number t v h)) ∙ reads_node.start j l p
-
-    -- position i of a leaf child stands in the index list at place i of the slot's leaf range, which is there
-    held_word : (ps : List ℕ) → child_positions (content v j) ≡ ps → (i : ℕ) → i < length ps
-        → (word (W.shape.start v j + i) ≡ get_or ps i 0) × (W.shape.start v j + i < index_count t)
-    held_word ps e i k =
-        let n : own_at slots j ≡ length ps = own_child slots j ∙ ap length e in
-        let a = start_of (omega arith) in
-        let b = (layout_entry t v).position_base + own_before slots j in
-        let g : take (own_at slots j) (drop b (index_list t)) ≡ ps =
-        node_has (Holding (index_list t)) t (holding t) v h j ∙ positions_content slots j ∙ e in
-        let z = node_has (EntryInside (nodes t) (index_count t)) t (inside t) v h in (
-          ap (λ (x : ℕ). word (x + i)) a
-              ∙ sym (get_or-drop b (index_list t) i 0)
-              ∙ sym (get_or-take (own_at slots j) (drop b (index_list t)) i 0 (omega arith))
-              ∙ ap (λ (y : List ℕ). get_or y i 0) g,
-          omega (arith, own_inside slots j, z.positions),
-        )
+    count : W.shape.count v j ≡ length (child_positions (content v j))
+    count = count_of W.shape t sees.reads v j h l
 
     slot_words : (f : ℕ → ℕ) → sum_over (λ p. f (word p)) (slot_passed W ray v j)
         ≡ leaf_share (λ ps. sum_over f (filter own ps)) (box v) (content v j)
@@ -231,14 +190,14 @@ module _ {RayData Distance : Type 0} (W : WalkRecord RayData Distance) (Rule : �
 
         go : (c : Content) → content v j ≡ c
             → sum_over (λ p. f (word p)) (slot_passed W ray v j) ≡ leaf_share (λ ps. sum_over f (filter own ps)) (box v) c
-        go none e = none_there (count_of ∙ ap (λ (c : Content). length (child_positions c)) e)
-        go (inner_child c u) e = none_there (count_of ∙ ap (λ (c : Content). length (child_positions c)) e)
+        go none e = none_there (count ∙ ap (λ (c : Content). length (child_positions c)) e)
+        go (inner_child c u) e = none_there (count ∙ ap (λ (c : Content). length (child_positions c)) e)
         go (leaf_child c ps) e =
             only_where (λ p. f (word p)) (W.passes ray v j) (filter (W.admits ray) (upto (W.shape.start v j) (W.shape.count v j)))
             ∙ ap₂ (λ (b : Bool) (m : ℕ). cond b m 0) (sees.keeps.leaf_kept v j h l c ps e)
             (ap (λ (m : ℕ). sum_over (λ p. f (word p)) (filter (W.admits ray) (upto (W.shape.start v j) m)))
-            (count_of ∙ ap (λ (x : Content). length (child_positions x)) e)
-            ∙ range_words f ps (W.shape.start v j) (λ i k. let r = held_word ps (ap child_positions e) i k in
+            (count ∙ ap (λ (x : Content). length (child_positions x)) e)
+            ∙ range_words f ps (W.shape.start v j) (λ i k. let r = held_word W.shape t sees.reads v j h l ps (ap child_positions e) i k in
             (r.0, sees.admitted (W.shape.start v j + i) r.1)))
 
   -- ---- the whole

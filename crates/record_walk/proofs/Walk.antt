@@ -113,7 +113,7 @@ module _ {RayData Distance : Type 0} (t : Wide) (h : Writable t) (R : Rays RayDa
 -- ---- by boxes
 
 -- a ray keeps children by their boxes on their parents' grids
-keeps_boxes : (t : Wide) (r : Ray) → KeepsChildren t (λ b c ps. box_kept r b c) (layout_passes by_boxes (walk_ray r) t)
+pub keeps_boxes : (t : Wide) (r : Ray) → KeepsChildren t (λ b c ps. box_kept r b c) (layout_passes by_boxes (walk_ray r) t)
 unfolding child_bytes
 keeps_boxes t r = record {
   leaf_kept = λ v j l k c ps e. slot_kept (layout_entry t v) j c (ap (child_bytes (layout_entry t v).box) e) r;
