@@ -18,10 +18,13 @@ pub mod NearLimit
 pub mod MinusZero
 pub mod SoundPanes
 pub mod Panes
-pub mod Summed
+pub mod GatedLoss
+pub mod GatedReport
 pub mod Loss
 pub mod Totalled
 pub mod Report
 pub mod SoundLoss
 pub mod LossCauses
+pub mod GatedRefusals
+pub mod GatedReportRefusals
 pub mod LossRefusals

@@ -18,22 +18,25 @@ use Rattle.causes.proofs.Sizes.{sizes_tell, sizes_pass}
 use Rattle.record_shape.specs.Record.{node_count}
 use Rattle.walk.specs.Queries.{Ended}
 use Rattle.walk.proofs.Lists.{all_in}
-use Rattle.query.specs.Met.{walk_met, panes_met}
+use Rattle.query.specs.Met.{walk_met_by, panes_met}
 use Rattle.query.specs.Result.{Result}
 use Rattle.query.proofs.Entry.{Entered}
 use Rattle.query.proofs.Entry as E
-use Rattle.any_hit.specs.AnyHit.{AnyHitAnswer, listed, lacking, fitted, walk_of}
-use Rattle.any_hit.specs.AnyHit as A
-use Rattle.any_hit.proofs.Answers.{fits, lacks}
-use Rattle.loss.specs.Loss.{is_summed, losses_fit, loss_cause, all_there}
-use Rattle.loss.proofs.Charged.{fit_length, fit_most}
-use Rattle.loss.proofs.Faults.{summed_faultless, fault_kinds, refused_ten}
-use Rattle.loss.proofs.There.{there_tells, missing}
-use Rattle.demands.specs.Loss.{LossCall, met}
+use Rattle.ray.specs.declared.Ray.{Ray}
+use Rattle.gate.specs.Gates.{Gates}
+use Rattle.any_hit_walk.specs.AnyHit.{AnyHitAnswer, listed, lacking, fitted, walk_of, gated_any_hit}
+use Rattle.any_hit_walk.specs.AnyHit as A
+use Rattle.any_hit_walk.proofs.Found.{any_hit_walked, any_hit_fitted}
+use Rattle.any_hit_walk.proofs.Answers.{fits, lacks}
+use Rattle.loss_walk.specs.Losses.{LossAnswer, is_summed, losses_fit, all_there}
+use Rattle.loss_walk.specs.Entry.{own_cause}
+use Rattle.loss_walk.proofs.Causes.{own_none}
+use Rattle.loss_walk.proofs.Charged.{fit_length, fit_most}
+use Rattle.loss_walk.proofs.Faults.{Faultless, summed_faultless, fault_kinds, refused_ten}
+use Rattle.loss_walk.proofs.There.{there_tells, missing}
 use Rattle.demands.specs.LossRefusals.{SizeRefusal, part_of_node, positions_over, nodes_over, LossesRefusal, not-each, loss_over}
-use Rattle.demands.specs.LossRefusals.{WalkRefusal, any_hit_refused, no_pane}
-use Rattle.demands.proofs.Listed.{any_hit_walked, any_hit_fitted}
-use Rattle.demands.proofs.Summed.{loss_entry, walk_loss, NoFault}
+use Rattle.demands.specs.LossRefusals.{WalkRefusedBy, any_hit_refused, no_pane}
+use Rattle.demands.proofs.GatedLoss.{entry, by_walk, met}
 
 -- ---- sizes
 
@@ -78,7 +81,7 @@ module _ (panes : ℕ) (losses : List ℕ) where
       go true e (not-each h) = absurd (h (fit_length panes losses e))
       go true e (loss_over k l h) = absurd (omega (arith, h, fit_most panes losses e k))
 
--- ---- a walk, where nothing refuses its ray on entry
+-- ---- a walk beside any gates, where nothing refuses its ray on entry
 
 -- positions listed, or too many for the list, are no refusal of the walk
 fitted_lists : (count tests room k : ℕ) → (fitted count tests room).answer ≡ A.refused k → ⊥
@@ -94,37 +97,51 @@ fitted_lists count tests room k e = go (dec_lt room count)
         let z : ◌≡◌ {A = ℕ} 0 1 = cc in
         omega arith
 
-module _ (c : LossCall) (entry : loss_entry c ≡ 0) where
-  enters : Entered true (length c.bytes) (length c.indices) (loss_cause c.panes c.losses) c.ray
-  enters = E.entered true (length c.bytes) (length c.indices) (loss_cause c.panes c.losses) c.ray entry
+module _ (g : Gates) (between : ℕ) (bytes indices : List ℕ) (panes : ℕ) (losses : List ℕ) (r : Ray)
+    (free : entry g between bytes indices panes losses r ≡ 0) where
+  enters : Entered true (length bytes) (length indices) (own_cause panes losses between) r
+  enters = E.entered true (length bytes) (length indices) (own_cause panes losses between) r free
 
-  pub fit : sizes_fit (node_count c.bytes) (length c.indices) ≡ true
-  fit = sizes_pass (length c.bytes) (length c.indices) enters.sizes
+  none : between ≡ 0
+  none = (own_none panes losses between enters.none).1
 
-  pub walk_shows : is_summed (walk_loss c).answer ≡ false → WalkRefusal c
+  pub fit : sizes_fit (node_count bytes) (length indices) ≡ true
+  fit = sizes_pass (length bytes) (length indices) enters.sizes
+
+  -- what any-hit beside the same gates answers with so much room
+  abbrev pub asked : ℕ → Result AnyHitAnswer
+  asked = gated_any_hit g bytes (length indices) between r
+
+  abbrev pub Refused : Type 0
+  Refused = WalkRefusedBy indices panes asked (met g between bytes indices panes losses r)
+
+  abbrev gives : Result LossAnswer
+  gives = by_walk g between bytes indices panes losses r
+
+  pub walk_shows : is_summed gives.answer ≡ false → Refused
   unfolding walk_of
-  walk_shows e = go (fault_kinds c.bytes c.indices c.panes c.losses c.ray e)
+  walk_shows e = go (fault_kinds g bytes indices panes losses r e)
     where
-      go : (all_there c.panes (panes_met c.indices (met c)) ≡ false) ⊎ (Ended (walk_met c.bytes (length c.indices) c.ray).ended → ⊥)
-          → WalkRefusal c
-      go (inl h) = let u = missing c.panes c.indices (met c) h in no_pane u.0 u.1 u.2
+      go : (all_there panes (panes_met indices (met g between bytes indices panes losses r)) ≡ false)
+          ⊎ (Ended (walk_met_by g bytes (length indices) r).ended → ⊥) → Refused
+      go (inl h) = let u = missing panes indices (met g between bytes indices panes losses r) h in no_pane u.0 u.1 u.2
       go (inr h) =
           any_hit_refused 0
-          (ap (λ (r : Result AnyHitAnswer). r.answer)
-          (any_hit_walked c.bytes (length c.indices) c.ray enters.sizes enters.accepted 0
-          ∙ refused_ten c.bytes c.indices c.panes c.losses c.ray fit A.refused (λ noted tests. fitted (length noted) tests 0) h))
+          (ap (λ (a : Result AnyHitAnswer). a.answer)
+          (any_hit_walked g bytes (length indices) between r enters.sizes none enters.accepted 0
+          ∙ refused_ten g bytes indices panes losses r fit A.refused (λ noted tests. fitted (length noted) tests 0) h))
 
-  pub walk_fails : WalkRefusal c → is_summed (walk_loss c).answer ≡ false
-  walk_fails q = go (is_summed (walk_loss c).answer) refl q
+  pub walk_fails : Refused → is_summed gives.answer ≡ false
+  walk_fails q = go (is_summed gives.answer) refl q
     where
-      go : (b : Bool) → is_summed (walk_loss c).answer ≡ b → WalkRefusal c → is_summed (walk_loss c).answer ≡ false
+      go : (b : Bool) → is_summed gives.answer ≡ b → Refused → is_summed gives.answer ≡ false
       go false e q = e
-      go true e q = absurd (no (summed_faultless c.bytes c.indices c.panes c.losses c.ray e) q)
+      go true e q = absurd (no (summed_faultless g bytes indices panes losses r e) q)
         where
-          no : NoFault c → WalkRefusal c → ⊥
+          no : Faultless g bytes indices panes losses r → Refused → ⊥
           no f (any_hit_refused room h) =
-              let a = any_hit_fitted c.bytes (length c.indices) c.ray enters.sizes enters.accepted f.ends room in
-              fitted_lists _ _ room 10 (sym (ap (λ (r : Result AnyHitAnswer). r.answer) a) ∙ h)
+              let a = any_hit_fitted g bytes (length indices) between r enters.sizes none enters.accepted f.ends room in
+              fitted_lists _ _ room 10 (sym (ap (λ (x : Result AnyHitAnswer). x.answer) a) ∙ h)
           no f (no_pane p i h) =
-              let named = told (there_tells c.panes c.indices (met c)) f.there in
-              omega (arith, h, all_in (λ j. get_or c.indices j 0 < c.panes) (met c) named p i)
+              let named = told (there_tells panes indices (met g between bytes indices panes losses r)) f.there in
+              omega (arith, h, all_in (λ j. get_or indices j 0 < panes) (met g between bytes indices panes losses r) named p i)

@@ -101,7 +101,7 @@ module _ (c : Call) where
             (room_shows, λ r. of_Tree (structure_conditions c.words n) (structure_shows c.words n)),
       ))
 
-  all_shows : Shows (Refusal c) all
+  pub all_shows : Shows (Refusal c) all
   unfolding conversion_conditions
   all_shows =
       shows_append (Refusal c) (early c) (last c) early_shows
@@ -138,7 +138,7 @@ module _ (c : Call) where
       go zero e = fails_later 8 (early c) (last c) (inl (lt-leb (deepest_level c) 31 (h (prepared c.words n c.limit (lengths_of c) e)), tt))
       go (suc k) e = early_fails 8 (found_fails 8 (early c) (none_after_eight c.words n c.limit (lengths_of c)) (λ z. omega (arith, e, z)))
 
-  fails : (j : ℕ) → Refusal c j → Fails j all
+  pub fails : (j : ℕ) → Refusal c j → Fails j all
   fails j (tree_refused q) = early_fails j (tree_fails j q)
   fails j (limit_over h) = early_fails 3 (limit_fails h)
   fails j (decisions_short h) = early_fails 4 (room_fails (lacking n (lengths_of c) (λ r. omega (arith, h, r.0))))

@@ -19,6 +19,7 @@ use Rattle.walk.specs.WordStep.{NodeWords, decoded, decoded_run}
 use Rattle.walk.specs.WordQueries.{decoded_outcome}
 use Rattle.walk.proofs.Ends.{query_run, any_hit_run_lem}
 use Rattle.walk.proofs.Reports.{run_tests, query_notes, reports_exist, miss_reports_lem, miss_listed_lem}
+use Rattle.gate.specs.Gates.{all_open}
 use Rattle.walk_record.specs.WalkRay.{WalkRay, walk_ray, by_boxes}
 use Rattle.walk_record.specs.Record.{slots_at, node_words_at}
 use Rattle.walk_record.specs.Walk.{run_at, query_at, any_hit_at}
@@ -50,7 +51,7 @@ module _ (bytes : List ℕ) (whole : length bytes % 80 ≡ 0) (are_bytes : (i : 
     unfolding run_at
     run_is =
         ap (decoded_run N) (run_started bytes whole ray accepted.accepted (calls_made bytes n ray react x))
-        ∙ run_on_lists (nodes_at bytes) by_boxes walk_ray_laws (bytes_fit bytes are_bytes) n beam (not_forged accepted)
+        ∙ run_on_lists (nodes_at bytes) by_boxes (walk_ray_laws all_open) (bytes_fit bytes are_bytes) n beam (not_forged accepted)
         (calls_made bytes n ray react x)
 
     answers_are : answers_made bytes n ray react x ≡ (run_ops m T (calls_made bytes n ray react x) (fresh beam)).answers
@@ -58,7 +59,7 @@ module _ (bytes : List ℕ) (whole : length bytes % 80 ≡ 0) (are_bytes : (i : 
 
     outcome_is : decoded_outcome N (query_at bytes by_boxes react x n beam) ≡ query m T react (steps_for m) n (fresh beam) x
     unfolding query_at
-    outcome_is = query_on_lists (nodes_at bytes) by_boxes walk_ray_laws (bytes_fit bytes are_bytes) n beam (not_forged accepted) react x
+    outcome_is = query_on_lists (nodes_at bytes) by_boxes (walk_ray_laws all_open) (bytes_fit bytes are_bytes) n beam (not_forged accepted) react x
 
     -- After the run the walker stands for what the query's walker stands for: its ray with the reach, its tests, and what is in hand and waits.
     pub query_is_run : decoded N (run bytes ray (calls_made bytes n ray react x)).walker

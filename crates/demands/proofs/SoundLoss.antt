@@ -12,26 +12,24 @@ use Rattle.ray.specs.Ray.{accepted_ray}
 use Rattle.packed.specs.Packed.{ray_in, rays_accepted}
 use Rattle.walk.proofs.Lists.{all_map}
 use Rattle.query.specs.Result.{Result}
-use Rattle.query.proofs.Entry.{entry_none}
-use Rattle.loss.specs.Loss.{LossAnswer, is_summed, losses_fit, loss_cause, walks_by}
-use Rattle.loss.proofs.Causes.{cause_none}
-use Rattle.loss.proofs.Faults.{faultless_sums}
-use Rattle.loss.proofs.There.{there_tells}
+use Rattle.loss.specs.Loss.{LossAnswer, losses_fit}
+use Rattle.loss.proofs.Causes.{cause_none, loss_alone}
+use Rattle.loss_walk.proofs.There.{there_tells}
 use Rattle.demands.specs.Call.{Call, Answers, record_at, list_at}
 use Rattle.demands.specs.Walks.{CheckedRecord, AcceptedRay}
-use Rattle.demands.specs.Loss.{LossCall, Loses, met, ReportCall, Reports, rays_of, single, ray_word, UnrefusedOnEntry, Losses, AcceptedRays}
+use Rattle.demands.specs.Loss.{LossCall, Loses, met, ReportCall, Reports, rays_given, single, ray_word, UnrefusedOnEntry, Losses, AcceptedRays}
 use Rattle.demands.specs.Loss.{NotRefused}
 use Rattle.demands.proofs.Rays.{ray_accepted}
 use Rattle.demands.proofs.Runs.{met_exist}
 use Rattle.demands.proofs.SoundWalks.{sizes_fit_lem, any_hit_meets, ends_met}
-use Rattle.demands.proofs.Summed.{NoFault, loss_none, loss_walked_lem, sum_met, sum_most, call_sums}
-use Rattle.demands.proofs.Totalled.{walks}
+use Rattle.gate.specs.Gates.{all_open}
+use Rattle.demands.proofs.GatedLoss.{entry_free, faultless_called, over_met, over_most_lem}
 use Rattle.demands.proofs.Words.{words_rearranged}
 use Rattle.demands.proofs.Panes.{rearranged, list_good}
-use Rattle.demands.proofs.Report.{walks_total, ray_total_lem}
+use Rattle.demands.proofs.Report.{NoFault, faultless_totals, ray_words_few}
 
 -- no cause 12
-losses_fit_lem : {indices : List ℕ} {panes : ℕ} {losses : List ℕ} → Losses indices panes losses → losses_fit panes losses ≡ true
+pub losses_fit_lem : {indices : List ℕ} {panes : ℕ} {losses : List ℕ} → Losses indices panes losses → losses_fit panes losses ≡ true
 unfolding losses_fit
 losses_fit_lem {indices} {panes} {losses} fine =
     tells_true (and_tells (eqb_tells (length losses) panes)
@@ -51,47 +49,44 @@ module _ (c : LossCall) {d : ℕ} (good : CheckedRecord c.bytes (length c.indice
     ends = ends_met good accepted;
   }
 
-  sound_loses : Loses c (sum_met c)
+  -- the losses of all positions met
+  abbrev sum_met : ℕ
+  sum_met = over_met all_open 0 c.bytes c.indices c.panes c.losses c.ray
+
+  sound_loses : Loses c sum_met
   sound_loses =
-      ap (λ (r : Result LossAnswer). r.answer)
-      (loss_walked_lem c
-      (entry_none true (length c.bytes) (length c.indices) (loss_cause c.panes c.losses) c.ray refl (sizes_fit_lem good)
-      (loss_none c.panes c.losses (losses_fit_lem fine)) accepted.accepted)
-      ∙ faultless_sums c.bytes c.indices c.panes c.losses c.ray sound_faultless)
+      sym (ap (λ (r : Result LossAnswer). r.answer) (loss_alone c.bytes c.indices c.panes c.losses c.ray))
+      ∙ faultless_called all_open 0 c.bytes c.indices c.panes c.losses c.ray
+      (entry_free all_open 0 c.bytes c.indices c.panes c.losses c.ray (sizes_fit_lem good) (losses_fit_lem fine) refl accepted.accepted)
+      sound_faultless
 
   -- at most one loss for each position
-  sound_most : sum_met c ≤ length c.indices * 1000000
-  sound_most = omega (arith, sum_most c (losses_fit_lem fine), (any_hit_meets good accepted).most)
+  sound_most : sum_met ≤ length c.indices * 1000000
+  sound_most =
+      omega (
+        arith,
+        over_most_lem all_open 0 c.bytes c.indices c.panes c.losses c.ray (losses_fit_lem fine),
+        (any_hit_meets good accepted).most,
+      )
 
 -- ---- many rays
 
 module _ (c : ReportCall) {d : ℕ} (good : CheckedRecord c.bytes (length c.indices) d) (fine : Losses c.indices c.panes c.losses)
-    (rays : AcceptedRays c.rays) (ray_room : rays_of c ≤ length c.ray_totals) (pane_room : c.panes ≤ length c.pane_totals) where
+    (rays : AcceptedRays c.rays) (ray_room : rays_given c ≤ length c.ray_totals) (pane_room : c.panes ≤ length c.pane_totals) where
   nothing_on_entry : UnrefusedOnEntry c
   unfolding rays_accepted
   nothing_on_entry =
       sym (cause_none c.bytes c.indices c.panes c.losses c.rays (length c.ray_totals) (length c.pane_totals) rays.whole
       (sizes_fit_lem good) rays.few ray_room pane_room (losses_fit_lem fine)
-      (all_pass (λ k. accepted_ray (ray_in c.rays k)) (rays_of c) rays.accepted))
+      (all_pass (λ k. accepted_ray (ray_in c.rays k)) (rays_given c) rays.accepted))
 
-  ray_of_lem : (i : ℕ) → i < rays_of c → AcceptedRay (ray_in c.rays i)
+  ray_of_lem : (i : ℕ) → i < rays_given c → AcceptedRay (ray_in c.rays i)
   ray_of_lem i h = ray_accepted c.rays i (rays.accepted i h)
 
-  no_fault : (i : ℕ) → i < rays_of c → walks c i ≡ true
-  unfolding walks_by is_summed
-  no_fault i h =
-      ap (λ (r : Result LossAnswer). is_summed r.answer)
-      (faultless_sums c.bytes c.indices c.panes c.losses (ray_in c.rays i) (sound_faultless (single c i) good fine (ray_of_lem i h)))
-
-  sound_totals : (tests : ℕ) × Reports c tests × ((i : ℕ) → i < rays_of c → ray_word c i ≤ length c.indices * 1000000)
+  sound_totals : (tests : ℕ) × Reports c tests × ((i : ℕ) → i < rays_given c → ray_word c i ≤ length c.indices * 1000000)
   sound_totals =
-      let t = walks_total c nothing_on_entry (all_pass (walks c) (rays_of c) no_fault) in
-      (t.0, t.1, λ i h. most i h ((ray_total_lem c t.0 t.1).words i h))
-    where
-      most : (i : ℕ) → i < rays_of c → Loses (single c i) (ray_word c i) → ray_word c i ≤ length c.indices * 1000000
-      most i h e =
-          let s = call_sums (single c i) (ray_word c i) e in
-          omega (arith, s.sum, sound_most (single c i) good fine (ray_of_lem i h))
+      let t = faultless_totals c nothing_on_entry (λ i h. sound_faultless (single c i) good fine (ray_of_lem i h)) in
+      (t.0, t.1, ray_words_few c t.0 t.1 (λ i h. (any_hit_meets good (ray_of_lem i h)).most))
 
 -- ---- over every sound record
 

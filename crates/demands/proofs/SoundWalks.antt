@@ -20,6 +20,7 @@ use Rattle.walk.specs.Queries.{Reaction, Ended}
 use Rattle.walk.specs.WordStep.{RunWords, fresh_words}
 use Rattle.walk.specs.WordQueries.{decoded_outcome}
 use Rattle.walk.proofs.AnyHit.{Meets}
+use Rattle.gate.specs.Gates.{all_open}
 use Rattle.walk_record.specs.WalkRay.{WalkRay, walk_ray, by_boxes}
 use Rattle.walk_record.specs.Record.{node_words_at}
 use Rattle.walk_record.specs.Walk.{run_at, query_at, any_hit_at, listing_at, Reached, Passed}
@@ -47,7 +48,7 @@ sizes_fit_lem good = record { whole = good.layout; few = good.positions; small =
 module _ {bytes : List ℕ} {n d : ℕ} {ray : Ray} (good : CheckedRecord bytes n d) (accepted : AcceptedRay ray) where
   pub walk : SoundWalk (nodes_at bytes) by_boxes n (walk_ray ray)
   walk = record {
-    rays = walk_ray_laws;
+    rays = walk_ray_laws all_open;
     fields = bytes_fit bytes good.are_bytes;
     sound = good.sound;
     nodes = good.nodes;

@@ -5,5 +5,6 @@ pub mod Walks
 pub mod Runs
 pub mod Panes
 pub mod MinusZero
+pub mod Sums
 pub mod Loss
 pub mod LossRefusals

@@ -1,18 +1,17 @@
 -- What is claimed of a ray's loss and of a report over many rays (02, [3]).
 use Rattle.std.specs.Prelude.{true, ◌≡◌, ℕ, ◌*◌, ◌%◌, ◌≤◌, ◌<◌, Float, length, get_or}
-use mathlib.Core.List.{List, Perm}
+use mathlib.Core.List.{List}
 use Rattle.lists.specs.Counts.{count}
-use Rattle.lists.specs.Rising.{rising, Rises}
-use Rattle.lists.specs.Sums.{sum, sum_over}
 use Rattle.causes.specs.Causes.{first_cause}
 use Rattle.ray.specs.declared.Ray.{Ray}
 use Rattle.ray.specs.Ray.{accepted_ray}
 use Rattle.packed.specs.Packed.{ray_in, ray_count}
 use Rattle.query.specs.Met.{positions_met, panes_met}
 use Rattle.query.specs.Result.{Result}
-use Rattle.any_hit.specs.AnyHit.{listed, any_hit_of}
-use Rattle.loss.specs.Loss.{LossAnswer, summed, refused, loss_at, loss_of, Report, totalled, report_conditions, report_of}
+use Rattle.any_hit.specs.AnyHit.{any_hit_of}
+use Rattle.loss.specs.Loss.{LossAnswer, summed, loss_at, loss_of, Report, totalled, report_conditions, report_of}
 use Rattle.demands.specs.Walks.{AcceptedRay, list_left}
+use Rattle.demands.specs.Sums.{SumsListed, SumsRising, SumsOwn, FirstRefused, SlicesStay, WritesTotals, ZeroTotals}
 
 -- ---- one ray
 
@@ -54,17 +53,13 @@ module _ (c : LossCall) where
   listed_in before = list_left c.bytes c.ray (length c.indices) before
 
   -- The any-hit call lists the positions met, with the same tests, and the loss is the sum over its list in its order (02, [3]).
-  pub record InWalkOrder (loss : ℕ) (before : List ℕ) : Type 0 where
-    pub any_hit : any_hit_of c.bytes (length c.indices) c.ray (length before)
-        ≡ record { answer = listed (length met); tests = loss_for.tests }
-    pub list : listed_in before ≡ met
-    pub sums : loss ≡ sum_over taken (listed_in before)
+  abbrev pub InWalkOrder : (loss : ℕ) (before : List ℕ) → Type 0
+  InWalkOrder loss before =
+      SumsListed met taken loss loss_for.tests (any_hit_of c.bytes (length c.indices) c.ray (length before)) (listed_in before)
 
   -- The loss is the sum over that list in rising order, which has the same members, each at most the next (02, [3]).
-  pub record InRisingOrder (loss : ℕ) (before : List ℕ) : Type 0 where
-    pub rearranged : Perm (rising (listed_in before)) (listed_in before)
-    pub rises : Rises (rising (listed_in before))
-    pub sums : loss ≡ sum_over taken (rising (listed_in before))
+  abbrev pub InRisingOrder : (loss : ℕ) (before : List ℕ) → Type 0
+  InRisingOrder loss before = SumsRising taken loss (listed_in before)
 
 -- ---- many rays
 
@@ -88,8 +83,8 @@ module _ (c : ReportCall) where
   Reports tests = report_for.answer ≡ totalled tests
 
   -- how many rays the list has
-  abbrev pub rays_of : ℕ
-  rays_of = ray_count c.rays
+  abbrev pub rays_given : ℕ
+  rays_given = ray_count c.rays
 
   -- the call of `loss` for ray i of the list
   abbrev pub single : ℕ → LossCall
@@ -103,9 +98,8 @@ module _ (c : ReportCall) where
   pane_word k = get_or report_for.pane_totals k 0
 
   -- each ray's word is the loss that its own call gives, and the tests are those of all these calls
-  pub record RayTotals (tests : ℕ) : Type 0 where
-    pub words : (i : ℕ) → i < rays_of → Loses (single i) (ray_word i)
-    pub tests_sum : tests ≡ sum (λ i. (loss_for (single i)).tests) rays_of
+  abbrev pub RayTotals : (tests : ℕ) → Type 0
+  RayTotals = SumsOwn rays_given (λ i. loss_for (single i)) report_for
 
   -- no cause of 1, 2, 4, 12 and 9 holds
   abbrev pub UnrefusedOnEntry : Type 0
@@ -113,28 +107,20 @@ module _ (c : ReportCall) where
       first_cause (report_conditions c.bytes c.indices c.panes c.losses c.rays (length c.ray_totals) (length c.pane_totals)) ≡ 0
 
   -- the number of the first ray whose own call is refused, those before it giving sums
-  pub record FirstFault (number : ℕ) : Type 0 where
-    pub ray : ℕ
-    pub there : ray < rays_of
-    pub refuses : (loss_for (single ray)).answer ≡ refused number
-    pub before : (j : ℕ) → j < ray → (loss : ℕ) × Loses (single j) loss
+  abbrev pub FirstFault : (number : ℕ) → Type 0
+  FirstFault = FirstRefused rays_given (λ i. loss_for (single i))
 
   -- both slices as they were
-  pub record LeftAlone : Type 0 where
-    pub rays_left : report_for.ray_totals ≡ c.ray_totals
-    pub panes_left : report_for.pane_totals ≡ c.pane_totals
+  abbrev pub LeftAlone : Type 0
+  LeftAlone = SlicesStay report_for c.ray_totals c.pane_totals
 
   -- both slices as long as they were, and as they were behind a word for each ray and a word for each pane
-  pub record OnlyTotals : Type 0 where
-    pub rays_length : length report_for.ray_totals ≡ length c.ray_totals
-    pub panes_length : length report_for.pane_totals ≡ length c.pane_totals
-    pub behind_rays : (i : ℕ) → rays_of ≤ i → ray_word i ≡ get_or c.ray_totals i 0
-    pub behind_panes : (k : ℕ) → c.panes ≤ k → pane_word k ≡ get_or c.pane_totals k 0
+  abbrev pub OnlyTotals : Type 0
+  OnlyTotals = WritesTotals report_for c.ray_totals c.pane_totals rays_given c.panes
 
   -- every total is 0
-  pub record AllZero : Type 0 where
-    pub rays_zero : (i : ℕ) → i < rays_of → ray_word i ≡ 0
-    pub panes_zero : (k : ℕ) → k < c.panes → pane_word k ≡ 0
+  abbrev pub AllZero : Type 0
+  AllZero = ZeroTotals report_for rays_given c.panes
 
 -- ---- what is not refused
 

@@ -12,6 +12,7 @@ use lib.ListN.{length, get_or, length-append}
 use Rattle.ray.specs.declared.Ray.{Ray}
 use Rattle.record_shape.specs.Record.{node_count}
 use Rattle.aabb.specs.Aabb.{accepted_box, entry_distance}
+use Rattle.gate.specs.Gates.{all_open}
 use Rattle.walk.specs.Step as S
 use Rattle.walk.specs.Queries.{Reaction, steps_for, append, Pane, distance, faulty, Found, none, hit, fault, lower, lower_at, closest, block_at, miss}
 use Rattle.walk.specs.WordStep.{fresh_words}
@@ -63,7 +64,7 @@ walked-fits n o (S.refused k) room t c l = (refl, l)
 abbrev Noted : List ℕ → ℕ → List ℕ → Type 0
 Noted bytes f x = f + length x ≤ steps_for (node_count bytes)
 
-walk-fits : (bytes : List ℕ) (n : ℕ) (b : WalkRay) → node_count bytes ≤ 65535 → (room : ℕ) → AnyHitFits (H.walk_of bytes n b room)
+walk-fits : (bytes : List ℕ) (n : ℕ) (b : WalkRay) → node_count bytes ≤ 65535 → (room : ℕ) → AnyHitFits (H.walk_of all_open bytes n b room)
 unfolding H.walk_of any_hit_at query_at
 walk-fits bytes n b m room =
     let o = any_hit_at bytes by_boxes n b in
@@ -76,7 +77,7 @@ unfolding H.any_hit_of R.entered
 any_hit_fits bytes n r room = go (entry_cause true (length bytes) n 0 r) refl (entry_most true (length bytes) n r)
   where
     go : (c : ℕ) → entry_cause true (length bytes) n 0 r ≡ c → c ≤ 11
-        → AnyHitFits (R.entered H.refused c (H.walk_of bytes n (walk_ray r) room))
+        → AnyHitFits (R.entered H.refused c (H.walk_of all_open bytes n (walk_ray r) room))
     go zero e l = walk-fits bytes n (walk_ray r) (entered true (length bytes) n 0 r e).sizes.small room
     go (suc k) e l = (refl, l)
 

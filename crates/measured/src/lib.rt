@@ -10,6 +10,7 @@ ghost use Rattle.cost.specs.Rows.{fill, RowsReady};
 
 use aabb::Aabb;
 use causes::Refusal;
+use gate::AllOpen;
 use node_slot::Aim;
 use ray::{Ray, Vec3};
 use traverse::{Answer, Walker};
@@ -21,7 +22,7 @@ fn fill_masks(record: &[u8], ray: Ray, octant: u32, m: usize, out: &mut [u32])
     let aim = Aim::new(ray, octant);
     for i in 0..m {
         let node = node::node_ref(record, i);
-        out[i] = node_slot::intersect_ray(node, &aim);
+        out[i] = node_slot::intersect_ray(node, i, &aim, AllOpen);
     }
 }
 

@@ -1,4 +1,5 @@
 pub mod Rearranged
+pub mod Beside
 pub mod Alike
 pub mod Trees
 pub mod Blocked

@@ -46,7 +46,7 @@ use Rattle.ordered_reports.proofs.Trees.{records_alike, nodes_same, levels_same}
 
 module _ (a b : Call) (same : SameTree a b) where
   -- the second call with the first's tree is the second call
-  abbrev second_call : Call
+  abbrev pub second_call : Call
   second_call = record {
     words = a.words;
     indices = a.indices;
@@ -58,7 +58,7 @@ module _ (a b : Call) (same : SameTree a b) where
     list = b.list;
   }
 
-  is_second : second_call ≡ b
+  pub is_second : second_call ≡ b
   is_second = λ i. record {
     words = same.words i;
     indices = same.indices i;
@@ -71,8 +71,19 @@ module _ (a b : Call) (same : SameTree a b) where
   }
 
 -- an accepted tree's words, decoded
-decoded_lem : (c : Call) → Accepted c.words (leaf_count c) → 0 < leaf_count c → Decoded c.words (leaf_count c)
+pub decoded_lem : (c : Call) → Accepted c.words (leaf_count c) → 0 < leaf_count c → Decoded c.words (leaf_count c)
 decoded_lem c h p = (accepted_decoded c.words (leaf_count c) p).0 h
+
+-- what an answered call left has the defined sizes
+pub left_good : (c : Call) (m d : ℕ) → Answers c m d → CheckedRecord (defined_record c) (leaf_count c) d
+left_good c m d h = subst (λ (x : List ℕ). CheckedRecord x (leaf_count c) d) (record_is c m d h) (good_record c m d h)
+
+pub record_length : (c : Call) (m d : ℕ) → Answers c m d → length (record_at c m) ≡ 80 * m
+record_length c m d h =
+    ap length (record_is c m d h) ∙ omega (arith, bytes-length c.words c.limit c.ordered (leaf_count c), (A.answered c m d h).nodes)
+
+pub list_long : (c : Call) (m d : ℕ) → Answers c m d → length (list_at c) ≡ leaf_count c
+list_long c m d h = ap length (list_is c m d h) ∙ list_length c.words c.limit c.ordered c.indices (A.answered c m d h).none.accepted
 
 module _ (a b : Call) (same : SameTree a b) where
   abbrev s : Call
@@ -98,20 +109,20 @@ module _ (a b : Call) (same : SameTree a b) where
   -- ---- the answer
 
   -- causes 1 to 7, and the last
-  abbrev early : Call → List Condition
+  abbrev pub early : Call → List Condition
   early c = prepare_conditions c.words (leaf_count c) c.limit (lengths_of c)
 
   abbrev deep : Call → List Condition
   deep c = 8 unless leb (deepest_level c) 31 ∷ []
 
   module _ (room : SameRoom a b) where
-    early_same : early a ≡ early s
+    pub early_same : early a ≡ early s
     unfolding prepare_conditions
     early_same =
         ap (λ (fit : Bool). size_conditions (length a.words) (leaf_count a) ++ 3 unless leb a.limit 3 ∷ 4 unless fit
         ∷ structure_conditions a.words (leaf_count a)) (room ∙ ap (λ (c : Call). slices_fit (leaf_count c) (lengths_of c)) (sym (is_second a b same)))
 
-    cause_same : conversion_cause a ≡ conversion_cause s
+    pub cause_same : conversion_cause a ≡ conversion_cause s
     unfolding conversion_conditions
     cause_same =
         behind_same (early a) (deep a) (deep s)
@@ -134,19 +145,8 @@ module _ (a b : Call) (same : SameTree a b) where
 
   -- ---- walks over the records
 
-  -- what an answered call left has the defined sizes
-  left_good : (c : Call) (m d : ℕ) → Answers c m d → CheckedRecord (defined_record c) (leaf_count c) d
-  left_good c m d h = subst (λ (x : List ℕ). CheckedRecord x (leaf_count c) d) (record_is c m d h) (good_record c m d h)
-
-  record_length : (c : Call) (m d : ℕ) → Answers c m d → length (record_at c m) ≡ 80 * m
-  record_length c m d h =
-      ap length (record_is c m d h) ∙ omega (arith, bytes-length c.words c.limit c.ordered (leaf_count c), (A.answered c m d h).nodes)
-
-  list_long : (c : Call) (m d : ℕ) → Answers c m d → length (list_at c) ≡ leaf_count c
-  list_long c m d h = ap length (list_is c m d h) ∙ list_length c.words c.limit c.ordered c.indices (A.answered c m d h).none.accepted
-
   module _ (m d : ℕ) (answers : Answers a m d) (others : Answers s m d) where
-    sized : SizedAlike (leaf_count a) (record_at a m) (list_at a) (record_at s m) (list_at s)
+    pub sized : SizedAlike (leaf_count a) (record_at a m) (list_at a) (record_at s m) (list_at s)
     sized = record {
       fit = sizes_fit_lem (good_record a m d answers);
       same_length = record_length a m d answers ∙ sym (record_length s m d others);
@@ -204,7 +204,7 @@ module _ (a b : Call) (same : SameTree a b) (m d : ℕ) (answers : Answers a m d
       panes_rearranged : Perm (panes_met (list_at a) (positions_met (record_at a m) (length (list_at a)) ray))
           (panes_met (list_at b) (positions_met (record_at b m) (length (list_at b)) ray))
       panes_rearranged =
-          rw (list_long a b same a m d answers, list_long a b same b m d others) ordering_same_panes.rearranged
+          rw (list_long a m d answers, list_long b m d others) ordering_same_panes.rearranged
 
     -- over panes without a fault miss answers the same,
     pub ordering_same_miss : SameMiss m a b ray

@@ -5,13 +5,9 @@ use mathlib.Core.Logic.{∥∥₁_elim}
 use mathlib.Core.Path.{◌≡◌, refl, sym, ap, ap₂, ◌∙◌}
 use native.Mathlib.Nat.{ℕ_set}
 use native.Mathlib.Omega.{arith}
-use Prim.Native.Nat.{ℕ, zero, suc, ◌+◌, ◌<◌}
+use Prim.Native.Nat.{ℕ, zero, suc, ◌+◌}
 use lib.Dec.{ltb}
-use lib.Seq.{ext_get_or}
-use Rattle.lists.specs.Below.{all_below}
 use Rattle.lists.specs.Sums.{sum_over}
-use Rattle.lists.specs.Values.{values}
-use Rattle.lists.proofs.Values.{values_length, values_at}
 use Rattle.causes.specs.Causes.{Condition, first_cause}
 use Rattle.causes.proofs.Causes.{append_first}
 use Rattle.loss.specs.Loss.{all_there}
@@ -50,18 +46,6 @@ module _ (panes : ℕ) where
 
 -- ---- one by one
 
--- A function's first values are those of another that has the same.
-pub values_same : (f g : ℕ → ℕ) (k : ℕ) → ((i : ℕ) → i < k → f i ≡ g i) → values f k ≡ values g k
-values_same f g k h =
-    ext_get_or 0 (values f k) (values g k) (values_length f k ∙ sym (values_length g k))
-    (λ i l. let m : i < k = omega (arith, l, values_length f k) in values_at f k i 0 m ∙ h i m ∙ sym (values_at g k i 0 m))
-
--- Two tests that agree at every number below a bound agree on all together.
-pub all_same : (f g : ℕ → Bool) (k : ℕ) → ((i : ℕ) → i < k → f i ≡ g i) → all_below f k ≡ all_below g k
-unfolding all_below
-all_same f g zero h = refl
-all_same f g (suc k) h = ap₂ ◌&&◌ (all_same f g k (λ i l. h i (omega arith))) (h k (omega arith))
-
 -- Of two lists of conditions one behind the other, the later one counts only where the first has no cause.
 pub behind_same : (l m o : List Condition) → (first_cause l ≡ 0 → m ≡ o) → first_cause (l ++ m) ≡ first_cause (l ++ o)
 behind_same l m o h = go (first_cause l) refl
@@ -69,3 +53,11 @@ behind_same l m o h = go (first_cause l) refl
     go : (k : ℕ) → first_cause l ≡ k → first_cause (l ++ m) ≡ first_cause (l ++ o)
     go zero e = ap (λ (x : List Condition). first_cause (l ++ x)) (h e)
     go (suc k) e = append_first l m (λ z. omega (arith, e, z)) ∙ sym (append_first l o (λ z. omega (arith, e, z)))
+
+-- Where both together have no cause the first has none.
+pub front_none : (l m : List Condition) → first_cause (l ++ m) ≡ 0 → first_cause l ≡ 0
+front_none l m e = go (first_cause l) refl
+  where
+    go : (k : ℕ) → first_cause l ≡ k → first_cause l ≡ 0
+    go zero z = z
+    go (suc k) z = absurd (omega (arith, z, e, append_first l m (λ y. omega (arith, y, z))))

@@ -1,6 +1,7 @@
 // The stored cases of a record node: its metas decoded, the node rule, hit masks, and what its slots hold.
 ghost use Rattle.std.specs.Prelude.{◌*◌, ◌+◌, ◌<◌, ◌≤◌, length};
 
+use gate::AllOpen;
 use node::NodeRef;
 use node_slot::Aim;
 use ray::Ray;
@@ -49,7 +50,7 @@ fn masks(case: &[u8]) -> bool {
     }
     let node = node::node_ref(case, 0);
     let aim = Aim::new(Ray::new(beam(case, 20)), octant);
-    node_slot::intersect_ray(node, &aim) == word(case, 29)
+    node_slot::intersect_ray(node, 0, &aim, AllOpen) == word(case, 29)
 }
 
 // The number of the node in a slot, for a ray of octant 0; none where its meta's low five bits are below 24.
