@@ -1,0 +1,3 @@
+pub mod SideTable
+pub mod Narrowest
+pub mod Laid
