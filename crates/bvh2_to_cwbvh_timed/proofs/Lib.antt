@@ -1,0 +1,9 @@
+pub mod InOrder
+pub mod Sizes
+pub mod OneTree
+pub mod Entry
+pub mod Refused
+pub mod Cause
+pub mod Written
+pub mod Endings
+pub mod Answers

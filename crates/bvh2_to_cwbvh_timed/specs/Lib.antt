@@ -1,0 +1,2 @@
+pub mod TimedConversion
+pub mod Answer

@@ -1,0 +1,5 @@
+pub mod Spans
+pub mod Refusals
+pub mod SideTable
+pub mod Left
+pub mod ConvertedDay

@@ -1,0 +1,2 @@
+pub mod TimedRefusals
+pub mod TimedCall
