@@ -1,0 +1,6 @@
+pub mod Spans
+pub mod Trees
+pub mod Answered
+pub mod Ordering
+pub mod Queries
+pub mod Lists
