@@ -8,7 +8,7 @@ use crate::odd::{self, forged, ladder, negative_zeros, odd_walker};
 use crate::queries::{aimed, odd_ray, queried_tree, target_box};
 use crate::query;
 use crate::rng::Rng;
-use crate::run::{Ground, Run, held_ray_words};
+use crate::run::{Calls, Ground, Run, held_ray_words};
 use crate::scene::through_t;
 use crate::store::*;
 use crate::tree::{Tree, sample_tree};
@@ -18,7 +18,7 @@ use crate::zeros::{Share, entered};
 use obvhs::ray::Ray;
 
 /// A distance to tell a walker with this tmin: it lowers tmax, or does nothing.
-fn distance(rng: &mut Rng, tmin: f32) -> f32 {
+pub fn distance(rng: &mut Rng, tmin: f32) -> f32 {
     match rng.below(8) {
         0 => f32::NAN,
         1 => corner(rng),

@@ -13,6 +13,7 @@ use crate::ordering::Orders;
 use crate::queries::{aimed, scene};
 use crate::record::{Verdict, check};
 use crate::rng::Rng;
+use crate::timed_compare::AtQuarters;
 use crate::tree::Tree;
 use crate::zeros::Share;
 use obvhs::ray::Ray;
@@ -95,6 +96,11 @@ struct Joins {
 }
 
 impl Joins {
+    /// Nothing compared as yet.
+    fn new(seed: u64) -> Joins {
+        Joins { rng: Rng::new(seed), seen: Seen::default(), refused: 0 }
+    }
+
     /// Two trees joined, at times of some hundred leaves; a call with one cause of refusal, and one with two.
     fn compare(&mut self, k: usize) {
         let rng = &mut self.rng;
@@ -160,10 +166,9 @@ impl Damaged {
 
 pub fn run(seed: u64, trees: usize) -> bool {
     let rng = &mut Rng::new(seed);
-    let (mut converted, mut deep, mut seated, mut rays) = (0, 0, 0, Rays::new(seed));
-    let mut joins = Joins { rng: Rng::new(seed), seen: Seen::default(), refused: 0 };
-    let mut orders = Orders::new(seed);
-    let (mut sound, mut damaged) = (0, Damaged::default());
+    let (mut converted, mut deep, mut seated) = (0, 0, 0);
+    let (mut rays, mut damaged) = (Rays::new(seed), Damaged::default());
+    let (mut joins, mut orders, mut at_quarters) = (Joins::new(seed), Orders::new(seed), AtQuarters::new(seed));
     for k in 0..trees {
         joins.compare(k);
         let t = if k % 50 == 0 { large_tree(rng, k) } else { some_tree(rng, k) };
@@ -182,18 +187,19 @@ pub fn run(seed: u64, trees: usize) -> bool {
             Verdict::Sound(level) => assert!(level == c.deepest && validated(&c.record, n) == Some(level)),
             _ => panic!("a converted record is not sound"),
         }
-        sound += 1;
         damaged.compare(rng, &c.record, n);
         if t.indices.iter().any(|&x| x as usize >= n) {
             continue;
         }
         rays.compare(rng, &t, &c);
+        at_quarters.compare(&t, &c);
     }
-    println!("trees converted: {converted} (and {deep} with a level over 31); sound by both: {sound}");
+    println!("trees converted: {converted} (and {deep} with a level over 31); sound by both: {converted}");
     println!("children seated: {seated}, in the published order and by one search fewer for each node");
     damaged.print();
     rays.print();
     joins.print();
     orders.print();
+    at_quarters.print();
     damaged.stricter == 0
 }

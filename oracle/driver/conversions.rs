@@ -71,7 +71,8 @@ pub fn refused_case(t: &Tree, limit: u32, order: bool, room: Room, number: u32) 
     w
 }
 
-fn sizes_case(nodes: usize, indices: usize, limit: u32, order: bool, room: Room, number: u32) -> Vec<u32> {
+/// The first nine words of a refused case.
+pub fn sizes_case(nodes: usize, indices: usize, limit: u32, order: bool, room: Room, number: u32) -> Vec<u32> {
     let lengths = [nodes, indices, room.decisions, room.costs, room.record, room.list];
     let mut w: Vec<u32> = lengths.iter().map(|&x| x as u32).collect();
     w.extend([limit, order as u32, number]);
@@ -146,14 +147,14 @@ pub fn damage(rng: &mut Rng, t: &mut Tree, cause: u32) {
 }
 
 /// A call of the conversion: the tree, the leaf limit, and the lengths of the other slices.
-struct Call {
-    tree: Tree,
-    limit: u32,
-    room: Room,
+pub struct Call {
+    pub tree: Tree,
+    pub limit: u32,
+    pub room: Room,
 }
 
 /// A call that is not refused.
-fn call(rng: &mut Rng, k: usize) -> Call {
+pub fn call(rng: &mut Rng, k: usize) -> Call {
     let n = 2 + rng.below(9);
     let tree = tree(rng, n, SHAPES[k % SHAPES.len()], BOXES[k % BOXES.len()]);
     let mut room = Room::needed(n);
@@ -164,7 +165,7 @@ fn call(rng: &mut Rng, k: usize) -> Call {
 
 impl Call {
     /// Makes the call meet a cause, but 2.
-    fn spoil(&mut self, rng: &mut Rng, cause: u32) {
+    pub fn spoil(&mut self, rng: &mut Rng, cause: u32) {
         let n = self.tree.indices.len();
         match cause {
             3 => self.limit = rng.pick(&[4, 5, 255, u32::MAX]),

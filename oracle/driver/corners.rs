@@ -8,10 +8,10 @@ use crate::store::*;
 use crate::tree::{BOUND, Tree, inner, leaf, sample_tree};
 
 /// The most record bytes that `replay_conversion` can lend beside a tree of zero words.
-const RECORD_BYTES: u32 = 12288;
+pub const RECORD_BYTES: u32 = 12288;
 
 /// Every leaf limit with every order.
-const SETTINGS: [(u32, bool); 8] =
+pub const SETTINGS: [(u32, bool); 8] =
     [(0, false), (0, true), (1, false), (1, true), (2, false), (2, true), (3, false), (3, true)];
 
 /// The next float above the bound.

@@ -87,7 +87,7 @@ fn hidden_panes() {
     let panes = query::panes_of(&s.panes);
     let r = through_t(0.5, 0.0);
     let mut hit = RayHit::none();
-    bvh.ray_traverse(r, &mut hit, |r, id| panes[bvh.primitive_indices[id] as usize].intersect_ray(r));
+    bvh.ray_traverse(r, &mut hit, |r, id| panes[bvh.primitive_indices[id] as usize].unwrap().intersect_ray(r));
     let found = s.agreed(&r).closest.found;
     println!(
         "T, from (0.5, 0.5, 0.5) along x, tmin 0: published {} at {:?}, with panes below tmin hidden {} at {:?}",

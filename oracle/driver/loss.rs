@@ -1,14 +1,14 @@
 //! A ray's loss and the report of many rays: what they are asked of, and their answers by the rules and by the published any-hit.
 //! The Rust has no sums: its positions are added up in three ways, which must come to the same.
-use crate::accept::{MOST_LEAVES, MOST_NODES, accepted_ray};
+use crate::accept::accepted_ray;
 use crate::convert::bvh_of;
 use crate::query;
 use crate::rng::Rng;
 use crate::scene::ray_words;
 use crate::store::words_of;
-use crate::walker::{Step, Walker};
+use crate::walk::{self, Answer, Walking};
+use crate::walker::size_cause;
 use glam::Vec3A;
-use obvhs::cwbvh::CwBvh;
 use obvhs::ray::Ray;
 
 pub const MOST_RAYS: usize = 65536;
@@ -36,6 +36,14 @@ pub struct RayLoss {
     pub refusal: u32,
     pub sum: u64,
     pub tests: u32,
+}
+
+impl RayLoss {
+    /// Its number, its sum in two words, and its tests.
+    pub fn words(&self) -> [u32; 4] {
+        let [low, high] = two_words(self.sum);
+        [self.refusal, low, high, self.tests]
+    }
 }
 
 /// A report's answer: its refusal, the tests of all rays, and the totals.
@@ -102,69 +110,59 @@ impl Call {
         self.losses.len() == self.panes && self.losses.iter().all(|&loss| loss <= MOST_LOSS)
     }
 
-    /// Cause 2 of the record and the index words.
-    fn large(&self) -> bool {
-        self.list.len() > MOST_LEAVES || self.record.len() / 80 > MOST_NODES
+    /// The first of causes 1, 2 and 12 of the single call, or 0.
+    pub fn loss_lists(&self) -> u32 {
+        match size_cause(&self.record, self.list.len()) {
+            0 if !self.losses_accepted() => 12,
+            number => number,
+        }
     }
 
-    /// The first of causes 1, 2, 12 and 9 of the single call, or 0.
-    fn loss_cause(&self, ray: &Ray) -> u32 {
-        if self.record.len() % 80 != 0 {
-            return 1;
-        }
-        if self.large() {
-            return 2;
-        }
-        if !self.losses_accepted() {
-            return 12;
-        }
-        if accepted_ray(ray) { 0 } else { 9 }
-    }
-
-    /// The first of causes 1, 2, 4, 12 and 9 of a report, or 0.
-    fn report_cause(&self) -> u32 {
+    /// The first of causes 1, 2, 4 and 12 of a report, or 0.
+    pub fn report_lists(&self) -> u32 {
         if self.record.len() % 80 != 0 || self.rays.len() % 8 != 0 {
             return 1;
         }
-        if self.large() || self.count() > MOST_RAYS {
+        if size_cause(&self.record, self.list.len()) == 2 || self.count() > MOST_RAYS {
             return 2;
         }
         if self.ray_room < self.count() || self.pane_room < self.panes {
             return 4;
         }
-        if !self.losses_accepted() {
-            return 12;
-        }
+        if self.losses_accepted() { 0 } else { 12 }
+    }
+
+    /// Cause 9 of one of the rays, or 0.
+    pub fn ray_cause(&self) -> u32 {
         if self.ray_list().iter().all(accepted_ray) { 0 } else { 9 }
     }
 
     /// A walk's tests, with each met position's pane noted; or 10, by the walk or by an index word that names no pane.
-    fn walked(&self, ray: &Ray, mut met: impl FnMut(usize)) -> Result<u32, u32> {
-        let mut w = Walker::fresh(ray);
-        loop {
-            match w.step(&self.record, self.list.len()) {
-                Step::Tested => {}
-                Step::Reported(p) => match self.list[p as usize] as usize {
-                    pane if pane < self.panes => met(pane),
-                    _ => return Err(10),
-                },
-                Step::Done => return Ok(w.tests),
-                Step::Refused(number) => return Err(number),
+    fn walked(&self, walk: impl Walking, mut met: impl FnMut(usize)) -> Result<u32, u32> {
+        walk::reports(walk, |p| match self.list[p as usize] as usize {
+            pane if pane < self.panes => {
+                met(pane);
+                Ok(())
             }
+            _ => Err(10),
+        })
+    }
+
+    /// What a ray loses by its walk.
+    pub fn lost(&self, walk: impl Walking) -> RayLoss {
+        let mut sum = 0;
+        match self.walked(walk, |pane| sum += self.losses[pane] as u64) {
+            Ok(tests) => RayLoss { refusal: 0, sum, tests },
+            Err(refusal) => RayLoss { refusal, ..Default::default() },
         }
     }
 
     /// The single call by the rules.
     pub fn loss(&self, ray: &Ray) -> RayLoss {
-        let refused = |refusal: u32| RayLoss { refusal, ..Default::default() };
-        match self.loss_cause(ray) {
-            0 => {}
-            number => return refused(number),
-        }
-        let mut sum = 0;
-        match self.walked(ray, |pane| sum += self.losses[pane] as u64) {
-            Ok(tests) => RayLoss { refusal: 0, sum, tests },
-            Err(number) => refused(number),
+        match self.loss_lists() {
+            0 if !accepted_ray(ray) => RayLoss { refusal: 9, ..Default::default() },
+            0 => self.lost(walk::begun(&self.record, self.list.len(), ray)),
+            refusal => RayLoss { refusal, ..Default::default() },
         }
     }
 
@@ -173,33 +171,39 @@ impl Call {
         self.ray_list().iter().map(|r| self.loss(r)).collect()
     }
 
-    /// A report by the rules.
-    pub fn report(&self) -> Report {
-        let refused = |refusal: u32| Report { refusal, ..Default::default() };
-        match self.report_cause() {
-            0 => {}
-            number => return refused(number),
-        }
+    /// A report by the walks of its rays.
+    pub fn reported<W: Walking>(&self, walk: impl Fn(usize) -> W) -> Report {
         let mut all = Report { panes: vec![0; self.panes], ..Default::default() };
-        for ray in self.ray_list() {
+        for k in 0..self.count() {
             let mut sum = 0;
-            let walked = self.walked(&ray, |pane| {
+            let walked = self.walked(walk(k), |pane| {
                 sum += self.losses[pane] as u64;
                 all.panes[pane] += self.losses[pane] as u64;
             });
             match walked {
                 Ok(tests) => all.tests += tests as u64,
-                Err(number) => return refused(number),
+                Err(refusal) => return Report { refusal, ..Default::default() },
             }
             all.rays.push(sum);
         }
         all
     }
 
-    /// A ray's loss over the positions that the published any-hit lists, and how often it meets each pane: the losses are added in
-    /// walk order, in rising order of the positions, and pane by pane.
-    fn published_loss(&self, bvh: &CwBvh, ray: &Ray) -> (RayLoss, Vec<u64>) {
-        let any = query::any_hit(bvh, *ray);
+    /// A report by the rules.
+    pub fn report(&self) -> Report {
+        match self.report_lists() {
+            0 => {}
+            refusal => return Report { refusal, ..Default::default() },
+        }
+        match self.ray_cause() {
+            0 => self.reported(|k| walk::begun(&self.record, self.list.len(), &self.ray(k))),
+            refusal => Report { refusal, ..Default::default() },
+        }
+    }
+
+    /// A ray's loss over the positions that any-hit lists, and how often it meets each pane: the losses are added in walk order, in
+    /// rising order of the positions, and pane by pane.
+    fn added_up(&self, any: Answer) -> (RayLoss, Vec<u64>) {
         let pane = |p: &u32| self.list[*p as usize] as usize;
         let added = |positions: &[u32]| positions.iter().map(|p| self.losses[pane(p)] as u64).sum::<u64>();
         let mut rising = any.found.clone();
@@ -217,12 +221,11 @@ impl Call {
         met.iter().zip(&self.losses).map(|(&often, &loss)| often * loss as u64).collect()
     }
 
-    /// A report over the published any-hit's positions, with the single losses; both totals add up to the same.
-    fn published(&self) -> (Report, Vec<RayLoss>) {
-        let bvh = bvh_of(&self.record, &self.list);
+    /// A report over any-hit's answers, with the single losses; both totals add up to the same.
+    pub fn totalled(&self, any: impl Fn(usize) -> Answer) -> (Report, Vec<RayLoss>) {
         let (mut singles, mut often) = (vec![], vec![0; self.panes]);
-        for ray in self.ray_list() {
-            let (single, met) = self.published_loss(&bvh, &ray);
+        for k in 0..self.count() {
+            let (single, met) = self.added_up(any(k));
             singles.push(single);
             often.iter_mut().zip(met).for_each(|(all, m)| *all += m);
         }
@@ -232,9 +235,10 @@ impl Call {
         (Report { refusal: 0, tests, rays, panes }, singles)
     }
 
-    /// The report that nothing refuses: by the published code it must be the rules' one, and so must each single loss.
+    /// The report that nothing refuses: by the published any-hit it must be the rules' one, and so must each single loss.
     pub fn agreed(&self) -> Report {
-        let (report, singles) = self.published();
+        let bvh = bvh_of(&self.record, &self.list);
+        let (report, singles) = self.totalled(|k| query::any_hit(&bvh, self.ray(k)));
         assert_eq!(report, self.report());
         assert_eq!(singles, self.singles());
         report
@@ -256,11 +260,7 @@ impl Call {
         w.extend(words_of(&self.record));
         [&self.list, &self.losses, &self.rays].iter().for_each(|words| w.extend(*words));
         r.rays.iter().chain(&r.panes).for_each(|&total| w.extend(two_words(total)));
-        for s in self.singles() {
-            w.push(s.refusal);
-            w.extend(two_words(s.sum));
-            w.push(s.tests);
-        }
+        self.singles().iter().for_each(|s| w.extend(s.words()));
         w
     }
 }

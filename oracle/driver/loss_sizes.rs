@@ -82,9 +82,7 @@ impl Alike {
         w.extend(ray_words(&self.ray));
         w.push(r.refusal);
         [r.tests, ray, pane].iter().for_each(|&x| w.extend(two_words(x)));
-        w.push(single.refusal);
-        w.extend(two_words(single.sum));
-        w.push(single.tests);
+        w.extend(single.words());
         w.extend(words_of(&self.node));
         w
     }

@@ -42,12 +42,12 @@ pub fn refused_samples() -> [(Call, u32); 3] {
 }
 
 /// A ray that passes T by.
-fn past_t() -> Ray {
+pub fn past_t() -> Ray {
     endless([-1.0, 9.0, 9.0], [1.0, 0.0, 0.0])
 }
 
 /// Longer slices than the totals need, or just enough.
-fn lend_more(rng: &mut Rng, c: &mut Call) {
+pub fn lend_more(rng: &mut Rng, c: &mut Call) {
     let mut more = || rng.pick(&[0, 0, 1, 3, 8]);
     c.ray_room += more();
     c.pane_room += more();
@@ -164,7 +164,7 @@ fn meeting(rng: &mut Rng) -> (Call, Vec<u32>) {
 }
 
 /// A ray that is refused 9.
-fn refused_ray(rng: &mut Rng, r: &Ray) -> Ray {
+pub fn refused_ray(rng: &mut Rng, r: &Ray) -> Ray {
     loop {
         let odd = odd_ray(rng, r);
         if !accepted_ray(&odd) {
@@ -174,7 +174,7 @@ fn refused_ray(rng: &mut Rng, r: &Ray) -> Ray {
 }
 
 /// Makes a call meet a cause in one of its ways.
-fn spoil(rng: &mut Rng, c: &mut Call, met: &[u32], cause: u32, way: usize) {
+pub fn spoil(rng: &mut Rng, c: &mut Call, met: &[u32], cause: u32, way: usize) {
     let p = rng.pick(met) as usize;
     match (cause, way) {
         (1, 0) if rng.once_in(2) => c.record.truncate(c.record.len() - 1 - rng.below(79)),

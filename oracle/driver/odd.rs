@@ -5,7 +5,7 @@ use crate::convert::convert;
 use crate::generate::ray;
 use crate::queries::{odd_ray, target_box};
 use crate::rng::Rng;
-use crate::run::Ground;
+use crate::run::{Calls, Ground};
 use crate::tree::sample_tree;
 use crate::walker::{Group, Held, Step};
 use crate::zeros::entered;

@@ -188,7 +188,7 @@ impl Pair {
     }
 
     /// Whether these panes block a ray, which must be so in both records or in neither, where closest then has a hit.
-    fn blocked(&self, panes: &[Aabb], r: &Ray, seen: &mut Seen) -> bool {
+    fn blocked(&self, panes: &[Option<Aabb>], r: &Ray, seen: &mut Seen) -> bool {
         let [(hit, miss), (other_hit, other_miss)] =
             self.bvhs.each_ref().map(|bvh| (query::closest(bvh, panes, *r), query::miss(bvh, panes, *r)));
         let missed = miss.found == [1];
@@ -312,7 +312,7 @@ impl Stored {
         let mut w = vec![t.indices.len() as u32, limit, nodes as u32, pair.ways[0].deepest, rays.len() as u32];
         w.extend(t.nodes.iter().chain(&t.indices));
         w.extend(rays.iter().flat_map(ray_words));
-        let boxes: Vec<Aabb> = (0..t.indices.len()).map(|k| t.aabb(k)).collect();
+        let boxes: Vec<Option<Aabb>> = (0..t.indices.len()).map(|k| Some(t.aabb(k))).collect();
         for r in rays {
             let met = pair.met(r, &mut self.seen);
             let blocked = pair.blocked(&boxes, r, &mut self.seen);

@@ -100,7 +100,7 @@ pub fn odd_ray(rng: &mut Rng, r: &Ray) -> Ray {
 }
 
 /// Words to lend for so many positions: a word for each that there is, or just enough, or some more, or too few.
-fn room(rng: &mut Rng, n: usize, needed: usize) -> usize {
+pub fn room(rng: &mut Rng, n: usize, needed: usize) -> usize {
     match rng.below(8) {
         0 => needed,
         1 => needed + 1 + rng.below(3),

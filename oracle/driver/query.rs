@@ -29,8 +29,9 @@ pub fn any_hit(bvh: &CwBvh, ray: Ray) -> Answer {
     Answer { refusal: 0, tests, found }
 }
 
-pub fn panes_of(words: &[u32]) -> Vec<Aabb> {
-    words.chunks(6).map(aabb).collect()
+/// Panes of six floats. One that is none is hidden.
+pub fn panes_of(words: &[u32]) -> Vec<Option<Aabb>> {
+    words.chunks(6).map(|w| Some(aabb(w))).collect()
 }
 
 /// A distance as it is, or +infinity where it is below tmin.
@@ -38,11 +39,13 @@ fn hidden(ray: &Ray, distance: f32) -> f32 {
     if distance < ray.tmin { f32::INFINITY } else { distance }
 }
 
-fn distance(bvh: &CwBvh, panes: &[Aabb], ray: &Ray, id: usize) -> f32 {
-    hidden(ray, unsigned_zero(panes[bvh.primitive_indices[id] as usize].intersect_ray(ray)))
+/// A pane's distance, or +infinity where it is hidden.
+fn distance(bvh: &CwBvh, panes: &[Option<Aabb>], ray: &Ray, id: usize) -> f32 {
+    let pane = panes[bvh.primitive_indices[id] as usize];
+    pane.map_or(f32::INFINITY, |b| hidden(ray, unsigned_zero(b.intersect_ray(ray))))
 }
 
-pub fn closest(bvh: &CwBvh, panes: &[Aabb], ray: Ray) -> Answer {
+pub fn closest(bvh: &CwBvh, panes: &[Option<Aabb>], ray: Ray) -> Answer {
     let (found, tests) = counted(|| {
         let mut hit = RayHit::none();
         if bvh.ray_traverse(entered(&ray), &mut hit, |r, id| distance(bvh, panes, r, id)) {
@@ -54,13 +57,13 @@ pub fn closest(bvh: &CwBvh, panes: &[Aabb], ray: Ray) -> Answer {
     Answer { refusal: 0, tests, found }
 }
 
-pub fn miss(bvh: &CwBvh, panes: &[Aabb], ray: Ray) -> Answer {
+pub fn miss(bvh: &CwBvh, panes: &[Option<Aabb>], ray: Ray) -> Answer {
     let (missed, tests) = counted(|| bvh.ray_traverse_miss(entered(&ray), |r, id| distance(bvh, panes, r, id)));
     Answer { refusal: 0, tests, found: vec![missed as u32] }
 }
 
 /// Closest by the dynamic traversal, run until it yields nothing.
-pub fn closest_dynamic(bvh: &CwBvh, panes: &[Aabb], ray: Ray) -> Answer {
+pub fn closest_dynamic(bvh: &CwBvh, panes: &[Option<Aabb>], ray: Ray) -> Answer {
     let (found, tests) = counted(|| {
         let mut hit = RayHit::none();
         let mut state = bvh.new_ray_traversal(entered(&ray));
@@ -89,6 +92,11 @@ fn traversal(bvh: &CwBvh, from: &Held) -> RayTraversal {
 /// The tests and reports of the dynamic traversal in their order, the k-th report answered with the k-th told distance; and the
 /// bits of tmax at its end.
 pub fn steps(bvh: &CwBvh, from: &Held, told: &[f32]) -> (Vec<Step>, u32) {
+    steps_shown(bvh, from, told, |_| true)
+}
+
+/// The same where only some positions are shown: of the others no report is counted, and the answer is +infinity.
+pub fn steps_shown(bvh: &CwBvh, from: &Held, told: &[f32], shown: impl Fn(usize) -> bool) -> (Vec<Step>, u32) {
     let mut out: Vec<Step> = vec![];
     let (reach, all) = counted(|| {
         let mut hit = RayHit::none();
@@ -97,6 +105,9 @@ pub fn steps(bvh: &CwBvh, from: &Held, told: &[f32]) -> (Vec<Step>, u32) {
         let mut report = |r: &Ray, id: usize| {
             out.extend((seen..tests()).map(|_| Step::Tested));
             seen = tests();
+            if !shown(id) {
+                return f32::INFINITY;
+            }
             out.push(Step::Reported(id as u32));
             reports += 1;
             hidden(r, told[(reports - 1) % told.len()])

@@ -11,11 +11,12 @@ use obvhs::ray::Ray;
 
 /// Words that are no step's: the next one is a distance told, or from here on the number of positions, or from here on the
 /// bytes of the record that are lent.
-const TELL: u32 = 0xc010_0000;
+pub const TELL: u32 = 0xc010_0000;
 const POSITIONS: u32 = 0xc020_0000;
 const BYTES: u32 = 0xc030_0000;
 
-fn step_word(s: Step) -> u32 {
+/// A step's stored word.
+pub fn step_word(s: Step) -> u32 {
     match s {
         Step::Tested => 0,
         Step::Reported(p) => 1 << 30 | p,
@@ -25,7 +26,7 @@ fn step_word(s: Step) -> u32 {
 }
 
 /// The walker beside a refusal 9: all zero, so that its inverse is not its direction's.
-fn no_walker() -> Held {
+pub fn no_walker() -> Held {
     let ray = Ray { origin: Vec3A::ZERO, direction: Vec3A::ZERO, inv_direction: Vec3A::ZERO, tmin: 0.0, tmax: 0.0 };
     Held { ray, octant: 0, current: Group::default(), ..Held::fresh(&ray) }
 }
@@ -37,7 +38,7 @@ pub fn held_ray_words(r: &Ray) -> Vec<u32> {
 }
 
 /// 0; ray 11, octant, tests, positions and group in hand (base and bits of each), depth, groups given, and these.
-fn held_words(h: &Held) -> Vec<u32> {
+pub fn held_words(h: &Held) -> Vec<u32> {
     let mut w = vec![0];
     w.extend(held_ray_words(&h.ray));
     w.extend([h.octant, h.tests]);
@@ -95,21 +96,56 @@ pub struct Run<'a> {
     calls: Vec<u32>,
 }
 
-impl Run<'_> {
-    pub fn step(&mut self) -> Step {
+/// A walker whose calls are noted.
+pub trait Calls {
+    fn step(&mut self) -> Step;
+
+    fn tell(&mut self, distance: f32);
+}
+
+/// Steps to the first done or refusal, each report told the next of these distances, and then so many steps more.
+pub fn to_end(run: &mut impl Calls, told: &[f32], more: usize) -> Vec<Step> {
+    let mut steps = vec![];
+    let mut reports = 0;
+    loop {
+        let s = run.step();
+        steps.push(s);
+        match s {
+            Step::Tested => {}
+            Step::Reported(_) if told.is_empty() => {}
+            Step::Reported(_) => {
+                run.tell(told[reports % told.len()]);
+                reports += 1;
+            }
+            Step::Done | Step::Refused(_) => break,
+        }
+    }
+    (0..more).for_each(|_| assert!(run.step() == *steps.last().unwrap()));
+    steps
+}
+
+/// What a walk comes to: tests, tmax, positions and children in hand, groups that wait.
+pub fn end_words(w: &Walker) -> [u32; 5] {
+    [w.tests, word(w.ray.tmax), w.positions.len() as u32, w.group.len() as u32, w.depth()]
+}
+
+impl Calls for Run<'_> {
+    fn step(&mut self) -> Step {
         let s = self.walker.step(&self.ground.record[..self.bytes], self.n);
         self.calls.push(step_word(s));
         s
     }
 
+    fn tell(&mut self, distance: f32) {
+        self.walker.tell(distance);
+        self.calls.extend([TELL, word(distance)]);
+    }
+}
+
+impl Run<'_> {
     /// The walker's tmin.
     pub fn tmin(&self) -> f32 {
         self.walker.ray.tmin
-    }
-
-    pub fn tell(&mut self, distance: f32) {
-        self.walker.tell(distance);
-        self.calls.extend([TELL, word(distance)]);
     }
 
     pub fn positions(&mut self, n: usize) {
@@ -134,30 +170,11 @@ impl Run<'_> {
 
     /// Steps to the first done or refusal, each report told the next of these distances, and then so many steps more.
     pub fn to_end(&mut self, told: &[f32], more: usize) -> Vec<Step> {
-        let mut steps = vec![];
-        let mut reports = 0;
-        loop {
-            let s = self.step();
-            steps.push(s);
-            match s {
-                Step::Tested => {}
-                Step::Reported(_) if told.is_empty() => {}
-                Step::Reported(_) => {
-                    self.tell(told[reports % told.len()]);
-                    reports += 1;
-                }
-                Step::Done | Step::Refused(_) => break,
-            }
-        }
-        (0..more).for_each(|_| assert!(self.step() == *steps.last().unwrap()));
-        steps
+        to_end(self, told, more)
     }
 
-    /// How it starts, the words of its calls with their count, and what it comes to: tests, tmax, positions and children in
-    /// hand, groups that wait.
+    /// How it starts, the words of its calls with their count, and what it comes to.
     pub fn words(self) -> Vec<u32> {
-        let w = self.walker;
-        let end = [w.tests, word(w.ray.tmax), w.positions.len() as u32, w.group.len() as u32, w.depth()];
-        [self.start, vec![self.calls.len() as u32], self.calls, end.to_vec()].concat()
+        [self.start, vec![self.calls.len() as u32], self.calls, end_words(&self.walker).to_vec()].concat()
     }
 }

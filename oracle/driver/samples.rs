@@ -11,6 +11,9 @@ use crate::query;
 use crate::rng::Rng;
 use crate::scene::{Asked, Scene, endless, through_t};
 use crate::show::{input_of, shown, showrecord};
+use crate::timed_conversions::samples as timed_samples;
+use crate::timed_corners::{SAMPLE_SPANS, along_t, timed_t};
+use crate::timed_scene::TimedScene;
 use crate::tree::{BOUND, Tree, bits, inner, leaf, sample_tree};
 use crate::walk;
 use crate::walker::{Held, Step};
@@ -130,6 +133,30 @@ fn joined(all: &mut Tally) {
     all.holds("chains of 127 leaves with one and of 128 with none joined, of 128 with one refused 7", chains);
 }
 
+/// What T answers at a quarter to the ray along x, by the rules and as the published code in its hours: any-hit's list, by one test.
+fn lists_at(quarter: u8, listed: &[u32]) -> bool {
+    let a = timed_t(SAMPLE_SPANS).agreed(&along_t(), quarter);
+    let found = [a.closest.found.first().copied(), listed.iter().min().copied()];
+    a.all().iter().all(|a| a.tests == 1) && a.any.found == listed && found[0] == found[1]
+}
+
+/// T's panes at their quarters.
+fn at_quarters(all: &mut Tally) {
+    let s = timed_t(SAMPLE_SPANS);
+    all.holds("spans 32-63 and 60-95: T's side table is 203f3c5f and zeros", s.side == [&[0x20, 0x3f, 0x3c, 0x5f][..], &[0; 12]].concat());
+    all.holds("along x at 40: 0; at 61: 1 and 0; at 70: 1", lists_at(40, &[0]) && lists_at(61, &[1, 0]) && lists_at(70, &[1]));
+    all.holds("at 10: nothing", lists_at(10, &[]));
+    let numbers = |s: &TimedScene, ray: &Ray, quarter: u8| s.by_rules(&s.asked(ray, quarter)).numbers();
+    let turned = TimedScene { spans: vec![63, 32, 60, 95], ..s.clone() };
+    let endless = Ray { tmax: f32::NAN, ..along_t() };
+    all.holds("span 63-32: refused 14 (by the rules)", numbers(&turned, &along_t(), 40) == [14; 3]);
+    all.holds("quarter 96: refused 14, with tmax NaN too; tmax NaN alone: 9", {
+        let late = [&along_t(), &endless].map(|r| numbers(&s, r, 96));
+        late == [[14; 3]; 2] && numbers(&s, &endless, 40) == [9; 3]
+    });
+    all.holds("conversion with a span byte short: 14; with limit 4: 3; with cause 7: 14; with cause 6: 6", timed_samples());
+}
+
 const T_LINES: &str = "0 0000000000000000000000007978780001000000000000002021000000000000008000000000000040c00000000000000000000000000000808000000000000000000000000000008080000000000000\nindices 0 1\n";
 
 /// What conversion writes for T, and e bytes.
@@ -178,6 +205,7 @@ pub fn run() -> bool {
     all.holds("S12 T's record line", shown(&c) == T_LINES && showrecord(&input_of(&t, 3, 0)) == T_LINES);
     near_limits(&mut all);
     losses(&mut all);
+    at_quarters(&mut all);
     joined(&mut all);
     all.failed == 0
 }

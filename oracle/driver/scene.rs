@@ -6,6 +6,7 @@ use crate::store::words_of;
 use crate::tree::{aabb_words, sample_tree};
 use crate::walk::{self, Answer};
 use glam::Vec3A;
+use obvhs::aabb::Aabb;
 use obvhs::ray::Ray;
 
 #[derive(Clone, Default)]
@@ -33,9 +34,20 @@ pub struct Answers {
 }
 
 impl Answers {
+    /// The three in their order.
+    pub fn all(&self) -> [&Answer; 3] {
+        [&self.any, &self.closest, &self.miss]
+    }
+
     /// The numbers of the refusals, 0 for none.
     pub fn numbers(&self) -> [u32; 3] {
-        [&self.any, &self.closest, &self.miss].map(|a| a.refusal)
+        self.all().map(|a| a.refusal)
+    }
+
+    /// Of each its number, its tests, how many words it found, and these.
+    pub fn words(&self) -> Vec<u32> {
+        let words = |a: &&Answer| [&[a.refusal, a.tests, a.found.len() as u32][..], &a.found].concat();
+        self.all().iter().flat_map(words).collect()
     }
 }
 
@@ -44,11 +56,6 @@ pub fn stored_part<T: Copy + PartialEq + Default>(all: &[T]) -> &[T] {
     &all[..all.iter().rposition(|&x| x != T::default()).map_or(0, |k| k + 1)]
 }
 
-fn answer_words(a: &Answer) -> Vec<u32> {
-    let mut w = vec![a.refusal, a.tests, a.found.len() as u32];
-    w.extend(&a.found);
-    w
-}
 
 /// A ray without an end, and with tmin 0.
 pub fn endless(origin: [f32; 3], direction: [f32; 3]) -> Ray {
@@ -84,13 +91,17 @@ impl Scene {
         }
     }
 
-    /// The published answers, the two ways to the closest hit being the same. Any-hit's list is as long as it needs.
-    pub fn published(&self, r: &Ray) -> Answers {
+    /// The published answers among these panes, the two ways to the closest hit being the same. Any-hit's list is as long as it needs.
+    pub fn published_among(&self, panes: &[Option<Aabb>], r: &Ray) -> Answers {
         let bvh = bvh_of(&self.record, &self.list);
-        let panes = query::panes_of(&self.panes);
-        let closest = query::closest(&bvh, &panes, *r);
-        assert_eq!(closest, query::closest_dynamic(&bvh, &panes, *r));
-        Answers { any: query::any_hit(&bvh, *r), closest, miss: query::miss(&bvh, &panes, *r) }
+        let closest = query::closest(&bvh, panes, *r);
+        assert_eq!(closest, query::closest_dynamic(&bvh, panes, *r));
+        Answers { any: query::any_hit(&bvh, *r), closest, miss: query::miss(&bvh, panes, *r) }
+    }
+
+    /// The published answers.
+    pub fn published(&self, r: &Ray) -> Answers {
+        self.published_among(&query::panes_of(&self.panes), r)
     }
 
     /// Both, which must be the same.
@@ -105,8 +116,7 @@ impl Scene {
     pub fn asked_words(&self, q: &Asked) -> Vec<u32> {
         let mut w = ray_words(&q.ray);
         w.extend([q.n as u32, q.room as u32]);
-        let a = self.by_rules(q);
-        [&a.any, &a.closest, &a.miss].iter().for_each(|a| w.extend(answer_words(a)));
+        w.extend(self.by_rules(q).words());
         w
     }
 

@@ -41,6 +41,17 @@ pub const LOSS_SIZES: u32 = 44;
 pub const JOINS: u32 = 45;
 pub const JOIN_SIZES: u32 = 46;
 pub const ORDERED_AND_NOT: u32 = 47;
+pub const TIMED_CONVERSION: u32 = 48;
+pub const TIMED_CONVERSION_REFUSED: u32 = 49;
+pub const TIMED_CONVERSION_SIZES: u32 = 50;
+pub const TIMED_QUERIES: u32 = 51;
+pub const TIMED_TWO_CAUSES: u32 = 52;
+pub const TIMED_QUERY_SIZES: u32 = 53;
+pub const TIMED_WALKS: u32 = 54;
+pub const TIMED_CALLS: u32 = 55;
+pub const TIMED_FORGED: u32 = 56;
+pub const TIMED_LOSSES: u32 = 57;
+pub const TIMED_LOSS_SIZES: u32 = 58;
 
 pub struct Group {
     pub kind: u32,

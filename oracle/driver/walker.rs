@@ -69,6 +69,14 @@ fn begun(r: &Ray) -> Ray {
     Ray { origin: Vec3A::from(origin), direction: Vec3A::from(direction), inv_direction, ..*r }
 }
 
+/// The first of causes 1 and 2 of a record of n positions, or 0.
+pub fn size_cause(record: &[u8], n: usize) -> u32 {
+    if record.len() % 80 != 0 {
+        return 1;
+    }
+    if n > MOST_LEAVES || record.len() / 80 > MOST_NODES { 2 } else { 0 }
+}
+
 /// 7 less 4, 2, 1 for a negative x, y, z.
 fn octant(r: &Ray) -> u32 {
     let d = [r.direction.x, r.direction.y, r.direction.z];
@@ -168,7 +176,7 @@ impl Walker {
 
     /// Exactly what is on the list: the ray fails 9, -0.0 in origin or direction, inverse or octant is not its direction's, over
     /// 32 groups, more tests than nodes.
-    fn forged(&self, m: usize) -> bool {
+    pub fn forged(&self, m: usize) -> bool {
         let (o, d, i) = (self.ray.origin, self.ray.direction, self.ray.inv_direction);
         let unread = [o.x, o.y, o.z, d.x, d.y, d.z].into_iter().any(negative_zero);
         let own = [(d.x, i.x), (d.y, i.y), (d.z, i.z)].iter().all(|&(d, i)| i == safe_inverse(d));
@@ -182,11 +190,11 @@ impl Walker {
         near.max(near_limit(&self.ray)) <= far.min(self.ray.tmax)
     }
 
-    /// The positions and children of a node that the ray passes, in order.
-    fn open(&self, record: &[u8], i: usize) -> (Vec<u64>, Vec<u64>) {
+    /// The positions and children of a node, in order, that stand in slots which the ray passes and which are open besides.
+    pub fn open(&self, record: &[u8], i: usize, slot_open: impl Fn(usize, usize) -> bool) -> (Vec<u64>, Vec<u64>) {
         let d = node(record, i);
         let octant = self.octant as usize;
-        let passed: Vec<usize> = (0..8).filter(|&s| d.meta(s) != 0 && self.passes(record, i, s)).collect();
+        let passed: Vec<usize> = (0..8).filter(|&s| d.meta(s) != 0 && self.passes(record, i, s) && slot_open(i, s)).collect();
         let mut positions: Vec<u64> = vec![];
         let mut children: Vec<usize> = vec![];
         for s in passed {
@@ -206,21 +214,16 @@ impl Walker {
 
     /// A step on any record: causes 1, 2 and 10 in this order; refused, it changes nothing.
     pub fn step(&mut self, record: &[u8], n: usize) -> Step {
-        if record.len() % 80 != 0 {
-            return Step::Refused(1);
+        match size_cause(record, n) {
+            0 if self.forged(record.len() / 80) => return Step::Refused(10),
+            0 => {}
+            number => return Step::Refused(number),
         }
-        let m = record.len() / 80;
-        if n > MOST_LEAVES || m > MOST_NODES {
-            return Step::Refused(2);
-        }
-        if self.forged(m) {
-            return Step::Refused(10);
-        }
-        self.advance(record, n)
+        self.advance(record, n, |_, _| true)
     }
 
-    /// One position, or one node test, or done, on a record whose sizes fit.
-    fn advance(&mut self, record: &[u8], n: usize) -> Step {
+    /// One position, or one node test, or done, on a record whose sizes fit, where some slots of its nodes are open.
+    pub fn advance(&mut self, record: &[u8], n: usize, slot_open: impl Fn(usize, usize) -> bool) -> Step {
         if let Some(&p) = self.positions.first() {
             if p >= n as u64 {
                 return Step::Refused(10);
@@ -252,7 +255,7 @@ impl Walker {
             return Step::Refused(10);
         }
         next.tests += 1;
-        (next.positions, next.group) = self.open(record, i as usize);
+        (next.positions, next.group) = self.open(record, i as usize, slot_open);
         *self = next;
         Step::Tested
     }

@@ -3,8 +3,8 @@ ghost use Rattle.std.specs.Prelude.{◌≤◌};
 
 use bvh2_to_cwbvh::{Converted, bvh2_to_cwbvh};
 use stored::{
-    BYTE, COST, WORD, behind, cleared_words, copy_words, filled_with, untouched, word,
-    written_bytes, written_words,
+    BYTE, COST, WORD, behind, cleared, cleared_words, copy_words, filled_with, record_size,
+    tree_size, untouched, word, written_bytes, written_words,
 };
 
 // Room for the words of a tree, its index words, and the bytes of its record.
@@ -26,26 +26,6 @@ const ZERO_LEAVES: usize = 65537;
 
 // What is lent beyond what an accepted tree needs, after a first turn with nothing to spare.
 const SPARE: usize = 5;
-
-// The words of n leaves. Counted here, so that what is replayed is not measured by its own counting.
-fn tree_size(n: usize) -> usize
-    requires { n ≤ 128 }
-    ensures { result ≤ 1785 }
-{
-    if n == 0 { 0 } else { (2 * n - 1) * 7 }
-}
-
-// The record bytes that they need.
-fn record_size(n: usize) -> usize
-    requires { n ≤ 128 }
-    ensures { result ≤ 10160 }
-{
-    match n {
-        0 => 0,
-        1 => node::BYTES,
-        _ => node::BYTES * (n - 1),
-    }
-}
 
 // Whether the tables, the record and the list are the outputs that an accepted case ends with, and what is past them as it was lent: the slices are
 // the conversion's, lent to it one by one.
@@ -143,11 +123,6 @@ pub fn accepted(case: &[u8]) -> bool {
     let positions = copy_words(behind(case, 5), words);
     let outputs = copy_words(positions, indices);
     converts(case, outputs, words, indices, 0) && converts(case, outputs, words, indices, SPARE)
-}
-
-// How much of the tables a refusal zeroes: nothing for causes 1 to 4, else all that is needed, which is as much as the tree has.
-fn cleared(number: u32, size: usize) -> usize {
-    if number < 5 { 0 } else { size }
 }
 
 // Whether a conversion with these slices, lent to it one by one, ends as a refused case says: both outputs as they were lent, and of the tables all

@@ -3,8 +3,8 @@ ghost use Rattle.std.specs.Prelude.{◌≤◌};
 
 use crate::lent::{Priced, Spaces};
 use crate::single;
-use causes::Refusal;
-use stored::{RECORD_BYTES, TOTAL, all_are, copy_bytes, filled_with, real, wide, word, written};
+use stored::{RECORD_BYTES, TOTAL, behind, copy_bytes, filled_with, real, word};
+use stored_answers::same_report_alike;
 
 // Room for index words, losses, rays and lent words with guard words past them: more of the first and of rays than a report accepts.
 const MANY: usize = 65548;
@@ -28,31 +28,6 @@ fn fill_rays(case: &[u8], floats: &mut [f32]) {
     }
 }
 
-// Whether total i is x and all others are 0.
-fn only(totals: &[u64], i: usize, x: u64) -> bool {
-    totals
-        .iter()
-        .enumerate()
-        .all(|(k, total)| *total == if k == i { x } else { 0 })
-}
-
-// Whether this is the stored answer of a report, and leaves in the words, those past the lent ones too, what it should.
-fn same_answer(case: &[u8], answer: Result<u64, Refusal>, count: usize, spaces: Spaces) -> bool {
-    match answer {
-        Ok(tests) => {
-            word(case, 17) == 0
-                && wide(case, 18) == tests
-                && written(spaces.rays, count, |front| all_are(front, wide(case, 20)))
-                && written(
-                    spaces.panes,
-                    word(case, 2) as usize,
-                    |front| only(front, word(case, 7) as usize, wide(case, 22)),
-                )
-        }
-        Err(refusal) => word(case, 17) == u32::from(refusal) && spaces.untouched(),
-    }
-}
-
 // Whether the single call answers as stored.
 fn same_single(case: &[u8], priced: Priced) -> bool {
     case.len() >= 192 && single::same_loss(&case[36..], &case[96..], priced)
@@ -62,7 +37,10 @@ fn same_single(case: &[u8], priced: Priced) -> bool {
 fn compared(case: &[u8], priced: Priced, rays: &[f32], mut spaces: Spaces) -> bool {
     same_single(case, priced)
         && match spaces.report(case, priced, rays) {
-            Some(answer) => same_answer(case, answer, rays.len() / 8, spaces),
+            Some(answer) => {
+                let left = spaces.totals(rays.len() / 8, priced.panes);
+                same_report_alike(behind(case, 17), word(case, 7) as usize, answer, left)
+            }
             None => false,
         }
 }

@@ -1,6 +1,7 @@
 // What a report is asked of, and the words that it is lent for totals of 64 bits, two words of a case each.
 use causes::Refusal;
-use stored::{untouched, wide, word, written};
+use stored::word;
+use stored_answers::Totals;
 
 // A record with its index words, and the losses of so many panes.
 #[derive(Clone, Copy)]
@@ -39,21 +40,13 @@ impl Spaces<'_> {
         ))
     }
 
-    // Whether all words are as they were lent.
-    pub fn untouched(&self) -> bool {
-        untouched(self.rays) && untouched(self.panes)
+    // The words with the totals of so many rays and panes in front.
+    pub fn totals(&self, rays: usize, panes: usize) -> Totals<'_> {
+        Totals {
+            rays,
+            panes,
+            ray_words: self.rays,
+            pane_words: self.panes,
+        }
     }
-}
-
-// Whether a case starts with these totals.
-fn same_totals(case: &[u8], totals: &[u64]) -> bool {
-    totals
-        .iter()
-        .enumerate()
-        .all(|(i, total)| wide(case, i * 2) == *total)
-}
-
-// Whether the first `count` totals are those that a case starts with, and the others as they were lent.
-pub fn written_totals(case: &[u8], totals: &[u64], count: usize) -> bool {
-    written(totals, count, |front| same_totals(case, front))
 }

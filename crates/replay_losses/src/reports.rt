@@ -1,8 +1,8 @@
 // The stored cases of losses: a record with index words, losses and rays; a report's answer, and the single call's for each ray.
-use crate::lent::{Priced, Spaces, written_totals};
+use crate::lent::{Priced, Spaces};
 use crate::single;
-use causes::Refusal;
-use stored::{TOTAL, behind, copy_bytes, copy_words, wide, word};
+use stored::{TOTAL, behind, copy_bytes, copy_words, word};
+use stored_answers::same_report;
 
 // Room for the bytes of a record, its index words, its losses and the floats of its rays.
 const MOST_BYTES: usize = 49152;
@@ -18,35 +18,6 @@ const RAY_SPACE: usize = 80;
 
 const PANE_SPACE: usize = 80;
 
-// Whether a case has this number, and this count of node tests.
-fn same_head(case: &[u8], number: u32, tests: u64) -> bool {
-    word(case, 7) == number && wide(case, 8) == tests
-}
-
-// Whether this is the stored answer of a report, and leaves in the words, those past the lent ones too, what it should: the totals of rays and of
-// panes that `totals` starts with, or beside a refusal all as it was.
-fn same_answer(
-    case: &[u8],
-    totals: &[u8],
-    answer: Result<u64, Refusal>,
-    rays: &[f32],
-    spaces: Spaces,
-) -> bool {
-    let count = rays.len() / 8;
-    match answer {
-        Ok(tests) => {
-            same_head(case, 0, tests)
-                && written_totals(totals, spaces.rays, count)
-                && written_totals(
-                    behind(totals, count * 2),
-                    spaces.panes,
-                    word(case, 2) as usize,
-                )
-        }
-        Err(refusal) => same_head(case, u32::from(refusal), 0) && spaces.untouched(),
-    }
-}
-
 // Whether a report answers as stored.
 fn answers(case: &[u8], totals: &[u8], priced: Priced, rays: &[f32]) -> bool {
     let mut ray_space = [TOTAL; RAY_SPACE];
@@ -56,7 +27,10 @@ fn answers(case: &[u8], totals: &[u8], priced: Priced, rays: &[f32]) -> bool {
         panes: &mut pane_space,
     };
     match spaces.report(case, priced, rays) {
-        Some(answer) => same_answer(case, totals, answer, rays, spaces),
+        Some(answer) => {
+            let left = spaces.totals(rays.len() / 8, priced.panes);
+            same_report(behind(case, 7), totals, answer, left)
+        }
         None => false,
     }
 }

@@ -3,7 +3,6 @@
 #![tactic(auto)]
 
 mod any;
-mod head;
 mod nearest;
 mod queries;
 

@@ -1,7 +1,8 @@
 // The stored cases of walks: a record, and walkers with their calls.
-use crate::calls::{Run, all_called};
-use crate::walkers::{came_to, starting};
+use crate::calls::{Run, last_walker};
+use crate::walkers::starting;
 use stored::{RECORD_BYTES, copy_bytes, filled_with, same_parts, word};
+use stored_answers::came_to;
 
 // The words that tell what a walk came to.
 const END_WORDS: usize = 5;
@@ -16,7 +17,7 @@ fn walk_words(walk: &[u8], record: &[u8], bytes: usize, n: usize) -> Option<usiz
         return None;
     }
     let walker = begun.walker;
-    let last = all_called(Run { walker, bytes, n }, &walk[from * 4..end * 4], record)?;
+    let last = last_walker(Run { walker, bytes, n }, &walk[from * 4..end * 4], record)?;
     came_to(&walk[end * 4..], last).then_some(end + END_WORDS)
 }
 

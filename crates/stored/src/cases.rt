@@ -54,6 +54,11 @@ pub fn word(case: &[u8], i: usize) -> u32 {
     }
 }
 
+// The lowest byte of word i.
+pub fn byte(case: &[u8], i: usize) -> u8 {
+    (word(case, i) % 256) as u8
+}
+
 // The case behind its first n words; nothing where it has no more.
 pub fn behind(case: &[u8], n: usize) -> &[u8] {
     if n <= case.len() / 4 {

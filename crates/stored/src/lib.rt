@@ -5,20 +5,22 @@ mod cases;
 mod digests;
 mod lent;
 mod names;
+mod sizes;
 
 ghost use Rattle.std.specs.Prelude.{◌≡◌, ◌≤◌, ◌<◌, ◌*◌, length, take, true, IfOk, IfSome};
 ghost use Rattle.stored.specs.Given.{own_length, ConsumesSome, GivesNext};
 ghost use Rattle.std.specs.Io.KnownBytes.{Consumes};
 
 pub use cases::{
-    OneWord, RECORD_BYTES, beam, behind, copy_bytes, copy_words, filled_up, filled_with, real,
-    same, same_parts, same_vector, vector, wide, word,
+    OneWord, RECORD_BYTES, beam, behind, byte, copy_bytes, copy_words, filled_up, filled_with,
+    real, same, same_parts, same_vector, vector, wide, word,
 };
 pub use digests::{digest_of, digest_of_bytes, digest_with};
 pub use lent::{
     BYTE, COST, Lent, TOTAL, WORD, all_are, cleared_words, digested_words, untouched, written,
     written_bytes, written_words,
 };
+pub use sizes::{cleared, record_size, side_size, tree_size};
 use std::env::Env;
 use std::fs::Files;
 use std::io::{ErrorKind, Read};

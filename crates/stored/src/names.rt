@@ -39,6 +39,17 @@ pub fn print_name(rt: &impl Print, kind: u32) -> io::Result<()> {
         45 => "joins",
         46 => "joins by lengths",
         47 => "ordered and not",
+        48 => "timed trees accepted",
+        49 => "timed trees refused",
+        50 => "timed trees refused by lengths",
+        51 => "timed records queried",
+        52 => "timed queries with two causes",
+        53 => "timed queries by lengths",
+        54 => "timed walks",
+        55 => "lists of timed calls",
+        56 => "forged timed walkers",
+        57 => "timed losses",
+        58 => "timed losses by lengths",
         _ => "unknown",
     })
 }
