@@ -7,3 +7,4 @@ pub mod Values
 pub mod Tells
 pub mod Splice
 pub mod Each
+pub mod Rearranged

@@ -31,6 +31,12 @@ value_le_one Nat.zero h = Nat.zero-le
 value_le_one (Nat.suc Nat.zero) h = Nat.suc-le-suc Nat.zero-le
 value_le_one (Nat.suc (Nat.suc m)) h = absurd (omega arith)
 
+value_below : (m : Nat.ℕ) → Nat.◌≤◌ m Nat.one → value m ≤ 1
+unfolding value
+value_below Nat.zero h = omega arith
+value_below (Nat.suc Nat.zero) h = omega arith
+value_below (Nat.suc (Nat.suc m)) (Nat.suc-le-suc h) = absurd (Nat.not-suc-le-zero h)
+
 value_count : (x : ℕ) (l : List ℕ) → value (List.count ℕ_discrete x l) ≡ count x l
 unfolding value count
 value_count x [] = refl
@@ -49,6 +55,9 @@ counts_perm a b = (
 
 pub no_duplicates : (a : List ℕ) → ((x : ℕ) → count x a ≤ 1) → Nodup a
 no_duplicates a h = (Nodup-iff_count-le-one ℕ_discrete).1 (λ x. value_le_one _ (omega (arith, value_count x a, h x)))
+
+pub each_once : (a : List ℕ) → Nodup a → (x : ℕ) → count x a ≤ 1
+each_once a h x = omega (arith, value_count x a, value_below _ ((Nodup-iff_count-le-one ℕ_discrete).0 h x))
 
 -- a list is 0, 1, .., n − 1 in some order exactly if each of these stands in it once and no other
 pub perm_upto : (l : List ℕ) (n : ℕ) → Perm l (upto 0 n) ↔ (((x : ℕ) → x < n → count x l ≡ 1) × ((x : ℕ) → n ≤ x → count x l ≡ 0))

@@ -1,5 +1,5 @@
 -- Tests that compute, and what they tell.
-use mathlib.Core.Path.{◌≡◌, refl, sym, ◌∙◌}
+use mathlib.Core.Path.{◌≡◌, refl, sym, ap₂, ◌∙◌}
 use mathlib.Core.Bool.{Bool, true, false, ◌&&◌}
 use Prim.Native.Nat.{ℕ, zero, suc, ◌+◌, ◌≤◌, ◌<◌}
 use native.Mathlib.Omega.{arith}
@@ -97,6 +97,12 @@ all_next f k h e = all_pass f (k + 1) (λ i l. pick i l (same? i k))
 
 pub all_reached : (f : ℕ → Bool) (j k : ℕ) → all_below f j ≡ true → k ≤ j → all_below f k ≡ true
 all_reached f j k h l = all_pass f k (λ i m. all_at f j h i (omega arith))
+
+-- two tests that agree at every number below a bound
+pub all_same : (f g : ℕ → Bool) (k : ℕ) → ((i : ℕ) → i < k → f i ≡ g i) → all_below f k ≡ all_below g k
+unfolding all_below
+all_same f g zero h = refl
+all_same f g (suc k) h = ap₂ ◌&&◌ (all_same f g k (λ i l. h i (omega arith))) (h k (omega arith))
 
 pub one_fails : (f : ℕ → Bool) (k i : ℕ) → i < k → f i ≡ false → all_below f k ≡ false
 one_fails f k i l e = tells_false (below_tells (λ i. f i ≡ true) f (λ i. true_tells (f i)) k) (λ h. clash (sym e ∙ h i l))

@@ -5,6 +5,7 @@ use Prim.Native.Nat.{ℕ, zero, suc, ◌+◌, ◌≤◌, ◌<◌}
 use native.Mathlib.Nat.{zero-add}
 use native.Mathlib.Omega.{arith}
 use lib.ListN.{length, get_or, length-map}
+use lib.Seq.{ext_get_or}
 use Rattle.lists.specs.Counts.{upto}
 use Rattle.lists.specs.Splice.{splice}
 use Rattle.lists.specs.Values.{values}
@@ -29,6 +30,12 @@ module _ {A : Type 0} (f : ℕ → A) where
   pub values_next : (k : ℕ) → values f (k + 1) ≡ values f k ++ (f k ∷ [])
   unfolding upto
   values_next k = ap (map f) (upto-append 0 k 1) ∙ map-append f (upto 0 k) (upto (0 + k) 1) ∙ ap (λ (j : ℕ). values f k ++ (f j ∷ [])) (omega arith)
+
+-- Two functions that agree below a bound have the same first values.
+pub values_same : (f g : ℕ → ℕ) (k : ℕ) → ((i : ℕ) → i < k → f i ≡ g i) → values f k ≡ values g k
+values_same f g k h =
+    ext_get_or 0 (values f k) (values g k) (values_length f k ∙ sym (values_length g k))
+    (λ i l. let m : i < k = omega (arith, l, values_length f k) in values_at f k i 0 m ∙ h i m ∙ sym (values_at g k i 0 m))
 
 -- ---- written in front of a list
 

@@ -13,7 +13,8 @@ use Rattle.lists.specs.Splice.{splice}
 use Rattle.lists.specs.Sums.{sum, sum_over}
 use Rattle.lists.specs.Values.{values}
 use Rattle.lists.proofs.Sums.{sum_cong}
-use Rattle.lists.proofs.Values.{values_length, values_at}
+use Rattle.lists.proofs.Tells.{all_same}
+use Rattle.lists.proofs.Values.{values_same}
 use Rattle.ray.specs.declared.Ray.{Ray}
 use Rattle.packed.specs.Packed.{ray_in, ray_count}
 use Rattle.gate.specs.Gates.{Gates}
@@ -24,18 +25,6 @@ use Rattle.query.specs.Result.{Result}
 use Rattle.loss_walk.specs.Losses.{loss_at, all_there, LossAnswer, is_summed, ray_total, pane_total, totalled}
 use Rattle.loss_walk.specs.Gated.{gated_loss, gated_met, gated_tests, gated_walks, gated_totals}
 use Rattle.loss_walk.proofs.Adding.{given}
-
--- Two functions that agree below a bound have the same first values.
-pub values_same : (f g : ℕ → ℕ) (k : ℕ) → ((i : ℕ) → i < k → f i ≡ g i) → values f k ≡ values g k
-values_same f g k h =
-    ext_get_or 0 (values f k) (values g k) (values_length f k ∙ sym (values_length g k))
-    (λ i l. let m : i < k = omega (arith, l, values_length f k) in values_at f k i 0 m ∙ h i m ∙ sym (values_at g k i 0 m))
-
--- Two tests that agree at every number below a bound agree on all together.
-pub all_same : (f g : ℕ → Bool) (k : ℕ) → ((i : ℕ) → i < k → f i ≡ g i) → all_below f k ≡ all_below g k
-unfolding all_below
-all_same f g zero h = refl
-all_same f g (suc k) h = ap₂ ◌&&◌ (all_same f g k (λ i l. h i (omega arith))) (h k (omega arith))
 
 -- what a ray's walk gives is by how it ends
 pub loss_alike : (g o : Gates) (bytes indices : List ℕ) (panes : ℕ) (losses : List ℕ) (r : Ray)

@@ -8,7 +8,10 @@ use lib.ListN.{length, get_or, length-map}
 use Rattle.lists.specs.Splice.{splice}
 use Rattle.lists.specs.Sums.{sum, sum_over}
 use Rattle.lists.proofs.Perms.{counts_perm, perm_length}
+use Rattle.lists.proofs.Rearranged.{sum_rearranged}
 use Rattle.lists.proofs.Sums.{sum_cong, over_words}
+use Rattle.lists.proofs.Tells.{all_same}
+use Rattle.lists.proofs.Values.{values_same}
 use Rattle.causes.specs.Causes.{Condition, ◌unless◌, first_cause}
 use Rattle.ray.specs.declared.Ray.{Ray}
 use Rattle.ray.specs.Ray.{accepted_ray}
@@ -25,9 +28,8 @@ use Rattle.any_hit_walk.specs.AnyHit.{fitted, walk_of, gated_any_hit}
 use Rattle.any_hit_walk.specs.AnyHit as A
 use Rattle.loss_walk.specs.Losses.{LossAnswer, summed, refused, is_summed, all_there, loss_at, ray_total, pane_total, totalled}
 use Rattle.loss_walk.specs.Gated.{gated_loss, gated_met, gated_tests, gated_walks, gated_conditions, gated_totals, gated_report_by, gated_report}
-use Rattle.loss_walk.proofs.Alike.{values_same, all_same}
 use Rattle.ordered_reports.specs.Alike.{SizedAlike, MetAlikeBy}
-use Rattle.ordered_reports.proofs.Rearranged.{sum_rearranged, there_rearranged, behind_same, front_none}
+use Rattle.ordered_reports.proofs.Rearranged.{there_rearranged, behind_same, front_none}
 
 -- ---- on entry
 

@@ -1,4 +1,4 @@
--- A list rearranged has the same sum, and the same panes in it are there; and values, tests and first causes that are the same one by one.
+-- Of a list rearranged the same panes are there; and first causes that are the same one by one.
 use mathlib.Core.Bool.{Bool, Bool-set, true, false, ◌&&◌}
 use mathlib.Core.List.{List, ◌++◌, Perm, Permᴰ}
 use mathlib.Core.Logic.{∥∥₁_elim}
@@ -13,17 +13,6 @@ use Rattle.causes.proofs.Causes.{append_first}
 use Rattle.loss.specs.Loss.{all_there}
 
 -- ---- lists rearranged
-
-sum_arranged : (f : ℕ → ℕ) {a b : List ℕ} → Permᴰ a b → sum_over f a ≡ sum_over f b
-unfolding sum_over
-sum_arranged f Permᴰ.nil = refl
-sum_arranged f (Permᴰ.cons e p) = ap₂ ◌+◌ (ap f e) (sum_arranged f p)
-sum_arranged f (Permᴰ.swap e g) = omega (arith, ap f e, ap f g)
-sum_arranged f (Permᴰ.trans p q) = sum_arranged f p ∙ sum_arranged f q
-
--- A sum over a list is the sum over the list rearranged.
-pub sum_rearranged : (f : ℕ → ℕ) (a b : List ℕ) → Perm a b → sum_over f a ≡ sum_over f b
-sum_rearranged f a b p = ∥∥₁_elim p (ℕ_set (sum_over f a) (sum_over f b)) (sum_arranged f)
 
 swapped : (x y z : Bool) → x && (y && z) ≡ y && (x && z)
 swapped true y z = refl

@@ -1,4 +1,3 @@
-pub mod Spans
 pub mod Trees
 pub mod Answered
 pub mod Ordering

@@ -50,7 +50,7 @@ use Rattle.demands.specs.Walks.{CheckedRecord, AcceptedRay}
 use Rattle.demands.proofs.Rays.{not_forged}
 use Rattle.ordered_reports.specs.Alike.{MetAlikeBy}
 use Rattle.ordered_reports.proofs.Trees.{KeepsTree, trees_alike}
-use Rattle.ordered_timed.proofs.Spans.{hull_rearranged}
+use Rattle.span.proofs.Hulls.{hull_rearranged}
 
 -- ---- walks that are not refused
 

@@ -1,6 +1,7 @@
--- Laws of the narrowest span: it holds the spans that it is over and no end of it could be nearer; of lists joined it is that of both parts.
+-- Laws of the narrowest span: it holds the spans that it is over and no end of it could be nearer; of lists joined it is that of both parts,
+-- and it does not depend on the sequence.
 use mathlib.Core.Bool.{true}
-use mathlib.Core.List.{List, [], ◌∷◌, ◌++◌}
+use mathlib.Core.List.{List, [], ◌∷◌, ◌++◌, Perm}
 use mathlib.Core.Path.{◌≡◌, refl, sym, ap, ◌∙◌}
 use Prim.Native.Nat.{ℕ, ◌≤◌, ◌<◌, min, max}
 use native.Mathlib.Decide.{dec_le}
@@ -8,6 +9,7 @@ use native.Mathlib.Omega.{arith}
 use lib.ListN.{length}
 use Rattle.lists.specs.Counts.{count}
 use Rattle.lists.proofs.Counts.{Same, equal, apart, same?, same_self}
+use Rattle.lists.proofs.Perms.{counts_perm, perm_length}
 use Rattle.lists.proofs.Tells.{Tells, told, tells_true, and_tells, leb_tells}
 use Rattle.span.specs.declared.Span.{Span}
 use Rattle.span.specs.Span.{holds, first_at, last_at, span_at}
@@ -145,4 +147,26 @@ module _ (spans : List ℕ) where
   hull_all_day ks h day =
       let first = least_one (first_at spans) 0 ks (λ k l. ap (λ (s : Span). s.first) (day k l)) h in
       let last = greatest_one (last_at spans) 95 ks (λ k l. ap (λ (s : Span). s.last) (day k l)) h in
+      λ i. record { first = first i; last = last i }
+
+  -- over more panes it is no narrower
+  hull_wider : (a b : List ℕ) → ((k : ℕ) → 0 < count k b → 0 < count k a) → 0 < length b
+      → ((hull spans a).first ≤ (hull spans b).first) × ((hull spans b).last ≤ (hull spans a).last)
+  hull_wider a b h some =
+      let n = hull_narrow b some in
+      let f = hull_wide a n.0.0 (h n.0.0 n.0.1) in
+      let l = hull_wide a n.1.0 (h n.1.0 n.1.1) in
+      (omega (arith, f.0, n.0.2), omega (arith, l.1, n.1.2))
+
+  -- of a list rearranged it is the same
+  pub hull_rearranged : (a b : List ℕ) → Perm a b → hull spans a ≡ hull spans b
+  hull_rearranged [] [] p = refl
+  hull_rearranged [] (k ∷ b) p = absurd (omega (arith, perm_length [] (k ∷ b) p))
+  hull_rearranged (j ∷ a) [] p = absurd (omega (arith, perm_length (j ∷ a) [] p))
+  hull_rearranged (j ∷ a) (k ∷ b) p =
+      let c = (counts_perm (j ∷ a) (k ∷ b)).0 p in
+      let x = hull_wider (j ∷ a) (k ∷ b) (λ q m. omega (arith, m, c q)) (omega arith) in
+      let y = hull_wider (k ∷ b) (j ∷ a) (λ q m. omega (arith, m, c q)) (omega arith) in
+      let first : (hull spans (j ∷ a)).first ≡ (hull spans (k ∷ b)).first = omega (arith, x.0, y.0) in
+      let last : (hull spans (j ∷ a)).last ≡ (hull spans (k ∷ b)).last = omega (arith, x.1, y.1) in
       λ i. record { first = first i; last = last i }

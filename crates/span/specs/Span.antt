@@ -1,7 +1,6 @@
 -- Spans of quarter hours of a day (02, [7]). A day has the quarter hours 0 to 95.
-use Rattle.std.specs.Prelude.{Bool, ◌&&◌, List, [], ◌∷◌, ℕ, ◌+◌, ◌*◌, eqb, leb, length, get_or}
+use Rattle.std.specs.Prelude.{Bool, ◌&&◌, List, ℕ, ◌+◌, ◌*◌, eqb, leb, length, get_or}
 use Rattle.lists.specs.Below.{all_below}
-use Rattle.causes.specs.Causes.{◌unless◌, first_cause}
 use Rattle.span.specs.declared.Span.{Span}
 
 -- A span holds the quarter hours from its first to its last, both included. One with first over last holds none.
@@ -35,7 +34,3 @@ span_fits s = leb s.first s.last && quarter_fits s.last
 unfoldable pub spans_fit : (panes : ℕ) → List ℕ → Bool
 unfolding all_below span_fits
 spans_fit panes spans = eqb (length spans) (2 * panes) && all_below (λ k. span_fits (span_at spans k)) panes
-
--- of a list of spans: cause 14, or 0
-abbrev pub span_cause : (panes : ℕ) → List ℕ → ℕ
-span_cause panes spans = first_cause (14 unless spans_fit panes spans ∷ [])
