@@ -124,7 +124,8 @@ module _ (table : List (List Float)) (n : ℕ) where
         let o = f.taken.fits in
         absurd
         (eqb-false (slot_of (after k) f.pair.child) 8
-        (count_none (λ c. eqb (slot_of (after k) c) 8) n (omega (arith, l, h.all, (left_after (cost_in table) n few k).children)) f.pair.child o.child)
+        (count_none (λ c. eqb (slot_of (after k) c) 8) n
+        (omega (arith, l, h.all, (left_after (cost_in table) n few k).children)) f.pair.child o.child)
         o.waits)
   ]
 

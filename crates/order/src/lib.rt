@@ -8,7 +8,8 @@ ghost use Rattle.aabb.specs.Aabb.{each, center_of};
 ghost use Rattle.order.specs.Assign.{cost_in, arrays_of, assigned_arrays};
 ghost use Rattle.order.specs.Scan.{cheaper, best_slot, best_open};
 ghost use Rattle.order.specs.Lists.{eight_of, padded};
-ghost use Rattle.order.specs.Order.{sign_of, direction_of, dot_of, direction_cost, cost_table, no_row, no_child, gathered_order, slots_of, placed, seating_of};
+ghost use Rattle.order.specs.Order.{sign_of, direction_of, dot_of, direction_cost, cost_table, no_row, no_child, gathered_order, slots_of};
+ghost use Rattle.order.specs.Order.{placed, seating_of};
 
 use aabb::Aabb;
 use ray::Vec3;
