@@ -7,9 +7,11 @@ use native.Mathlib.Omega.{arith}
 use lib.Dec.{eqb}
 use lib.Ieee.{Float}
 use lib.ListN.{length}
+use Rattle.std.specs.Prelude as P
+use Rattle.std.specs.Prelude.{Option, IfOk}
 use Rattle.causes.specs.declared.Refusal.{Refusal}
-use Rattle.causes.specs.Refusal.{cause_number}
-use Rattle.causes.proofs.Refusals.{some_number}
+use Rattle.causes.specs.Refusal.{cause_number, cause_in}
+use Rattle.causes.proofs.Refusals.{some_number, holds_of}
 use Rattle.ray.specs.declared.Beam.{Beam}
 use Rattle.ray.specs.Ray.{ray_from}
 use Rattle.gate.specs.Gates.{Gates}
@@ -18,6 +20,8 @@ use Rattle.walk_record.specs.WalkRay.{walk_ray, rays_of}
 use Rattle.walk_record.specs.Record.{FieldsFit}
 use Rattle.walk_record.specs.Walk.{query_at}
 use Rattle.walk_record.proofs.WalkRay.{gated_forged}
+use Rattle.query.specs.declared.Query.{Query}
+use Rattle.query.specs.Begun.{Begun}
 use Rattle.query.proofs.Entry.{Entered, by_cause, without_cause}
 use Rattle.query.proofs.Begins.{query_empty}
 use Rattle.query.proofs.Starts.{enters, unforged}
@@ -25,12 +29,20 @@ use Rattle.query.specs.Result.{Result, walked, entered}
 use Rattle.pane_walk.specs.Panes.{pane_cause_between}
 use Rattle.pane_walk.proofs.Queries.{Reacts}
 
--- the number of the cause that the code finds on entry, 0 for none
-pub record Starting (bytes indices : List ℕ) (panes : List Float) (b : Beam) (between cause : ℕ) : Type 0 where
-  pub is : cause ≡ pane_cause_between bytes indices panes (ray_from b) between
+-- what the code finds on entry: a cause, or where the walk begins, if there are nodes
+pub record Starting (bytes indices : List ℕ) (panes : List Float) (b : Beam) (between : ℕ) (found : P.Result (Option Query) Refusal) : Type 0 where
+  pub is : cause_in found ≡ pane_cause_between bytes indices panes (ray_from b) between
+  pub walk : IfOk found (Begun bytes (length indices) (ray_from b))
 
-module _ (g : Gates) {bytes indices : List ℕ} {panes : List Float} {b : Beam} {between cause : ℕ}
-    (s : Starting bytes indices panes b between cause) where
+module _ (g : Gates) {bytes indices : List ℕ} {panes : List Float} {b : Beam} {between : ℕ} {start : P.Result (Option Query) Refusal}
+    (s : Starting bytes indices panes b between start) where
+  abbrev cause : ℕ
+  cause = cause_in start
+
+  -- where a walk begins, or that there are no nodes
+  pub start_begun : {o q : Option Query} → start ≡ P.Ok o → o ≡ q → Begun bytes (length indices) (ray_from b) q
+  start_begun e f = holds_of (Begun bytes (length indices) (ray_from b)) s.walk e f
+
   -- without one no walker is forged by the gates, where these have it so without a cause of the query's own
   module _ (none : cause ≡ 0) (ready : between ≡ 0 → g.forged ≡ false) where
     holds : Entered (eqb (length panes % 6) 0) (length bytes) (length indices) between (ray_from b)

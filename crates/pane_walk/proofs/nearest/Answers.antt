@@ -1,18 +1,12 @@
-use Rattle.std.proofs.Common.{◌≡◌, List, ℕ, length, ap, ◌∙◌, rules}
-use Rattle.std.specs.Prelude as P
-use Rattle.std.specs.Prelude.{Option, Some}
+use Rattle.std.proofs.Common.{◌≡◌, List, ℕ, ap, ◌∙◌, rules}
 use Rattle.causes.specs.Refusal.{cause_number, cause_in}
-use Rattle.causes.proofs.Refusals.{holds_of}
-use Rattle.ray.specs.Ray.{ray_from}
 use Rattle.gate.specs.Gates.{Gates}
 use Rattle.walk.specs.Queries.{closest}
 use Rattle.walk_record.proofs.Laws.{bytes_fit}
 use Rattle.query.specs.Result.{unanswered}
 use Rattle.pane_walk.specs.Panes.{pane_of, nearer, refused_closest, closest_found, gated_closest_walked, closest_answer, closest_given}
-use Rattle.query.specs.declared.Query.{Query}
-use Rattle.query.specs.Begun.{Begun}
 use Rattle.pane_walk.proofs.Queries.{Reacts}
-use Rattle.pane_walk.proofs.Starts.{Starting, start_ready, start_refused, start_walked, start_empty}
+use Rattle.pane_walk.proofs.Starts.{Starting, start_ready, start_begun, start_refused, start_walked, start_empty}
 use Rattle.pane_walk.proofs.nearest.Goals as goal
 use Rattle.pane_walk.proofs.nearest.Goals.{After-begin}
 
@@ -21,15 +15,8 @@ module _ (g : _) (c : After-begin g) where
   gates = g.G.Gate.gates c.args.gate
 
   -- what is known where the walk begins
-  starting : let a = c.args in Starting a.«record».now a.on.indices.now a.on.panes.now a.beam (cause_in a.between) (cause_in c.begin.result)
-  starting = record { is = c.begin.ensures.value }
-
-  -- and of the walk
-  abbrev begun_by : Option Query → Type 0
-  begun_by = Begun c.args.«record».now (length c.args.on.indices.now) (ray_from c.args.beam)
-
-  begun : (o q : Option Query) → c.begin.result ≡ P.Ok o → o ≡ q → begun_by q
-  begun o q e f = holds_of begun_by c.begin.ensures.walk e f
+  starting : let a = c.args in Starting a.«record».now a.on.indices.now a.on.panes.now a.beam (cause_in a.between) c.begin.result
+  starting = record { is = c.begin.ensures.value; walk = c.begin.ensures.walk }
 
   -- what it does at a position
   abbrev react : Reacts
@@ -49,14 +36,14 @@ returns-in-None g c =
     let k = (goal.at.returns-in-None g c).After-begin in
     let fit = bytes_fit _ (λ j. (c.type_inv.record j).fits) in
     start_empty (gates g k) (starting g k) refused_closest closest_found (react g k) (ap cause_in c.in_ok-query.was) c.requires
-    (begun g k _ _ c.in_ok-query.was c.in-None.is) fit
+    (start_begun (gates g k) (starting g k) c.in_ok-query.was c.in-None.is) fit
 
 pub returns-in-Some : goal.returns-in-Some
 returns-in-Some g c =
     let k = (goal.at.returns-in-Some g c).After-begin in
     let I = c.args.on.indices.now in
     let P = c.args.on.panes.now in
-    let e : Begun c.args.«record».now (length I) (ray_from c.args.beam) (Some c.in-Some.query) = begun g k _ _ c.in_ok-query.was c.in-Some.is in
+    let e = start_begun (gates g k) (starting g k) c.in_ok-query.was c.in-Some.is in
     c.walk_closest.ensures ∙ ap (λ (b : List ℕ). gated_closest_walked (gates g k) b I P c.in-Some.query.aim.ray) e.0
     ∙ ap (gated_closest_walked (gates g k) c.args.«record».now I P) e.2
     ∙ start_walked (gates g k) (starting g k) refused_closest closest_found (react g k) (ap cause_in c.in_ok-query.was)
