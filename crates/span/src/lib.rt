@@ -66,8 +66,8 @@ pub fn span_at(spans: &[u8], k: usize) -> Span
     }
 }
 
-// Whether there is a span for each of so many panes, and each is one of a day. Each span is looked at whatever the others are, and is taken from the
-// list as one piece, so that the loop compiles to wide compares.
+// Whether there is a span for each of so many panes, and each is one of a day. Each span is looked at whatever the others are, and is loaded as one
+// number, so that the loop compiles to wide loads and compares: by single bytes these would be put into their places one after the other.
 pub fn spans_fit(panes: usize, spans: &[u8]) -> bool
     ensures { result ≡ spans_fit panes spans.now }
 {
@@ -77,7 +77,7 @@ pub fn spans_fit(panes: usize, spans: &[u8]) -> bool
     let (pairs, _) = spans.as_chunks::<BYTES>();
     let mut fit = true;
     for pair in pairs {
-        let [first, last] = *pair;
+        let [first, last] = u16::from_le_bytes(*pair).to_le_bytes();
         fit &= Span { first, last }.fits();
     }
     fit
