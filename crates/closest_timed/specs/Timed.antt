@@ -19,21 +19,21 @@ abbrev pub pane_timetable : (side indices : List ℕ) → List Float → (spans 
 pane_timetable side indices panes spans quarter = timetable side indices (length panes / 6) spans quarter
 
 module _ (bytes side indices : List ℕ) (panes : List Float) (spans : List ℕ) (quarter : ℕ) (r : Ray) where
-  abbrev pub hours_given : Timetable
-  hours_given = pane_timetable side indices panes spans quarter
+  abbrev pub pane_hours : Timetable
+  pane_hours = pane_timetable side indices panes spans quarter
 
   -- the walks
   abbrev pub closest_timed_walk : OutcomeWords WalkRay (Found Float)
-  closest_timed_walk = gated_closest_walk (gates_at hours_given) bytes indices panes r
+  closest_timed_walk = gated_closest_walk (gates_at pane_hours) bytes indices panes r
 
   abbrev pub miss_timed_walk : OutcomeWords WalkRay (Found Float)
-  miss_timed_walk = gated_miss_walk (gates_at hours_given) bytes indices panes r
+  miss_timed_walk = gated_miss_walk (gates_at pane_hours) bytes indices panes r
 
   -- the answers: causes 1, 2, 14 and 9 come before them, in this order
   unfoldable pub closest_timed_of : Result ClosestAnswer
   unfolding entry_conditions first_cause walked closest_found pane_of query_at entered timed_conditions
-  closest_timed_of = gated_closest (gates_at hours_given) bytes indices panes r (timed_cause bytes hours_given)
+  closest_timed_of = gated_closest (gates_at pane_hours) bytes indices panes r (timed_cause bytes pane_hours)
 
   unfoldable pub miss_timed_of : Result MissAnswer
   unfolding entry_conditions first_cause walked miss_found pane_of query_at entered timed_conditions
-  miss_timed_of = gated_miss (gates_at hours_given) bytes indices panes r (timed_cause bytes hours_given)
+  miss_timed_of = gated_miss (gates_at pane_hours) bytes indices panes r (timed_cause bytes pane_hours)
