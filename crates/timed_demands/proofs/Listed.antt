@@ -1,20 +1,24 @@
 -- The third demand of any-hit at a quarter hour, over every sound record, beside any side table as it is read and any lists that fit, for every
 -- accepted ray: with a list that is long enough it lists a position exactly where all boxes and spans on the way down let the ray through and the
 -- pane's own span holds the quarter hour, once each, after as many tests as nodes are reached so; and with a short one it says how many there are.
+use mathlib.Core.Bool.{true}
 use mathlib.Core.List.{List, Nodup}
 use mathlib.Core.Logic.{◌↔◌}
 use mathlib.Core.Path.{◌≡◌, sym, ap, ◌∙◌, subst}
 use Prim.Native.Nat.{ℕ, ◌*◌, ◌≤◌, ◌<◌}
+use native.Mathlib.Decide.{dec_lt}
 use native.Mathlib.Omega.{arith}
 use borrow.Author.Tests.{eq-eqb}
-use lib.ListN.{length}
+use lib.ListN.{length, get_or}
 use Rattle.lists.specs.Counts.{count}
 use Rattle.lists.proofs.Counts.{Some, none, some, some?}
-use Rattle.lists.proofs.Perms.{no_duplicates}
+use Rattle.lists.proofs.Perms.{no_duplicates, each_once}
+use Rattle.lists.proofs.Rearranged.{members_length}
 use Rattle.causes.proofs.Causes.{passed_none}
 use Rattle.causes.proofs.Sizes.{Fit}
 use Rattle.ray.specs.declared.Ray.{Ray}
 use Rattle.record_shape.specs.Record.{node_count}
+use Rattle.span.specs.Span.{quarter_fits, spans_fit}
 use Rattle.walk.specs.Listing.{In}
 use Rattle.walk.specs.Queries.{Ended}
 use Rattle.any_hit_walk.proofs.Found as F
@@ -22,11 +26,29 @@ use Rattle.timed.specs.Hours.{Timetable, gates_at}
 use Rattle.timed.specs.Walk.{timed_any_hit}
 use Rattle.timed.specs.Reached.{PassedAt}
 use Rattle.timed.proofs.Listed as T
-use Rattle.timed_entry.specs.Entry.{timed_conditions, timed_cause}
+use Rattle.timed_entry.specs.Entry.{timetable, timed_conditions, timed_cause}
 use Rattle.any_hit_timed.specs.Timed.{any_hit_timed_of, list_timed}
-use Rattle.demands.specs.Walks.{AcceptedRay}
+use Rattle.demands.specs.Walks.{CheckedRecord, AcceptedRay}
 use Rattle.demands.proofs.Rays.{not_forged}
 use Rattle.timed_demands.specs.Walks.{CheckedAt, found, LongEnough, list_left, ListsAt, TestsAt, LacksAt}
+
+-- A sound record of so many positions, and lists that fit it, at a quarter hour of a day.
+pub checked_beside : {bytes side indices : List ℕ} {panes : ℕ} {spans : List ℕ} {d : ℕ} → CheckedRecord bytes (length indices) d
+    → length side ≡ 16 * node_count bytes → spans_fit panes spans ≡ true → ((p : ℕ) → p < length indices → get_or indices p 0 < panes)
+    → (quarter : ℕ) → quarter_fits quarter ≡ true → CheckedAt bytes (timetable side indices panes spans quarter)
+checked_beside good rows fit named quarter of_day = record {
+  sound_at = record {
+    sound = good.sound;
+    nodes = good.nodes;
+    positions = good.positions;
+    are_bytes = good.are_bytes;
+    rows = rows;
+    panes = named;
+    quarter = of_day;
+  };
+  layout = good.layout;
+  spans = fit;
+}
 
 module _ {bytes : List ℕ} {h : Timetable} (good : CheckedAt bytes h) where
   pub sizes_fit_lem : Fit (length bytes) (length h.indices)
@@ -88,10 +110,28 @@ module _ {bytes : List ℕ} {h : Timetable} (good : CheckedAt bytes h) where
         let t = T.timed_tests good.sound_at (not_forged accepted) in
         record { reached = t.0; reached_once = t.1; reached_all = t.2; tests = t.3 }
 
-    -- A list without room for all positions found is refused 11 with the length needed, which is the number of those passed, and stays as it was.
-    pub timed_lacking : (before : List ℕ) → length before < length (found bytes h ray) → LacksAt bytes h ray before
+    -- A list with room for every position is long enough.
+    pub timed_listed_all : (before : List ℕ) → length h.indices ≤ length before → ListsAt bytes h ray before
+    timed_listed_all before room =
+        let most = (T.timed_meets good.sound_at (not_forged accepted)).most in
+        with_room before (omega (arith, room, most))
+
+    -- ---- a short list
+
+    -- a list of positions passed, each once, has none more often than the list of those found
+    as_often : (l : List ℕ) → Nodup l → ((p : ℕ) → In p l → PassedAt bytes h ray p) → (p : ℕ) → count p l ≤ count p (found bytes h ray)
+    as_often l once passed p = go (some? (count p l))
+      where
+        go : Some (count p l) → count p l ≤ count p (found bytes h ray)
+        go (none z) = omega (arith, z)
+        go (some z) = omega (arith, each_once l once p, (meets.0 p).1 (passed p z))
+
+    room_enough : (k : ℕ) → length (found bytes h ray) ≤ k → LongEnough bytes h ray k
+    room_enough k room l once passed = omega (arith, room, members_length l (found bytes h ray) (as_often l once passed))
+
+    without_room : (before : List ℕ) → length before < length (found bytes h ray) → LacksAt bytes h ray before
     unfolding any_hit_timed_of list_timed
-    timed_lacking before short = record {
+    without_room before short = record {
       passed = found bytes h ray;
       passed_once = found_once;
       passed_all = meets.0;
@@ -100,3 +140,11 @@ module _ {bytes : List ℕ} {h : Timetable} (good : CheckedAt bytes h) where
       kept = F.list_kept (gates_at h) bytes (length h.indices) (timed_cause bytes h) ray sizes_fit_lem no_cause accepted.accepted ends_met
           before short;
     }
+
+    -- A list that is not long enough is refused 11 with the length needed, which is the number of positions passed, and stays as it was.
+    pub timed_lacking : (before : List ℕ) → ¬ (LongEnough bytes h ray (length before)) → LacksAt bytes h ray before
+    timed_lacking before short = go (dec_lt (length before) (length (found bytes h ray)))
+      where
+        go : Dec (length before < length (found bytes h ray)) → LacksAt bytes h ray before
+        go (yes l) = without_room before l
+        go (no l) = absurd (short (room_enough (length before) (omega (arith, l))))
