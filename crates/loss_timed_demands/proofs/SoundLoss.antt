@@ -32,7 +32,7 @@ use Rattle.demands.proofs.Rays.{ray_accepted, not_forged}
 use Rattle.demands.proofs.SoundLoss.{losses_fit_lem}
 use Rattle.demands.proofs.SoundWalks.{sizes_fit_lem}
 use Rattle.timed_demands.specs.Walks.{CheckedAt, found}
-use Rattle.timed_demands.proofs.Listed.{no_cause, ends_met}
+use Rattle.timed_demands.proofs.Listed.{checked_beside, no_cause, ends_met}
 use Rattle.loss_timed_demands.specs.Loss.{TimedLossCall, hours, Loses}
 use Rattle.loss_timed_demands.specs.NotRefused.{ListsFit, RaysAt, NotRefusedAt}
 use Rattle.loss_timed_demands.specs.Report.{TimedReportCall, Reports, rays_given, single, ray_word, UnrefusedOnEntry, hours_cause}
@@ -67,19 +67,7 @@ module _ {bytes : List ℕ} {h : Timetable} (good : CheckedAt bytes h) (losses :
 checked_at : {bytes side indices : List ℕ} {panes : ℕ} {spans losses : List ℕ} {d : ℕ} → CheckedRecord bytes (length indices) d
     → ListsFit bytes side indices panes spans losses → (quarter : ℕ) → quarter_fits quarter ≡ true
     → CheckedAt bytes (timetable side indices panes spans quarter)
-checked_at good fine quarter fits = record {
-  sound_at = record {
-    sound = good.sound;
-    nodes = good.nodes;
-    positions = good.positions;
-    are_bytes = good.are_bytes;
-    rows = fine.rows;
-    panes = fine.fitting.named;
-    quarter = fits;
-  };
-  layout = good.layout;
-  spans = fine.of_day;
-}
+checked_at good fine = checked_beside good fine.rows fine.of_day fine.fitting.named
 
 -- ---- one ray
 
