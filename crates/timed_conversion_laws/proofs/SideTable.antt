@@ -10,17 +10,20 @@ use lib.Seq.{get_or-take}
 use Rattle.lists.specs.Splice.{splice}
 use Rattle.lists.proofs.Splice.{splice_taken, splice_rest}
 use Rattle.wide_layout.specs.Shape.{layout_entry}
+use Rattle.record_shape.specs.Record.{node_count}
 use Rattle.side_table.specs.SideTable.{panes_under, side_bytes, side_span}
 use Rattle.side_table.specs.Narrowest.{Narrowest}
 use Rattle.side_table.proofs.Table.{side_narrowest}
 use Rattle.bvh2_tables.specs.Call.{Call, leaf_count}
 use Rattle.bvh2_to_cwbvh.specs.Conversion.{Outcome, conversion_of}
 use Rattle.bvh2_to_cwbvh.proofs.Answers.{Converts, answered}
+use Rattle.bvh2_to_cwbvh.proofs.Sizes.{bytes-length}
 use Rattle.bvh2_to_cwbvh_timed.specs.TimedConversion.{TimedCall, defined_side, timed_conversion_of}
 use Rattle.bvh2_to_cwbvh_timed.proofs.Sizes.{table_length}
 use Rattle.bvh2_to_cwbvh_timed.proofs.Written as W
 use Rattle.bvh2_to_cwbvh_timed.proofs.Answers.{timed_no_cause, side_laid}
 use Rattle.demands.specs.Call.{Answers, record_at, list_at}
+use Rattle.demands.proofs.Answered.{record_is}
 use Rattle.timed_conversion_laws.specs.TimedCall.{TimedAnswers, timed_record_at, timed_list_at, side_at, wide_of_call}
 use Rattle.timed_conversion_laws.specs.TimedRefusals.{TimedRefusal}
 use Rattle.timed_conversion_laws.proofs.Refusals.{timed_answered_none, timed_conversion}
@@ -58,6 +61,12 @@ module _ (c : TimedCall) (m d : ℕ) (answers : TimedAnswers c m d) where
   converts : Converts call m d
   converts = answered call m d untimed_answers
 
+  -- the record has m nodes
+  pub bytes_length : length (timed_record_at c m) ≡ 80 * m
+  bytes_length =
+      ap (λ (b : List ℕ). length b) (record_as_untimed ∙ record_is call m d untimed_answers)
+      ∙ bytes-length call.words call.limit call.ordered (leaf_count call) ∙ ap (λ (k : ℕ). 80 * k) (sym converts.nodes)
+
   -- ---- the side table
   pub table_size : length (defined_side c) ≡ 16 * m
   table_size = omega (arith, converts.nodes, table_length c.spans call.indices call.words (leaf_count call) call.limit call.ordered)
@@ -68,6 +77,10 @@ module _ (c : TimedCall) (m d : ℕ) (answers : TimedAnswers c m d) where
   -- The side table of the call's tree stands in front of the slice that was lent, 16 bytes to each node,
   pub side_in_front : side_at c m ≡ defined_side c
   side_in_front = ap (take (16 * m)) laid ∙ splice_taken c.side (defined_side c) (16 * m) table_size
+
+  -- so that there is a row for each node of the record,
+  pub rows_left : length (side_at c m) ≡ 16 * node_count (timed_record_at c m)
+  rows_left = omega (arith, bytes_length, ap (λ (s : List ℕ). length s) side_in_front, table_size)
 
   -- and the bytes behind it are as they were.
   pub side_behind : drop (16 * m) (timed_conversion_of c).side ≡ drop (16 * m) c.side
