@@ -1,2 +1,3 @@
 pub mod Given
 pub mod NoOther
+pub mod SoundPanes

@@ -1,18 +1,20 @@
 -- What is claimed of closest and miss at a quarter hour (02, [7]; 01, "Walking"): that they test and meet nothing out of its hours.
-use Rattle.std.specs.Prelude.{◌≡◌, ℕ, Float, length}
-use mathlib.Core.List.{List}
+use Rattle.std.specs.Prelude.{true, ◌⊎◌, ◌↔◌, ◌≡◌, ℕ, Float, length}
+use Rattle.std.specs.Float.Ieee.{lt}
+use mathlib.Core.List.{List, Nodup}
 use Rattle.ray.specs.declared.Ray.{Ray}
+use Rattle.ray.specs.Ray.{counts, seen_at}
 use Rattle.walk.specs.Step.{Answer}
 use Rattle.walk.specs.Calls.{All, reported}
 use Rattle.walk.specs.Queries.{none, closest, miss}
-use Rattle.walk.specs.Reports.{tested_nodes}
+use Rattle.walk.specs.Reports.{tested_nodes, up_to, Nearest}
 use Rattle.query.specs.Result.{Result}
-use Rattle.pane_walk.specs.Panes.{pane_of, nearer, ClosestAnswer, hit_at, refused_closest, MissAnswer, blocked, refused_miss}
+use Rattle.pane_walk.specs.Panes.{pane_of, nearer, ClosestAnswer, hit_at, no_hit, refused_closest, MissAnswer, missed, blocked, refused_miss}
 use Rattle.timed.specs.Hours.{Timetable}
 use Rattle.timed.specs.Walk.{timed_answers}
-use Rattle.timed.specs.Reached.{ReachedBySpans, PassedBySpans}
+use Rattle.timed.specs.Reached.{ReachedBySpans, PassedBySpans, PassedAt}
 use Rattle.closest_timed.specs.Timed.{pane_timetable, closest_timed_of, miss_timed_of}
-use Rattle.demands.specs.Panes.{HitCounts}
+use Rattle.demands.specs.Panes.{HitCounts, distance_of}
 
 -- what `closest_timed` and `miss_timed` are called with
 pub record TimedPaneCall : Type 0 where
@@ -67,3 +69,34 @@ module _ (c : TimedPaneCall) where
     pub walk : WithinSpans miss_steps
     pub blocked_by : miss_for.answer ≡ blocked → (p : ℕ) × (t : Float) × MetWithin miss_steps p t
     pub tests : ((k : ℕ) → ¬ (miss_for.answer ≡ refused_miss k)) → miss_for.tests ≡ length (tested_nodes miss_steps)
+
+  -- ---- over a sound record, beside lists that fit and panes without a fault
+
+  -- the distance at which the ray enters a position's pane, and where it sees that pane: nowhere, if it enters it before its start (02, [1])
+  abbrev pub enters_at : ℕ → Float
+  enters_at = distance_of c.indices c.panes c.ray
+
+  abbrev pub sees_at : ℕ → Float
+  sees_at p = seen_at c.ray (enters_at p)
+
+  -- All boxes and spans down to position p let the ray through, its pane's own span too, so that any-hit lists it; and its pane is at a distance that
+  -- counts.
+  abbrev pub InTheWay : ℕ → Type 0
+  InTheWay p = PassedAt c.bytes hours c.ray p × (counts c.ray (enters_at p) ≡ true)
+
+  -- what both answer
+  pub record AnswersAt : Type 0 where
+    -- no refusal
+    pub closest_answers : (closest_for.answer ≡ no_hit) ⊎ ((p : ℕ) × (t : Float) × (closest_for.answer ≡ hit_at p t))
+    pub miss_answers : (miss_for.answer ≡ missed) ⊎ (miss_for.answer ≡ blocked)
+    -- A hit is the nearest position reported that is seen, the first met of equal ones, at its pane's distance.
+    pub nearest_hit : (p : ℕ) (t : Float) → closest_for.answer ≡ hit_at p t
+        → (t ≡ enters_at p) × Nearest lt sees_at c.ray.tmax (reported closest_steps) p
+    -- No position is reported twice, and each is one that all boxes and spans let through. Miss reports these too, up to the first that is seen below
+    -- the reach.
+    pub once : Nodup (reported closest_steps)
+    pub passed : All (PassedAt c.bytes hours c.ray) (reported closest_steps)
+    pub as_closest : reported miss_steps ≡ up_to (λ p. lt (sees_at p) c.ray.tmax) (reported closest_steps)
+    -- Miss is blocked exactly if closest has a hit, and exactly if some position is in the way.
+    pub blocked_hit : miss_for.answer ≡ blocked ↔ ((p : ℕ) × (t : Float) × (closest_for.answer ≡ hit_at p t))
+    pub blocked_met : miss_for.answer ≡ blocked ↔ ((p : ℕ) × InTheWay p)
