@@ -22,6 +22,7 @@ use Rattle.demands.specs.Panes.{HitCounts}
 use Rattle.demands.proofs.NearLimit.{hits_apart, blocks_apart}
 
 module _ {A N : Type 0} (refuse : ℕ → A) (found : N → ℕ → Result A) (o : OutcomeWords WalkRay N) where
+  -- a refusal, or what is found by what was noted
   pub data Gives (r : Result A) : Type 0 where
     refuses : (k : ℕ) → r ≡ unanswered (refuse k) → Gives r
     finds : r ≡ found o.accumulator o.walker.tests → Gives r

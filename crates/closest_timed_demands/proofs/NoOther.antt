@@ -48,6 +48,7 @@ module _ (c : TimedPaneCall) (are_bytes : (i : ℕ) → get_or c.bytes i 0 < 256
       → MetWithin c steps p t
   met_within steps walk p t met = record { met = met; passed = all_in (PassedBySpans c.bytes (hours c)) (reported steps) walk.reports p met.reported }
 
+  -- Closest tests and reports nothing that spans do not let through, its hit is at a position reported, and its tests are the nodes tested.
   pub closest_no_other : ClosestWithin c
   unfolding closest_timed_of
   closest_no_other =
@@ -66,6 +67,7 @@ module _ (c : TimedPaneCall) (are_bytes : (i : ℕ) → get_or c.bytes i 0 < 256
         tests = λ unrefused. given_tests refused_closest closest_found o (closest_for c) given closest_made unrefused ∙ q.2;
       }
 
+  -- So does miss, and a position reported blocks it.
   pub miss_no_other : MissWithin c
   unfolding miss_timed_of
   miss_no_other =

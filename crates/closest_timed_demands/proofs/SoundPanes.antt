@@ -2,7 +2,7 @@
 -- fault, for every accepted ray: neither is refused; miss is blocked exactly if closest has a hit, and exactly if a position that any-hit lists has
 -- its pane at a distance that counts.
 use mathlib.Core.Bool.{false}
-use mathlib.Core.List.{List, [], ◌∷◌, Nodup}
+use mathlib.Core.List.{List, [], ◌∷◌}
 use mathlib.Core.Logic.{inl, inr}
 use mathlib.Core.Path.{◌≡◌, refl, sym, ap, subst, ◌∙◌}
 use Prim.Native.Nat.{ℕ, ◌%◌, ◌<◌}
@@ -28,11 +28,11 @@ use Rattle.walk_record.specs.WalkRay.{WalkRay, walk_ray}
 use Rattle.walk_record.specs.Walk.{run_at, query_at, any_hit_at}
 use Rattle.walk_record.proofs.Demands.{SoundWalk}
 use Rattle.walk_record.proofs.Runs as R
-use Rattle.query.specs.Result.{Result}
+use Rattle.query.specs.Result.{Result, walked, entered}
 use Rattle.query.proofs.Entry.{entry_none, found_at_end}
 use Rattle.pane_walk.specs.Panes.{pane_of, nearer, pane_cause_between}
-use Rattle.pane_walk.specs.Panes.{ClosestAnswer, hit_at, no_hit, refused_closest, closest_found}
-use Rattle.pane_walk.specs.Panes.{MissAnswer, missed, blocked, refused_miss, miss_found}
+use Rattle.pane_walk.specs.Panes.{hit_at, no_hit, refused_closest, closest_found}
+use Rattle.pane_walk.specs.Panes.{missed, blocked, refused_miss, miss_found}
 use Rattle.closest.proofs.Distances.{Number, distances_ordered, met_there, panes_reached}
 use Rattle.timed.specs.Walk.{rays_at, timed_slots, timed_query, timed_calls, timed_answers}
 use Rattle.timed.specs.Reached.{PassedAt}
@@ -47,7 +47,7 @@ use Rattle.demands.proofs.NearLimit.{hits_apart, blocks_apart}
 use Rattle.timed_demands.specs.Walks.{CheckedAt, found}
 use Rattle.timed_demands.proofs.Listed as L
 use Rattle.closest_timed_demands.specs.Panes.{TimedPaneCall, closest_for, miss_for, hours}
-use Rattle.closest_timed_demands.specs.Panes.{enters_at, sees_at, InTheWay, AnswersAt}
+use Rattle.closest_timed_demands.specs.Panes.{enters_at, sees_at, ReportsAt, InTheWay, AnswersAt}
 
 module _ {c : TimedPaneCall} (good : CheckedAt c.bytes (hours c)) (fine : Panes c.indices c.panes) (accepted : AcceptedRay c.ray) where
   abbrev n : ℕ
@@ -84,9 +84,12 @@ module _ {c : TimedPaneCall} (good : CheckedAt c.bytes (hours c)) (fine : Panes 
       sym (entry_none (eqb (length c.panes % 6) 0) (length c.bytes) n (timed_cause c.bytes (hours c)) c.ray
       (eq-eqb (length c.panes % 6) 0 fine.whole) (L.sizes_fit_lem good) (L.no_cause good) accepted.accepted)
 
-  -- what it has noted, and the positions that its walk reports
+  -- what it has noted, its tests, and the positions that its walk reports
   abbrev noted : React → Found Float
   noted react = (timed_query c.bytes (hours c) react none c.ray).accumulator
+
+  abbrev made : React → ℕ
+  made react = (timed_query c.bytes (hours c) react none c.ray).walker.tests
 
   abbrev reports : React → List ℕ
   reports react = reported (timed_answers c.bytes (hours c) react none c.ray)
@@ -170,31 +173,36 @@ module _ {c : TimedPaneCall} (good : CheckedAt c.bytes (hours c)) (fine : Panes 
     seen : (p : ℕ) → Nearest lt (sees_at c) c.ray.tmax (reports near) p → (closest_for c).answer ≡ hit_at p (enters_at c p)
         → (q : ℕ) → InTheWay c q → (miss_for c).answer ≡ blocked → Outcome
 
-  closest_is : (y : Found Float) → noted near ≡ y
-      → (closest_for c).answer ≡ (closest_found y (timed_query c.bytes (hours c) near none c.ray).walker.tests).answer
-  unfolding closest_timed_of
-  closest_is y e =
-      let o = timed_query c.bytes (hours c) near none c.ray in
-      ap (λ (r : Result ClosestAnswer). r.answer)
-      (found_at_end refused_closest closest_found (pane_cause_between c.bytes c.indices c.panes c.ray (timed_cause c.bytes (hours c))) o o.ended
-      no_cause (timed_query_answered good.sound_at c.ray (not_forged accepted) near none)
-      ∙ ap (λ (z : Found Float). closest_found z o.walker.tests) e)
+  -- what a query answers by what it has noted
+  answer_is : {A : Type 0} (refuse : ℕ → A) (found_by : Found Float → ℕ → Result A) (react : React) (y : Found Float) → noted react ≡ y →
+      let o = timed_query c.bytes (hours c) react none c.ray in
+      (entered refuse (pane_cause_between c.bytes c.indices c.panes c.ray (timed_cause c.bytes (hours c))) (walked refuse found_by o o.ended)).answer
+      ≡ (found_by y o.walker.tests).answer
+  answer_is {A} refuse found_by react y e =
+      let o = timed_query c.bytes (hours c) react none c.ray in
+      ap (λ (r : Result A). r.answer)
+      (found_at_end refuse found_by (pane_cause_between c.bytes c.indices c.panes c.ray (timed_cause c.bytes (hours c))) o o.ended no_cause
+      (timed_query_answered good.sound_at c.ray (not_forged accepted) react none)
+      ∙ ap (λ (z : Found Float). found_by z o.walker.tests) e)
 
-  miss_is : (y : Found Float) → noted block ≡ y
-      → (miss_for c).answer ≡ (miss_found y (timed_query c.bytes (hours c) block none c.ray).walker.tests).answer
+  closest_is : (y : Found Float) → noted near ≡ y → (closest_for c).answer ≡ (closest_found y (made near)).answer
+  unfolding closest_timed_of
+  closest_is = answer_is refused_closest closest_found near
+
+  miss_is : (y : Found Float) → noted block ≡ y → (miss_for c).answer ≡ (miss_found y (made block)).answer
   unfolding miss_timed_of
-  miss_is y e =
-      let o = timed_query c.bytes (hours c) block none c.ray in
-      ap (λ (r : Result MissAnswer). r.answer)
-      (found_at_end refused_miss miss_found (pane_cause_between c.bytes c.indices c.panes c.ray (timed_cause c.bytes (hours c))) o o.ended
-      no_cause (timed_query_answered good.sound_at c.ray (not_forged accepted) block none)
-      ∙ ap (λ (z : Found Float). miss_found z o.walker.tests) e)
+  miss_is = answer_is refused_miss miss_found block
 
   reports_passed : (react : React) → All (PassedAt c.bytes (hours c) c.ray) (reports react)
   reports_passed react = timed_pass good.sound_at c.ray (not_forged accepted) (timed_calls c.bytes (hours c) react none c.ray)
 
-  once : Nodup (reports near)
-  once = timed_report_once good.sound_at c.ray (not_forged accepted) (timed_calls c.bytes (hours c) near none c.ray)
+  -- Closest reports no position twice, and only those that boxes and spans let through; miss the same, up to the first that is seen below the reach.
+  pub closest_and_miss_report : ReportsAt c
+  closest_and_miss_report = record {
+    once = timed_report_once good.sound_at c.ray (not_forged accepted) (timed_calls c.bytes (hours c) near none c.ray);
+    passed = reports_passed near;
+    as_closest = as_closest;
+  }
 
   outcome : Outcome
   unfolding closest_found miss_found
@@ -211,18 +219,15 @@ module _ {c : TimedPaneCall} (good : CheckedAt c.bytes (hours c)) (fine : Panes 
           (all_in (PassedAt c.bytes (hours c) c.ray) (reports block) (reports_passed block) q met, counts-seen c.ray (enters_at c q) ∙ B.below)
           (miss_is (hit q (sees_at c q)) f)
 
-  -- Neither is refused; `AnswersAt` says in full what they answer.
-  pub closest_and_miss : AnswersAt c
-  closest_and_miss = go outcome
+  -- Neither is refused, and miss is blocked exactly if closest has a hit, and exactly if a position is in the way; `AnswersAt` says it in full.
+  pub closest_and_miss_answer : AnswersAt c
+  closest_and_miss_answer = go outcome
     where
       go : Outcome → AnswersAt c
       go (clear h a b) = record {
         closest_answers = inl a;
         miss_answers = inl b;
         nearest_hit = λ p t e. hits_apart p t (sym a ∙ e);
-        once = once;
-        passed = reports_passed near;
-        as_closest = as_closest;
         blocked_hit = (λ e. blocks_apart (sym b ∙ e), λ q. hits_apart q.0 q.1 (sym a ∙ q.2));
         blocked_met = (
           λ e. blocks_apart (sym b ∙ e),
@@ -239,9 +244,6 @@ module _ {c : TimedPaneCall} (good : CheckedAt c.bytes (hours c)) (fine : Panes 
             let at : p ≡ x = cc in
             let by : enters_at c p ≡ t = cc in
             (sym by ∙ ap (enters_at c) at, subst (Nearest lt (sees_at c) c.ray.tmax (reports near)) at M);
-        once = once;
-        passed = reports_passed near;
-        as_closest = as_closest;
         blocked_hit = (λ e. (p, enters_at c p, a), λ e. b);
         blocked_met = (λ e. (q, w), λ e. b);
       }

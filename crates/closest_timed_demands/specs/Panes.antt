@@ -79,6 +79,14 @@ module _ (c : TimedPaneCall) where
   abbrev pub sees_at : ℕ → Float
   sees_at p = seen_at c.ray (enters_at p)
 
+  -- what their walks report
+  pub record ReportsAt : Type 0 where
+    -- Closest reports no position twice, and only those that all boxes and spans let through.
+    pub once : Nodup (reported closest_steps)
+    pub passed : All (PassedAt c.bytes hours c.ray) (reported closest_steps)
+    -- Miss reports the same, up to the first that is seen below the reach.
+    pub as_closest : reported miss_steps ≡ up_to (λ p. lt (sees_at p) c.ray.tmax) (reported closest_steps)
+
   -- All boxes and spans down to position p let the ray through, its pane's own span too, so that any-hit lists it; and its pane is at a distance that
   -- counts.
   abbrev pub InTheWay : ℕ → Type 0
@@ -92,11 +100,6 @@ module _ (c : TimedPaneCall) where
     -- A hit is the nearest position reported that is seen, the first met of equal ones, at its pane's distance.
     pub nearest_hit : (p : ℕ) (t : Float) → closest_for.answer ≡ hit_at p t
         → (t ≡ enters_at p) × Nearest lt sees_at c.ray.tmax (reported closest_steps) p
-    -- No position is reported twice, and each is one that all boxes and spans let through. Miss reports these too, up to the first that is seen below
-    -- the reach.
-    pub once : Nodup (reported closest_steps)
-    pub passed : All (PassedAt c.bytes hours c.ray) (reported closest_steps)
-    pub as_closest : reported miss_steps ≡ up_to (λ p. lt (sees_at p) c.ray.tmax) (reported closest_steps)
     -- Miss is blocked exactly if closest has a hit, and exactly if some position is in the way.
     pub blocked_hit : miss_for.answer ≡ blocked ↔ ((p : ℕ) × (t : Float) × (closest_for.answer ≡ hit_at p t))
     pub blocked_met : miss_for.answer ≡ blocked ↔ ((p : ℕ) × InTheWay p)
