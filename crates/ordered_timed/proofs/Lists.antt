@@ -23,13 +23,11 @@ use Rattle.timed_entry.specs.Entry.{timed_conditions, timed_cause}
 use Rattle.bvh2_to_cwbvh_timed.specs.TimedConversion.{TimedCall, panes_fit}
 use Rattle.demands.specs.Call.{leaf_count}
 use Rattle.demands.specs.Walks.{AcceptedRay}
-use Rattle.ordered_reports.proofs.Ordering.{record_length}
 use Rattle.timed_conversion_laws.specs.TimedCall.{TimedAnswers, timed_record_at, timed_list_at, side_at, timetable_left}
 use Rattle.timed_conversion_laws.proofs.Refusals.{panes_pass}
-use Rattle.timed_conversion_laws.proofs.SideTable.{no_refusal, untimed_answers, record_as_untimed}
+use Rattle.timed_conversion_laws.proofs.SideTable.{no_refusal, rows_left}
 use Rattle.ordered_timed.specs.TimedOrdering.{SameTimedTree, positions_met_at, AllFitAt, SameListsAt}
 use Rattle.ordered_timed.proofs.Ordering.{second_timed, by_second_timed, second_answers, timed_sized, timed_met}
-use Rattle.ordered_timed.proofs.Queries.{side_room}
 
 module _ (c : TimedCall) (m d : ℕ) (answers : TimedAnswers c m d) (quarter : ℕ) (fits : quarter_fits quarter ≡ true) where
   abbrev h : Timetable
@@ -40,11 +38,8 @@ module _ (c : TimedCall) (m d : ℕ) (answers : TimedAnswers c m d) (quarter : �
   unfolding timed_conditions panes_fit
   no_hours_cause =
       let spans = (both_pass (spans_fit c.panes c.spans) (all_below _ (length c.untimed.indices)) (panes_pass c (no_refusal c m d answers 14))).0 in
-      let bytes : length (timed_record_at c m) ≡ 80 * m =
-      ap length (record_as_untimed c m d answers) ∙ record_length c.untimed m d (untimed_answers c m d answers) in
-      let rows : length (side_at c m) ≡ 16 * node_count (timed_record_at c m) = omega (arith, side_room c m d answers, bytes) in
       passed_none (timed_conditions (timed_record_at c m) h)
-      (spans, (eq-eqb (length (side_at c m)) (16 * node_count (timed_record_at c m)) rows, (fits, tt)))
+      (spans, (eq-eqb (length (side_at c m)) (16 * node_count (timed_record_at c m)) (rows_left c m d answers), (fits, tt)))
 
   -- so any-hit leaves the positions met in front of a list that has room
   left_is : (long : length (timed_list_at c) ≡ leaf_count c.untimed) (sizes : Fit (length (timed_record_at c m)) (leaf_count c.untimed)) {ray : Ray}

@@ -46,7 +46,7 @@ quarter_in : (bytes : List ℕ) (h : Timetable) → timed_cause bytes h ≡ 0 �
 quarter_in bytes h e = not_false_true (quarter_fits h.quarter) (timed_begun bytes h e)
 
 -- as many bytes of side table as the record has nodes
-pub side_room : (c : TimedCall) (m d : ℕ) → TimedAnswers c m d → length (side_at c m) ≡ 16 * m
+side_room : (c : TimedCall) (m d : ℕ) → TimedAnswers c m d → length (side_at c m) ≡ 16 * m
 side_room c m d answers = ap length (side_in_front c m d answers) ∙ table_size c m d answers
 
 module _ (a b : TimedCall) (same : SameTimedTree a b) (m d : ℕ) (answers : TimedAnswers a m d) (others : TimedAnswers (second_timed a b same) m d)
