@@ -5,4 +5,5 @@ pub mod Nodes
 pub mod Refusals
 pub mod Panes
 pub mod Steps
+pub mod Losses
 pub mod TimedSamples

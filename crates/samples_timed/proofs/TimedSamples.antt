@@ -7,6 +7,7 @@ use Rattle.samples_timed.proofs.Nodes.{nodes}
 use Rattle.samples_timed.proofs.Refusals.{refusals}
 use Rattle.samples_timed.proofs.Panes.{panes}
 use Rattle.samples_timed.proofs.Steps.{steps}
+use Rattle.samples_timed.proofs.Losses.{losses}
 
 pub timed_samples : TimedSamples
 timed_samples = record {
@@ -17,4 +18,5 @@ timed_samples = record {
   refusals = refusals;
   panes = panes;
   steps = steps;
+  losses = losses;
 }

@@ -1,2 +1,3 @@
 pub mod Screens
+pub mod Losses
 pub mod TimedSamples

@@ -1,14 +1,20 @@
 -- What the samples of quarter hours (02, [7]) are given: of T and two other trees the panes' spans, the side tables of these, and the lists of a walk
 -- at a quarter hour; and calls of the timed conversion.
 use Rattle.std.specs.Prelude.{false, List, [], ◌∷◌, ◌++◌, ℕ, length, take, drop, replicate}
+use Rattle.std.specs.Float.{nan}
 use Rattle.float.specs.Compare.{plus_zero}
+use Rattle.ray.specs.declared.Ray.{Ray}
 use Rattle.bvh2_tables.specs.Call.{Call}
 use Rattle.bvh2_to_cwbvh.specs.Conversion.{ConversionAnswer, refused}
 use Rattle.bvh2_to_cwbvh_timed.specs.TimedConversion.{TimedOutcome, timed_conversion_of}
 use Rattle.timed.specs.Hours.{Timetable}
 use Rattle.timed_entry.specs.Entry.{timetable}
-use Rattle.samples.specs.TreeT.{number, words_t, indices_t, bytes_t}
+use Rattle.samples.specs.TreeT.{number, words_t, indices_t, bytes_t, ray_along}
 use Rattle.samples.specs.Ordering.{row_node}
+
+-- the samples' ray with a reach that is no number
+abbrev pub ahead_nan : Ray
+ahead_nan = ray_along (number 0) nan
 
 -- ---- spans and their table
 

@@ -1,8 +1,6 @@
 -- The samples of quarter hours (02, [7]) over T and two other trees: side tables, what the samples' ray meets at a quarter hour, and the places of
 -- cause 14. The files of `proofs/` compute them.
 use Rattle.std.specs.Prelude.{◌≡◌, true, false, List, [], ◌∷◌, ◌++◌, ℕ, zero, suc, take, replicate}
-use Rattle.std.specs.Float.{nan}
-use Rattle.ray.specs.declared.Ray.{Ray}
 use Rattle.node.specs.Node.{node_at}
 use Rattle.node_slot.specs.Mask.{passes_open}
 use Rattle.bvh2_to_cwbvh.specs.Conversion.{converted, refused, record_of, index_list_of, conversion_of}
@@ -20,15 +18,16 @@ use Rattle.timed_entry.specs.Entry.{timetable}
 use Rattle.any_hit_timed.specs.Timed.{any_hit_timed_of, list_timed}
 use Rattle.closest_timed.specs.Timed.{closest_timed_of, miss_timed_of}
 use Rattle.traverse_timed.specs.Walker.{TimedWords, TimedSteppedWords, timed_started, not_begun, timed_step_bytes}
-use Rattle.samples.specs.TreeT.{number, words_t, indices_t, panes_t, bytes_t, ray_along}
+use Rattle.samples.specs.TreeT.{number, words_t, indices_t, panes_t, bytes_t}
 use Rattle.samples.specs.Samples.{ahead}
 use Rattle.samples.specs.Joins.{root_linked}
 use Rattle.samples.specs.Ordering.{nine_leaves, nine_indices}
 use Rattle.samples.specs.Further.{closest_is, miss_is}
-use Rattle.samples_timed.specs.Screens.{spans_t, turned_spans, row, side_t, with_spans, hours_t, with_side}
+use Rattle.samples_timed.specs.Screens.{ahead_nan, spans_t, turned_spans, row, side_t, with_spans, hours_t, with_side}
 use Rattle.samples_timed.specs.Screens.{words_pair, bytes_pair, indices_pair, spans_pair, side_pair, pair_at}
 use Rattle.samples_timed.specs.Screens.{spans_nine, side_nine, list_nine, nine_at}
 use Rattle.samples_timed.specs.Screens.{sevens, call_of, call_t, timed_end, timed_answer, turned_box, cleared_end}
+use Rattle.samples_timed.specs.Losses.{TimedLosses}
 
 -- ---- conversion
 
@@ -82,10 +81,6 @@ any_hit_is count tests = record { answer = listed count; tests = tests }
 
 abbrev pub any_hit_refused : ℕ → Result AnyHitAnswer
 any_hit_refused number = record { answer = A.refused number; tests = 0 }
-
--- the samples' ray with a reach that is no number
-abbrev pub ahead_nan : Ray
-ahead_nan = ray_along (number 0) nan
 
 pub record TimedAnyHits : Type 0 where
   -- at 40, 61, 70 and 10, each by one test
@@ -191,3 +186,4 @@ pub record TimedSamples : Type 0 where
   pub refusals : TimedRefusals
   pub panes : TimedPanes
   pub steps : TimedSteps
+  pub losses : TimedLosses
