@@ -31,12 +31,12 @@ abbrev pub all_day : List ℕ
 all_day = 0 ∷ 95 ∷ 0 ∷ 95 ∷ []
 
 -- a node's row of a side table: the spans of slots 0 and 1, and nothing in the others
-abbrev pub row : (first_0 last_0 first_1 last_1 : ℕ) → List ℕ
-row first_0 last_0 first_1 last_1 = first_0 ∷ last_0 ∷ first_1 ∷ last_1 ∷ replicate 12 0
+abbrev pub row_of_two : (first_0 last_0 first_1 last_1 : ℕ) → List ℕ
+row_of_two first_0 last_0 first_1 last_1 = first_0 ∷ last_0 ∷ first_1 ∷ last_1 ∷ replicate 12 0
 
 -- T's: 203f3c5f and 24 zero digits
 abbrev pub side_t : List ℕ
-side_t = row 32 63 60 95
+side_t = row_of_two 32 63 60 95
 
 -- T's lists at a quarter hour, with these spans
 abbrev pub with_spans : List ℕ → ℕ → Timetable
@@ -68,7 +68,7 @@ abbrev pub spans_pair : List ℕ
 spans_pair = 0 ∷ 10 ∷ 90 ∷ 95 ∷ 48 ∷ 48 ∷ []
 
 abbrev pub side_pair : List ℕ
-side_pair = row 0 95 48 48
+side_pair = row_of_two 0 95 48 48
 
 abbrev pub pair_at : ℕ → Timetable
 pair_at quarter = timetable side_pair indices_pair 3 spans_pair quarter
@@ -82,7 +82,7 @@ spans_nine = 0 ∷ 9 ∷ 10 ∷ 19 ∷ 20 ∷ 29 ∷ 30 ∷ 39 ∷ 40 ∷ 49 ∷
 
 -- slot 0 from 0 to 19 and the other panes' own spans behind it; then the second node's row
 abbrev pub side_nine : List ℕ
-side_nine = (0 ∷ 19 ∷ drop 4 spans_nine) ++ row 0 9 10 19
+side_nine = (0 ∷ 19 ∷ drop 4 spans_nine) ++ row_of_two 0 9 10 19
 
 abbrev pub list_nine : List ℕ
 list_nine = 2 ∷ 3 ∷ 4 ∷ 5 ∷ 6 ∷ 7 ∷ 8 ∷ 0 ∷ 1 ∷ []

@@ -23,7 +23,7 @@ use Rattle.samples.specs.Samples.{ahead}
 use Rattle.samples.specs.Joins.{root_linked}
 use Rattle.samples.specs.Ordering.{nine_leaves, nine_indices}
 use Rattle.samples.specs.Further.{closest_is, miss_is}
-use Rattle.samples_timed.specs.Screens.{ahead_nan, spans_t, turned_spans, row, side_t, with_spans, hours_t, with_side}
+use Rattle.samples_timed.specs.Screens.{ahead_nan, spans_t, turned_spans, row_of_two, side_t, with_spans, hours_t, with_side}
 use Rattle.samples_timed.specs.Screens.{words_pair, bytes_pair, indices_pair, spans_pair, side_pair, pair_at}
 use Rattle.samples_timed.specs.Screens.{spans_nine, side_nine, list_nine, nine_at}
 use Rattle.samples_timed.specs.Screens.{sevens, call_of, call_t, timed_end, timed_answer, turned_box, cleared_end}
@@ -100,8 +100,9 @@ pub record TimedAnyHits : Type 0 where
   pub pair_at_0 : list_timed bytes_pair (pair_at 0) ahead (sevens 3) ≡ 0 ∷ 7 ∷ 7 ∷ []
   pub pair_at_95 : list_timed bytes_pair (pair_at 95) ahead (sevens 3) ≡ 1 ∷ 7 ∷ 7 ∷ []
   -- a side table is used as it is read: a slot from 0 to 255, and one from 95 to 0
-  pub read_wide : listed_t (with_side (row 0 255 0 255) 40) ≡ 1 ∷ 0 ∷ 7 ∷ []
-  pub read_turned : (any_hit_t (with_side (row 0 255 95 0) 40) ≡ any_hit_is 1 1) × (listed_t (with_side (row 0 255 95 0) 40) ≡ 0 ∷ 7 ∷ 7 ∷ [])
+  pub read_wide : listed_t (with_side (row_of_two 0 255 0 255) 40) ≡ 1 ∷ 0 ∷ 7 ∷ []
+  pub read_turned : (any_hit_t (with_side (row_of_two 0 255 95 0) 40) ≡ any_hit_is 1 1)
+      × (listed_t (with_side (row_of_two 0 255 95 0) 40) ≡ 0 ∷ 7 ∷ 7 ∷ [])
   -- an index word past the panes: met, and behind a slot that is not passed
   pub no_pane : any_hit_t (timetable side_t (0 ∷ 2 ∷ []) 2 spans_t 61) ≡ any_hit_refused 10
   pub no_pane_unmet : any_hit_t (timetable side_t (0 ∷ 2 ∷ []) 2 spans_t 40) ≡ any_hit_is 1 1
@@ -143,8 +144,8 @@ pub record TimedPanes : Type 0 where
   pub miss_at_40 : miss_timed_of bytes_t side_t indices_t panes_t spans_t 40 ahead ≡ miss_is blocked 1
   pub miss_at_10 : miss_timed_of bytes_t side_t indices_t panes_t spans_t 10 ahead ≡ miss_is missed 1
   -- a box that is not accepted, of a pane that is not drawn, whose slot is passed
-  pub bad_box_undrawn : closest_timed_of bytes_t (row 32 63 0 95) indices_t (take 6 panes_t ++ (number 1 ∷ replicate 5 (number 0))) spans_t 40 ahead
-      ≡ closest_is (hit_at 0 (number 1)) 1
+  pub bad_box_undrawn : closest_timed_of bytes_t (row_of_two 32 63 0 95) indices_t (take 6 panes_t ++ (number 1 ∷ replicate 5 (number 0)))
+      spans_t 40 ahead ≡ closest_is (hit_at 0 (number 1)) 1
   pub bad_box_drawn : closest_timed_of bytes_t side_t indices_t (take 6 panes_t ++ (number 1 ∷ replicate 5 (number 0))) spans_t 61 ahead
       ≡ closest_is (refused_closest 6) 0
 
