@@ -1,6 +1,5 @@
 //! Stored losses: reports over records and rays, with the single call's answer for each ray. On converted records the positions are
 //! the published any-hit's, and all sums must be those of the rules; damaged calls are answered by the rules.
-use crate::accept::accepted_ray;
 use crate::checks::damage;
 use crate::convert::convert;
 use crate::generate::{Boxes, Shape, tree};
@@ -8,7 +7,7 @@ use crate::long::{along, row};
 use crate::loss::{Call, MOST_LOSS};
 use crate::loss_sizes;
 use crate::odd::{diagonal, ladder};
-use crate::queries::{aimed, odd_ray, queried_tree};
+use crate::queries::{aimed, odd_ray, queried_tree, refused_ray};
 use crate::rng::Rng;
 use crate::scene::{Scene, endless, ray_words, through_t};
 use crate::store::*;
@@ -159,16 +158,6 @@ fn meeting(rng: &mut Rng) -> (Call, Vec<u32>) {
         let met = positions(&call, 2);
         if met.len() > 2 && call.loss(&rays[2]).tests > 1 && !positions(&call, 0).is_empty() {
             return (call, met);
-        }
-    }
-}
-
-/// A ray that is refused 9.
-pub fn refused_ray(rng: &mut Rng, r: &Ray) -> Ray {
-    loop {
-        let odd = odd_ray(rng, r);
-        if !accepted_ray(&odd) {
-            return odd;
         }
     }
 }

@@ -99,6 +99,16 @@ pub fn odd_ray(rng: &mut Rng, r: &Ray) -> Ray {
     }
 }
 
+/// A ray that is refused 9.
+pub fn refused_ray(rng: &mut Rng, r: &Ray) -> Ray {
+    loop {
+        let odd = odd_ray(rng, r);
+        if !accepted_ray(&odd) {
+            return odd;
+        }
+    }
+}
+
 /// Words to lend for so many positions: a word for each that there is, or just enough, or some more, or too few.
 pub fn room(rng: &mut Rng, n: usize, needed: usize) -> usize {
     match rng.below(8) {
