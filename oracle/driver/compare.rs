@@ -8,7 +8,7 @@ use crate::generate::{BOXES, Shape, tree};
 use crate::calls::{agreed_walk, told};
 use crate::join::{self, Seen};
 use crate::join_draws::{CAUSES, drawn, small, some_panes, spoil};
-use crate::loss::Call;
+use crate::loss::{Call, Reported};
 use crate::ordering::Orders;
 use crate::queries::{aimed, scene};
 use crate::record::{Verdict, check};

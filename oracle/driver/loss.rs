@@ -55,6 +55,43 @@ pub struct Report {
     pub panes: Vec<u64>,
 }
 
+/// A call, untimed or at quarter hours, with its answers by the rules and by the published any-hit.
+pub trait Reported: Clone {
+    /// Its untimed part.
+    fn plain(&self) -> &Call;
+
+    /// A report by the rules.
+    fn report(&self) -> Report;
+
+    /// The single call for ray k by the rules.
+    fn loss(&self, k: usize) -> RayLoss;
+
+    /// What the published any-hit lists of ray k, where nothing is refused.
+    fn any_hit(&self, k: usize) -> Answer;
+
+    fn case(&self) -> Vec<u32>;
+
+    /// The single calls of all whole rays by the rules.
+    fn singles(&self) -> Vec<RayLoss> {
+        (0..self.plain().count()).map(|k| self.loss(k)).collect()
+    }
+
+    /// The report that nothing refuses: over any-hit's lists it must be the rules' one, and so must each single loss.
+    fn agreed(&self) -> Report {
+        let (report, singles) = self.plain().totalled(|k| self.any_hit(k));
+        assert_eq!(report, self.report());
+        assert_eq!(singles, self.singles());
+        report
+    }
+
+    /// Unless refused the totals of rays and of panes, two words each; for each whole ray the single call's number, sum in two words,
+    /// and tests.
+    fn answers(&self, r: &Report) -> Vec<u32> {
+        let totals = r.rays.iter().chain(&r.panes).flat_map(|&total| two_words(total));
+        totals.chain(self.singles().iter().flat_map(|single| single.words())).collect()
+    }
+}
+
 /// Losses of panes: all 0 or all the most, small ones, corners, or any.
 fn some_losses(rng: &mut Rng, panes: usize) -> Vec<u32> {
     let kind = rng.below(6);
@@ -157,20 +194,6 @@ impl Call {
         }
     }
 
-    /// The single call by the rules.
-    pub fn loss(&self, ray: &Ray) -> RayLoss {
-        match self.loss_lists() {
-            0 if !accepted_ray(ray) => RayLoss { refusal: 9, ..Default::default() },
-            0 => self.lost(walk::begun(&self.record, self.list.len(), ray)),
-            refusal => RayLoss { refusal, ..Default::default() },
-        }
-    }
-
-    /// The single calls of all whole rays by the rules.
-    pub fn singles(&self) -> Vec<RayLoss> {
-        self.ray_list().iter().map(|r| self.loss(r)).collect()
-    }
-
     /// A report by the walks of its rays.
     pub fn reported<W: Walking>(&self, walk: impl Fn(usize) -> W) -> Report {
         let mut all = Report { panes: vec![0; self.panes], ..Default::default() };
@@ -187,18 +210,6 @@ impl Call {
             all.rays.push(sum);
         }
         all
-    }
-
-    /// A report by the rules.
-    pub fn report(&self) -> Report {
-        match self.report_lists() {
-            0 => {}
-            refusal => return Report { refusal, ..Default::default() },
-        }
-        match self.ray_cause() {
-            0 => self.reported(|k| walk::begun(&self.record, self.list.len(), &self.ray(k))),
-            refusal => Report { refusal, ..Default::default() },
-        }
     }
 
     /// A ray's loss over the positions that any-hit lists, and how often it meets each pane: the losses are added in walk order, in
@@ -235,15 +246,6 @@ impl Call {
         (Report { refusal: 0, tests, rays, panes }, singles)
     }
 
-    /// The report that nothing refuses: by the published any-hit it must be the rules' one, and so must each single loss.
-    pub fn agreed(&self) -> Report {
-        let bvh = bvh_of(&self.record, &self.list);
-        let (report, singles) = self.totalled(|k| query::any_hit(&bvh, self.ray(k)));
-        assert_eq!(report, self.report());
-        assert_eq!(singles, self.singles());
-        report
-    }
-
     /// Bytes of the record, index words, panes, losses, floats of rays, words lent for the totals of rays, and of panes; the
     /// report's number, and its tests in two words.
     fn head(&self, r: &Report) -> Vec<u32> {
@@ -251,16 +253,44 @@ impl Call {
         let sizes = [record, list, self.panes, losses, rays, self.ray_room, self.pane_room];
         sizes.iter().map(|&x| x as u32).chain([r.refusal]).chain(two_words(r.tests)).collect()
     }
+}
 
-    /// These; record, index words, losses, floats of rays; unless refused the totals of rays and of panes, two words each; for each
-    /// whole ray the single call's number, sum in two words, and tests.
-    pub fn case(&self) -> Vec<u32> {
+impl Reported for Call {
+    fn plain(&self) -> &Call {
+        self
+    }
+
+    fn report(&self) -> Report {
+        match self.report_lists() {
+            0 => {}
+            refusal => return Report { refusal, ..Default::default() },
+        }
+        match self.ray_cause() {
+            0 => self.reported(|k| walk::begun(&self.record, self.list.len(), &self.ray(k))),
+            refusal => Report { refusal, ..Default::default() },
+        }
+    }
+
+    fn loss(&self, k: usize) -> RayLoss {
+        let ray = self.ray(k);
+        match self.loss_lists() {
+            0 if !accepted_ray(&ray) => RayLoss { refusal: 9, ..Default::default() },
+            0 => self.lost(walk::begun(&self.record, self.list.len(), &ray)),
+            refusal => RayLoss { refusal, ..Default::default() },
+        }
+    }
+
+    fn any_hit(&self, k: usize) -> Answer {
+        query::any_hit(&bvh_of(&self.record, &self.list), self.ray(k))
+    }
+
+    /// The words of `head`; record, index words, losses, floats of rays; and the words of `answers`.
+    fn case(&self) -> Vec<u32> {
         let r = self.report();
         let mut w = self.head(&r);
         w.extend(words_of(&self.record));
         [&self.list, &self.losses, &self.rays].iter().for_each(|words| w.extend(*words));
-        r.rays.iter().chain(&r.panes).for_each(|&total| w.extend(two_words(total)));
-        self.singles().iter().for_each(|s| w.extend(s.words()));
+        w.extend(self.answers(&r));
         w
     }
 }

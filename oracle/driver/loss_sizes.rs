@@ -2,7 +2,7 @@
 //! or one ray, all through, so that neither the lists nor the totals need be stored.
 use crate::accept::{MOST_LEAVES, MOST_NODES};
 use crate::causes::put_last_positions;
-use crate::loss::{Call, MOST_LOSS, MOST_RAYS, RayLoss, Report, two_words};
+use crate::loss::{Call, MOST_LOSS, MOST_RAYS, RayLoss, Report, Reported, two_words};
 use crate::losses::{sample, sample_rays};
 use crate::scene::ray_words;
 use crate::store::*;
@@ -143,7 +143,7 @@ impl Alike {
         let sizes = [self.bytes, self.positions, self.panes, self.losses, self.floats, self.ray_room, self.pane_room];
         let mut w: Vec<u32> = sizes.iter().map(|&x| x as u32).collect();
         w.extend([self.index, self.loss]);
-        w.extend(self.answers(&r, call.loss(&self.ray)));
+        w.extend(self.answers(&r, call.loss(0)));
         w
     }
 }

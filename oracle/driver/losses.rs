@@ -1,17 +1,16 @@
 //! Stored losses: reports over records and rays, with the single call's answer for each ray. On converted records the positions are
 //! the published any-hit's, and all sums must be those of the rules; damaged calls are answered by the rules.
+use crate::causes::small_tree;
 use crate::checks::damage;
-use crate::convert::convert;
-use crate::generate::{Boxes, Shape, tree};
 use crate::long::{along, row};
-use crate::loss::{Call, MOST_LOSS};
+use crate::loss::{Call, MOST_LOSS, Reported};
 use crate::loss_sizes;
 use crate::odd::{diagonal, ladder};
 use crate::queries::{aimed, odd_ray, queried_tree, refused_ray};
 use crate::rng::Rng;
 use crate::scene::{Scene, endless, ray_words, through_t};
 use crate::store::*;
-use crate::walk;
+use crate::tree::Tree;
 use crate::zeros::Share;
 use obvhs::ray::Ray;
 use std::collections::BTreeSet;
@@ -52,18 +51,24 @@ pub fn lend_more(rng: &mut Rng, c: &mut Call) {
     c.pane_room += more();
 }
 
-/// Rays over converted trees: a few, or none, or some dozen.
-fn drawn(rng: &mut Rng, g: &mut Group, share: &mut Share, trees: usize) {
-    for k in 0..trees {
-        let Some((t, c)) = queried_tree(rng, k) else { continue };
+/// A call over a converted tree with these rays, and slices that are just long enough or longer.
+pub fn drawn(rng: &mut Rng, k: usize, rays: impl Fn(&mut Rng, &Tree, &[u8]) -> Vec<Ray>) -> Option<Call> {
+    let (t, c) = queried_tree(rng, k)?;
+    let rays = rays(rng, &t, &c.record);
+    let mut call = Call::new(rng, &c.record, &c.list, &rays);
+    lend_more(rng, &mut call);
+    Some(call)
+}
+
+/// A few rays for a call, or none; or, of the eighth, some dozen. Notes which of them meet something.
+fn noted(rng: &mut Rng, k: usize, share: &mut Share) -> Option<Call> {
+    let call = drawn(rng, k, |rng, t, record| {
         let count = if k == 7 { 60 } else { rng.pick(&[0, 1, 2, 4, 6, 8]) };
-        let rays: Vec<Ray> = (0..count).map(|_| aimed(rng, &t, &c.record)).collect();
-        let mut call = Call::new(rng, &c.record, &c.list, &rays);
-        lend_more(rng, &mut call);
-        call.agreed();
-        rays.iter().enumerate().for_each(|(i, r)| share.note(r, !positions(&call, i).is_empty()));
-        g.add(call.case());
-    }
+        (0..count).map(|_| aimed(rng, t, record)).collect()
+    })?;
+    call.agreed();
+    (0..call.count()).for_each(|i| share.note(&call.ray(i), !call.any_hit(i).found.is_empty()));
+    Some(call)
 }
 
 /// T's two samples of one ray and of two; both index words the same; rays with tmin and with -0.0.
@@ -80,23 +85,27 @@ fn of_t(g: &mut Group) {
     }
 }
 
-/// No rays, no panes, no nodes, and all of these together; with panes or without, with index words or without.
-fn none_of_something(g: &mut Group) {
-    let t = sample(&[]).record;
-    for record in [vec![], t] {
-        for list in [vec![], vec![0, 1]] {
-            for panes in [0, 2, 3] {
-                for rays in [vec![], vec![past_t()], vec![past_t(), sample_rays()[1], sample_rays()[0]]] {
-                    let (record, list, losses) = (record.clone(), list.clone(), vec![700; panes]);
-                    let call = Call { record, list, panes, losses, ..Default::default() }.with_rays(&rays);
-                    if call.report().refusal == 0 {
-                        call.agreed();
-                    }
-                    g.add(call.case());
+/// No nodes or T's, with each of these index words, counts of panes and rays; those that nothing refuses are compared with the published
+/// code.
+pub fn few_of_each<C: Reported>(g: &mut Group, lists: &[&[u32]], panes: &[usize], rays: &[&[Ray]], of: impl Fn(Call) -> C) {
+    for record in [vec![], sample(&[]).record] {
+        for (list, panes) in lists.iter().flat_map(|&list| panes.iter().map(move |&panes| (list, panes))) {
+            for rays in rays {
+                let (record, losses) = (record.clone(), vec![700; panes]);
+                let call = of(Call { record, list: list.to_vec(), panes, losses, ..Default::default() }.with_rays(rays));
+                if call.report().refusal == 0 {
+                    call.agreed();
                 }
+                g.add(call.case());
             }
         }
     }
+}
+
+/// No rays, no panes, no nodes, and all of these together; with panes or without, with index words or without.
+fn none_of_something(g: &mut Group) {
+    let [ray, short] = sample_rays();
+    few_of_each(g, &[&[], &[0, 1]], &[0, 2, 3], &[&[], &[past_t()], &[past_t(), short, ray]], |plain| plain);
 }
 
 /// Losses at and past the most, for the first pane and for the last.
@@ -130,36 +139,38 @@ fn over_32_bits(rng: &mut Rng) -> Vec<u32> {
 /// A record each of whose nodes counts its positions from 0 on, so that a ray meets one several times.
 fn met_again(rng: &mut Rng) -> Vec<u32> {
     loop {
-        let mut call = meeting(rng).0;
+        let mut call = untimed(rng).0;
         (0..call.record.len() / 80).for_each(|i| call.record[80 * i + 20..80 * i + 24].fill(0));
         let r = call.agreed();
-        let met = positions(&call, 2);
+        let met = call.any_hit(2).found;
         if met.iter().collect::<BTreeSet<_>>().len() < met.len() && r.rays[2] > 0 {
             return call.case();
         }
     }
 }
 
-/// The positions that a ray meets.
-fn positions(c: &Call, k: usize) -> Vec<u32> {
-    walk::any_hit(&c.record, c.list.len(), &c.ray(k), usize::MAX).found
-}
-
 /// A call of three rays that nothing refuses, and the positions that the last ray meets: more than two, by more than one test. The
 /// first ray meets something too.
-fn meeting(rng: &mut Rng) -> (Call, Vec<u32>) {
+pub fn meeting<C: Reported>(
+    rng: &mut Rng,
+    ray: impl Fn(&mut Rng, &Tree, &[u8]) -> Ray,
+    of: impl Fn(&mut Rng, Call) -> C,
+) -> (C, Vec<u32>) {
     loop {
-        let n = 5 + rng.below(7);
-        let t = tree(rng, n, Shape::Balanced, Boxes::Spread);
-        let c = convert(&t, 1 + rng.below(3) as u32, rng.once_in(2));
-        let rays: Vec<Ray> = (0..3).map(|_| aimed(rng, &t, &c.record)).collect();
-        let call = Call::new(rng, &c.record, &c.list, &rays);
+        let (t, c) = small_tree(rng);
+        let rays: Vec<Ray> = (0..3).map(|_| ray(rng, &t, &c.record)).collect();
+        let plain = Call::new(rng, &c.record, &c.list, &rays);
+        let call = of(rng, plain);
         call.agreed();
-        let met = positions(&call, 2);
-        if met.len() > 2 && call.loss(&rays[2]).tests > 1 && !positions(&call, 0).is_empty() {
-            return (call, met);
+        let (first, last) = (call.any_hit(0), call.any_hit(2));
+        if last.found.len() > 2 && last.tests > 1 && !first.found.is_empty() {
+            return (call, last.found);
         }
     }
+}
+
+fn untimed(rng: &mut Rng) -> (Call, Vec<u32>) {
+    meeting(rng, aimed, |_, plain| plain)
 }
 
 /// Makes a call meet a cause in one of its ways.
@@ -197,47 +208,68 @@ fn long_walks(g: &mut Group) {
     }
 }
 
-/// Each cause alone, in each way.
-fn alone(rng: &mut Rng, g: &mut Group) {
-    for (cause, ways) in CAUSES {
-        for way in 0..2 * ways {
-            let (mut call, met) = meeting(rng);
-            spoil(rng, &mut call, &met, cause, way % ways);
-            assert_eq!(call.report().refusal, cause);
-            g.add(call.case());
+/// How calls with causes are drawn: `draw` gives one that nothing refuses and the positions that its last ray meets, `spoil` makes it meet a
+/// cause in one of its ways. The causes are in their order, each with its number of ways.
+pub struct Spoiling<'a, C> {
+    pub causes: &'a [(u32, usize)],
+    pub draw: fn(&mut Rng) -> (C, Vec<u32>),
+    pub spoil: fn(&mut Rng, &mut C, &[u32], u32, usize),
+}
+
+impl<C: Reported> Spoiling<'_, C> {
+    /// Each cause alone, in each way so many times.
+    pub fn alone(&self, rng: &mut Rng, g: &mut Group, turns: usize) {
+        for &(cause, ways) in self.causes {
+            for way in 0..turns * ways {
+                let (mut call, met) = (self.draw)(rng);
+                (self.spoil)(rng, &mut call, &met, cause, way % ways);
+                assert_eq!(call.report().refusal, cause);
+                g.add(call.case());
+            }
         }
+    }
+
+    /// Every two causes in every two ways, but so many left out, and then each so many-th taken: the one earlier in their order is given.
+    /// The causes given here are also the single call's, and every two of these are seen in the last ray's.
+    pub fn pairs(&self, rng: &mut Rng, g: &mut Group, some: impl Fn(u32, u32) -> (usize, usize), single: &[u32]) {
+        let mut seen = BTreeSet::new();
+        for (i, &(first, ways)) in self.causes.iter().enumerate() {
+            for &(second, others) in &self.causes[i + 1..] {
+                let (skipped, step) = some(first, second);
+                let both = (0..ways).flat_map(|way| (0..others).map(move |other| (way, other)));
+                for (way, other) in both.skip(skipped).step_by(step) {
+                    let (call, last) = self.with_two(rng, (first, way), (second, other));
+                    if last {
+                        seen.insert((first, second));
+                    }
+                    g.add(call.case());
+                }
+            }
+        }
+        let mut due = (0..single.len()).flat_map(|i| single[i + 1..].iter().map(move |&second| (single[i], second)));
+        assert!(due.all(|pair| seen.contains(&pair)));
+    }
+
+    /// A call with two causes in these ways, and whether the single call for its last ray meets both too.
+    fn with_two(&self, rng: &mut Rng, (first, way): (u32, usize), (second, other): (u32, usize)) -> (C, bool) {
+        let (mut a, met) = (self.draw)(rng);
+        let mut b = a.clone();
+        (self.spoil)(rng, &mut b, &met, second, other);
+        let lesser = numbers(&b);
+        let alike = rng.word();
+        (self.spoil)(&mut Rng::new(alike), &mut a, &met, first, way);
+        (self.spoil)(&mut Rng::new(alike), &mut b, &met, first, way);
+        let (one, both) = (numbers(&a), numbers(&b));
+        assert_eq!((one.0, lesser.0, both.0), (first, second, first));
+        let last = (one.1, lesser.1) == (first, second);
+        assert!(!last || both.1 == first);
+        (b, last)
     }
 }
 
 /// The numbers of the report and of the single call for the last ray.
-fn numbers(c: &Call) -> (u32, u32) {
-    (c.report().refusal, c.loss(&c.ray(2)).refusal)
-}
-
-/// Every two causes in every two ways: the one earlier in their order is given.
-fn pairs(rng: &mut Rng, g: &mut Group) {
-    let mut seen = BTreeSet::new();
-    for (i, (first, ways)) in CAUSES.into_iter().enumerate() {
-        for (second, others) in CAUSES.into_iter().skip(i + 1) {
-            for (way, other) in (0..ways).flat_map(|w| (0..others).map(move |o| (w, o))) {
-                let (mut a, met) = meeting(rng);
-                let mut b = a.clone();
-                spoil(rng, &mut b, &met, second, other);
-                let lesser = numbers(&b);
-                let alike = rng.word();
-                spoil(&mut Rng::new(alike), &mut a, &met, first, way);
-                spoil(&mut Rng::new(alike), &mut b, &met, first, way);
-                let (one, both) = (numbers(&a), numbers(&b));
-                assert_eq!((one.0, lesser.0, both.0), (first, second, first));
-                if (one.1, lesser.1) == (first, second) {
-                    assert_eq!(both.1, first);
-                    seen.insert((first, second));
-                }
-                g.add(b.case());
-            }
-        }
-    }
-    assert!([(1, 12), (1, 9), (1, 10), (12, 9), (12, 10), (9, 10)].iter().all(|pair| seen.contains(pair)));
+fn numbers(c: &impl Reported) -> (u32, u32) {
+    (c.report().refusal, c.loss(2).refusal)
 }
 
 /// Calls whose last ray alone is refused, by a node that no other reaches or an index word that no other meets; and the same
@@ -249,7 +281,7 @@ fn last_ray_alone(rng: &mut Rng, g: &mut Group) {
     }
     let mut due = [4, 4];
     while due != [0, 0] {
-        let (call, met) = meeting(rng);
+        let (call, met) = untimed(rng);
         let k = rng.below(2);
         let mut hurt = call.clone();
         match k {
@@ -273,25 +305,32 @@ fn add_last(g: &mut Group, call: &Call) {
     g.add(rest.case());
 }
 
-/// Records, index words and rays with something damaged, at random.
-fn damaged(rng: &mut Rng, g: &mut Group, trees: usize) {
-    for k in 0..trees {
-        let Some((t, c)) = queried_tree(rng, k) else { continue };
-        let mut rays: Vec<Ray> = (0..rng.pick(&[1, 2, 4])).map(|_| aimed(rng, &t, &c.record)).collect();
-        if rng.once_in(8) {
-            let k = rng.below(rays.len());
-            rays[k] = odd_ray(rng, &rays[k]);
-        }
-        let mut call = Call::new(rng, &c.record, &c.list, &rays);
-        lend_more(rng, &mut call);
-        let mut n = call.list.len();
-        (0..1 + rng.below(3)).for_each(|_| damage(rng, &mut call.record, &mut n));
-        call.list.resize(n, 0);
-        if rng.once_in(4) && n > 0 {
-            call.list[rng.below(n)] = rng.pick(&[call.panes as u32, u32::MAX]);
-        }
-        g.add(call.case());
+/// A few rays, of which one in every eighth list is an odd one.
+pub fn some_rays(rng: &mut Rng, one: impl Fn(&mut Rng) -> Ray, odd: impl Fn(&mut Rng, &Ray) -> Ray) -> Vec<Ray> {
+    let mut rays: Vec<Ray> = (0..rng.pick(&[1, 2, 4])).map(|_| one(rng)).collect();
+    if rng.once_in(8) {
+        let k = rng.below(rays.len());
+        rays[k] = odd(rng, &rays[k]);
     }
+    rays
+}
+
+/// Damages record and list at random, at most so many times.
+pub fn damage_record(rng: &mut Rng, call: &mut Call, most: usize) {
+    let mut n = call.list.len();
+    (0..1 + rng.below(most)).for_each(|_| damage(rng, &mut call.record, &mut n));
+    call.list.resize(n, 0);
+}
+
+/// Records, index words and rays with something damaged, at random.
+fn damaged(rng: &mut Rng, k: usize) -> Option<Vec<u32>> {
+    let mut call = drawn(rng, k, |rng, t, record| some_rays(rng, |rng| aimed(rng, t, record), odd_ray))?;
+    damage_record(rng, &mut call, 3);
+    let n = call.list.len();
+    if rng.once_in(4) && n > 0 {
+        call.list[rng.below(n)] = rng.pick(&[call.panes as u32, u32::MAX]);
+    }
+    Some(call.case())
 }
 
 pub fn groups(seed: u64) -> Vec<Group> {
@@ -300,7 +339,7 @@ pub fn groups(seed: u64) -> Vec<Group> {
     let (mut sums, mut refused, mut hurt) = (Group::new(LOSSES, 0), Group::new(LOSSES, 0), Group::new(LOSSES, 0));
     let share = &mut Share::default();
     of_t(&mut sums);
-    drawn(rng, &mut sums, share, 80);
+    (0..80).filter_map(|k| noted(rng, k, share)).for_each(|call| sums.add(call.case()));
     sums.add(over_32_bits(rng));
     (0..4).for_each(|_| sums.add(met_again(rng)));
     for (call, number) in refused_samples() {
@@ -309,11 +348,12 @@ pub fn groups(seed: u64) -> Vec<Group> {
     }
     none_of_something(&mut refused);
     loss_limits(&mut refused);
-    alone(rng, &mut refused);
-    pairs(rng, &mut refused);
+    let spoiling = Spoiling { causes: &CAUSES, draw: untimed, spoil };
+    spoiling.alone(rng, &mut refused, 2);
+    spoiling.pairs(rng, &mut refused, |_, _| (0, 1), &[1, 12, 9, 10]);
     last_ray_alone(rng, &mut hurt);
     long_walks(&mut hurt);
-    damaged(rng, &mut hurt, 60);
+    (0..60).filter_map(|k| damaged(rng, k)).for_each(|case| hurt.add(case));
     println!("losses: kind {LOSSES}, {share} meet something");
     assert!(share.one_in(10));
     vec![sums, refused, hurt, loss_sizes::group()]

@@ -4,7 +4,7 @@
 use crate::accept::{Room, accepted_ray, conversion_refusal};
 use crate::convert::{Converted, bvh_of, convert};
 use crate::generate::{BOXES, Boxes, SHAPES, any_box, chain, inside, ray, tree};
-use crate::loss::Call;
+use crate::loss::{Call, Reported};
 use crate::queries::{aimed, panes, slot_boxes, target_box};
 use crate::query;
 use crate::rng::Rng;

@@ -5,7 +5,7 @@ use crate::convert::{Converted, bvh_of, convert};
 use crate::generate::{Boxes, chain};
 use crate::join::{self, Seen};
 use crate::joins;
-use crate::loss::{Call, RayLoss, Report};
+use crate::loss::{Call, RayLoss, Report, Reported};
 use crate::losses::{refused_samples, sample, sample_rays};
 use crate::query;
 use crate::rng::Rng;
@@ -101,7 +101,7 @@ fn negative_zeros(all: &mut Tally) {
 fn losses(all: &mut Tally) {
     let [ray, short] = sample_rays();
     let (one, two) = (sample(&[ray]), sample(&[ray, short]));
-    let single = |c: &Call| [c.agreed().rays[0], c.loss(&ray).sum, c.loss(&ray).tests as u64];
+    let single = |c: &Call| [c.agreed().rays[0], c.loss(0).sum, c.loss(0).tests as u64];
     all.holds("losses 3000 and 500: 3500 by one test", single(&one) == [3500, 3500, 1]);
     all.holds("the same with indices 1 and 1: 1000", single(&Call { list: vec![1, 1], ..one.clone() }) == [1000, 1000, 1]);
     let totals = Report { refusal: 0, tests: 2, rays: vec![3500, 3000], panes: vec![6000, 500] };

@@ -2,7 +2,7 @@
 //! code.
 use crate::calls::told;
 use crate::convert::Converted;
-use crate::loss::Call;
+use crate::loss::{Call, Reported};
 use crate::queries::{aimed, scene};
 use crate::record::node;
 use crate::rng::Rng;

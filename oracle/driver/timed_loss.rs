@@ -1,8 +1,6 @@
 //! A ray's loss and the report of many rays at their quarters: what they are asked of, and their answers by the rules and by the
 //! published any-hit, whose list loses what is out of its hours.
-use crate::convert::bvh_of;
-use crate::loss::{Call, RayLoss, Report, two_words};
-use crate::query;
+use crate::loss::{Call, RayLoss, Report, Reported, two_words};
 use crate::rng::Rng;
 use crate::spans::{LAST, all_day, always_open, side_table, some_quarter, span_at};
 use crate::store::words_of;
@@ -67,52 +65,42 @@ impl TimedCall {
     fn walk(&self, k: usize) -> timed::TimedWalk<'_> {
         timed::begun(self.lists(), &self.plain.ray(k), self.quarter(k))
     }
+}
 
-    /// The single call for ray k by the rules.
-    pub fn loss(&self, k: usize) -> RayLoss {
-        match self.loss_cause(k) {
-            0 => self.plain.lost(self.walk(k)),
-            refusal => RayLoss { refusal, ..Default::default() },
-        }
+impl Reported for TimedCall {
+    fn plain(&self) -> &Call {
+        &self.plain
     }
 
-    /// The single calls of all whole rays by the rules.
-    pub fn singles(&self) -> Vec<RayLoss> {
-        (0..self.plain.count()).map(|k| self.loss(k)).collect()
-    }
-
-    /// A report by the rules.
-    pub fn report(&self) -> Report {
+    fn report(&self) -> Report {
         match self.report_cause() {
             0 => self.plain.reported(|k| self.walk(k)),
             refusal => Report { refusal, ..Default::default() },
         }
     }
 
-    /// Any-hit of ray k by the rules, and what the published one lists in its hours, which must be the same.
-    pub fn any_hit(&self, k: usize) -> Answer {
+    fn loss(&self, k: usize) -> RayLoss {
+        match self.loss_cause(k) {
+            0 => self.plain.lost(self.walk(k)),
+            refusal => RayLoss { refusal, ..Default::default() },
+        }
+    }
+
+    /// In its hours, which must be what the rules list.
+    fn any_hit(&self, k: usize) -> Answer {
         let (ray, quarter) = (self.plain.ray(k), self.quarter(k));
         let ours = timed::any_hit(self.lists(), &ray, quarter, usize::MAX);
-        let mut theirs = query::any_hit(&bvh_of(&self.plain.record, &self.plain.list), ray);
+        let mut theirs = self.plain.any_hit(k);
         theirs.found.retain(|&p| span_at(&self.spans, self.plain.list[p as usize] as usize).holds(quarter));
         assert_eq!(ours.found, theirs.found);
         assert!(self.spans != all_day(self.plain.panes) || ours == theirs);
         ours
     }
 
-    /// The report that nothing refuses: over any-hit's lists it must be the rules' one, and so must each single loss.
-    pub fn agreed(&self) -> Report {
-        let (report, singles) = self.plain.totalled(|k| self.any_hit(k));
-        assert_eq!(report, self.report());
-        assert_eq!(singles, self.singles());
-        report
-    }
-
     /// Bytes of the record and of the side table, index words, panes in two words, bytes of the spans, losses, floats of rays, quarters,
     /// words lent for the totals of rays, and of panes; the report's number, and its tests in two words; record, side table, index
-    /// words, spans, losses, floats of rays, quarters; unless refused the totals of rays and of panes, two words each; for each whole
-    /// ray the single call's number, sum in two words, and tests.
-    pub fn case(&self) -> Vec<u32> {
+    /// words, spans, losses, floats of rays, quarters; and the words of `answers`.
+    fn case(&self) -> Vec<u32> {
         let (r, c) = (self.report(), &self.plain);
         let mut w = vec![c.record.len() as u32, self.side.len() as u32, c.list.len() as u32];
         w.extend(two_words(c.panes as u64));
@@ -122,8 +110,7 @@ impl TimedCall {
         w.extend(two_words(r.tests));
         [&c.record, &self.side].iter().for_each(|bytes| w.extend(words_of(bytes)));
         w.extend([&c.list[..], &words_of(&self.spans), &c.losses, &c.rays, &words_of(&self.quarters)].concat());
-        r.rays.iter().chain(&r.panes).for_each(|&total| w.extend(two_words(total)));
-        self.singles().iter().for_each(|s| w.extend(s.words()));
+        w.extend(self.answers(&r));
         w
     }
 }

@@ -2,7 +2,7 @@
 //! list has one word, span, ray or quarter all through, but for the span of one pane, so that neither the lists nor the totals need be
 //! stored.
 use crate::accept::MOST_LEAVES;
-use crate::loss::{MOST_RAYS, two_words};
+use crate::loss::{MOST_RAYS, Reported, two_words};
 use crate::loss_sizes::{Alike, MOST_BYTES, Resizable, pairs, records};
 use crate::spans::{LAST, SIDE};
 use crate::store::*;

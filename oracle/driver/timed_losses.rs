@@ -1,12 +1,9 @@
 //! Stored timed losses: reports over records, side tables and rays at their quarters, with the single call's answer for each ray. Over
 //! side tables that a conversion writes the positions are the published any-hit's in their hours, and all sums must be those of the
 //! rules; damaged calls are answered by the rules.
-use crate::checks::damage;
-use crate::convert::convert;
-use crate::generate::{Boxes, Shape, tree};
-use crate::loss::Call;
-use crate::losses::{lend_more, past_t, sample, sample_rays, spoil};
-use crate::queries::{odd_ray, queried_tree, refused_ray};
+use crate::loss::{Call, Reported};
+use crate::losses::{Spoiling, damage_record, drawn, few_of_each, meeting, past_t, sample, sample_rays, some_rays, spoil};
+use crate::queries::{odd_ray, refused_ray};
 use crate::rng::Rng;
 use crate::spans::{LAST, SIDE, odd_side, some_spans};
 use crate::store::*;
@@ -14,8 +11,8 @@ use crate::timed_corners::SAMPLE_SPANS;
 use crate::timed_loss::TimedCall;
 use crate::timed_loss_sizes;
 use crate::timed_queries::far_reaching;
+use crate::tree::Tree;
 use obvhs::ray::Ray;
-use std::collections::BTreeSet;
 
 /// Causes in their order with the ways to meet them; 2 is in the other kind.
 const CAUSES: [(u32, usize); 6] = [(1, 3), (4, 2), (12, 4), (14, 8), (9, 2), (10, 4)];
@@ -51,54 +48,39 @@ fn of_t(g: &mut Group) {
     }
 }
 
+/// With some spans, and the side table that a conversion of these writes.
+fn converted(rng: &mut Rng, plain: Call) -> TimedCall {
+    let spans = some_spans(rng, plain.panes);
+    TimedCall::converted(rng, plain, spans)
+}
+
 /// Rays over converted trees, all day or at quarters. Prints how many of the rays lose something.
-fn drawn(rng: &mut Rng, g: &mut Group, trees: usize, timed: bool) {
-    let (mut rays_in_all, mut losing) = (0, 0);
+fn answered(rng: &mut Rng, g: &mut Group, trees: usize, timed: bool) {
+    let (mut rays, mut losing) = (0, 0);
     for k in 0..trees {
-        let Some((t, c)) = queried_tree(rng, k) else { continue };
-        let rays: Vec<Ray> = (0..rng.pick(&[0, 1, 2, 4, 6, 8])).map(|_| far_reaching(rng, &t, &c.record, 4)).collect();
-        let mut plain = Call::new(rng, &c.record, &c.list, &rays);
-        lend_more(rng, &mut plain);
+        let far = |rng: &mut Rng, t: &Tree, record: &[u8]| {
+            (0..rng.pick(&[0, 1, 2, 4, 6, 8])).map(|_| far_reaching(rng, t, record, 4)).collect()
+        };
+        let Some(plain) = drawn(rng, k, far) else { continue };
         let spans = some_spans(rng, plain.panes);
         let call = if timed { TimedCall::converted(rng, plain, spans) } else { TimedCall::all_day(rng, plain) };
         let r = call.agreed();
-        rays_in_all += rays.len();
+        rays += r.rays.len();
         losing += r.rays.iter().filter(|&&sum| sum > 0).count();
         g.add(call.case());
     }
-    println!("timed losses: kind {TIMED_LOSSES}, {rays_in_all} rays, of which {losing} lose something");
+    println!("timed losses: kind {TIMED_LOSSES}, {rays} rays, of which {losing} lose something");
 }
 
 /// No rays, no panes, no nodes, and all of these together.
 fn none_of_something(g: &mut Group) {
-    for record in [vec![], sample(&[]).record] {
-        for panes in [0, 2] {
-            for rays in [vec![], vec![past_t(), sample_rays()[0]]] {
-                let (record, losses) = (record.clone(), vec![700; panes]);
-                let plain = Call { record, list: vec![0, 1], panes, losses, ..Default::default() }.with_rays(&rays);
-                g.add(TimedCall::all_day(&mut Rng::new(2), plain).case());
-            }
-        }
-    }
+    let rays = [past_t(), sample_rays()[0]];
+    few_of_each(g, &[&[0, 1]], &[0, 2], &[&[], &rays], |plain| TimedCall::all_day(&mut Rng::new(2), plain));
 }
 
-/// A call of three rays that nothing refuses, and the positions that the last ray meets: more than two, by more than one test. The
-/// first ray meets something too.
-fn meeting(rng: &mut Rng) -> (TimedCall, Vec<u32>) {
-    loop {
-        let n = 5 + rng.below(7);
-        let t = tree(rng, n, Shape::Balanced, Boxes::Spread);
-        let c = convert(&t, 1 + rng.below(3) as u32, rng.once_in(2));
-        let rays: Vec<Ray> = (0..3).map(|_| far_reaching(rng, &t, &c.record, 8)).collect();
-        let plain = Call::new(rng, &c.record, &c.list, &rays);
-        let spans = some_spans(rng, plain.panes);
-        let call = TimedCall::converted(rng, plain, spans);
-        call.agreed();
-        let (first, last) = (call.any_hit(0), call.any_hit(2));
-        if last.found.len() > 2 && last.tests > 1 && !first.found.is_empty() {
-            return (call, last.found);
-        }
-    }
+/// A call of three rays that nothing refuses, and the positions that the last ray meets.
+fn at_quarters(rng: &mut Rng) -> (TimedCall, Vec<u32>) {
+    meeting(rng, |rng, t, record| far_reaching(rng, t, record, 8), converted)
 }
 
 /// Makes a call meet a cause in one of its ways.
@@ -120,50 +102,9 @@ fn hurt(rng: &mut Rng, c: &mut TimedCall, met: &[u32], cause: u32, way: usize) {
     }
 }
 
-/// Each cause alone, in each way.
-fn alone(rng: &mut Rng, g: &mut Group) {
-    for (cause, ways) in CAUSES {
-        for way in 0..ways {
-            let (mut call, met) = meeting(rng);
-            hurt(rng, &mut call, &met, cause, way);
-            assert_eq!(call.report().refusal, cause);
-            g.add(call.case());
-        }
-    }
-}
-
-/// The numbers of the report and of the single call for the last ray.
-fn numbers(c: &TimedCall) -> (u32, u32) {
-    (c.report().refusal, c.loss(2).refusal)
-}
-
-/// Every two causes, those with 14 in every two ways and others in some: the one earlier in their order is given.
-fn pairs(rng: &mut Rng, g: &mut Group) {
-    let mut seen = BTreeSet::new();
-    for (i, (first, ways)) in CAUSES.into_iter().enumerate() {
-        for (second, others) in CAUSES.into_iter().skip(i + 1) {
-            let (skipped, step) = if first == 14 || second == 14 { (0, 1) } else { (1, 3) };
-            for (way, other) in (0..ways).flat_map(|w| (0..others).map(move |o| (w, o))).skip(skipped).step_by(step) {
-                let (mut a, met) = meeting(rng);
-                let mut b = a.clone();
-                hurt(rng, &mut b, &met, second, other);
-                let lesser = numbers(&b);
-                let alike = rng.word();
-                hurt(&mut Rng::new(alike), &mut a, &met, first, way);
-                hurt(&mut Rng::new(alike), &mut b, &met, first, way);
-                let (one, both) = (numbers(&a), numbers(&b));
-                assert_eq!((one.0, lesser.0, both.0), (first, second, first));
-                if (one.1, lesser.1) == (first, second) {
-                    assert_eq!(both.1, first);
-                    seen.insert((first, second));
-                }
-                g.add(b.case());
-            }
-        }
-    }
-    let single = [1, 12, 14, 9, 10];
-    let mut due = (0..5).flat_map(|i| single[i + 1..].iter().map(move |&second| (single[i], second)));
-    assert!(due.all(|pair| seen.contains(&pair)));
+/// How many ways of two causes are left out, and how far apart those taken are: with 14 all are taken.
+fn some_ways(first: u32, second: u32) -> (usize, usize) {
+    if first == 14 || second == 14 { (0, 1) } else { (1, 3) }
 }
 
 /// Calls whose last ray alone is refused: by an index word that no other meets in its hours; and with the last ray at a quarter at
@@ -180,33 +121,20 @@ fn last_ray_alone(g: &mut Group) {
     }
 }
 
-/// Records, index words, side tables, spans, quarters and rays with something damaged, at random; and side tables of any bytes.
-fn damaged(rng: &mut Rng, g: &mut Group, trees: usize) {
-    for k in 0..trees {
-        let Some((t, c)) = queried_tree(rng, k) else { continue };
-        let mut rays: Vec<Ray> = (0..rng.pick(&[1, 2, 4])).map(|_| far_reaching(rng, &t, &c.record, 4)).collect();
-        if rng.once_in(8) {
-            let k = rng.below(rays.len());
-            rays[k] = if rng.once_in(2) { odd_ray(rng, &rays[k]) } else { refused_ray(rng, &rays[k]) };
+/// Records, index words, side tables and rays with something damaged, at random; and side tables of any bytes.
+fn damaged(rng: &mut Rng, k: usize) -> Option<Vec<u32>> {
+    let odd = |rng: &mut Rng, r: &Ray| if rng.once_in(2) { odd_ray(rng, r) } else { refused_ray(rng, r) };
+    let plain = drawn(rng, k, |rng, t, record| some_rays(rng, |rng| far_reaching(rng, t, record, 4), odd))?;
+    let mut call = converted(rng, plain);
+    match rng.below(4) {
+        0 => damage_record(rng, &mut call.plain, 2),
+        1 if !call.plain.list.is_empty() => {
+            let k = rng.below(call.plain.list.len());
+            call.plain.list[k] = rng.pick(&[call.plain.panes as u32, u32::MAX]);
         }
-        let mut plain = Call::new(rng, &c.record, &c.list, &rays);
-        lend_more(rng, &mut plain);
-        let spans = some_spans(rng, plain.panes);
-        let mut call = TimedCall::converted(rng, plain, spans);
-        match rng.below(4) {
-            0 => {
-                let mut n = call.plain.list.len();
-                (0..1 + rng.below(2)).for_each(|_| damage(rng, &mut call.plain.record, &mut n));
-                call.plain.list.resize(n, 0);
-            }
-            1 if !call.plain.list.is_empty() => {
-                let k = rng.below(call.plain.list.len());
-                call.plain.list[k] = rng.pick(&[call.plain.panes as u32, u32::MAX]);
-            }
-            _ => call.side = odd_side(rng, &call.side),
-        }
-        g.add(call.case());
+        _ => call.side = odd_side(rng, &call.side),
     }
+    Some(call.case())
 }
 
 pub fn groups(seed: u64) -> Vec<Group> {
@@ -214,12 +142,13 @@ pub fn groups(seed: u64) -> Vec<Group> {
     let rng = &mut rng;
     let [mut sums, mut refused, mut damages] = [(); 3].map(|_| Group::new(TIMED_LOSSES, 0));
     of_t(&mut sums);
-    drawn(rng, &mut sums, 30, false);
-    drawn(rng, &mut sums, 60, true);
+    answered(rng, &mut sums, 30, false);
+    answered(rng, &mut sums, 60, true);
     none_of_something(&mut refused);
-    alone(rng, &mut refused);
-    pairs(rng, &mut refused);
+    let spoiling = Spoiling { causes: &CAUSES, draw: at_quarters, spoil: hurt };
+    spoiling.alone(rng, &mut refused, 1);
+    spoiling.pairs(rng, &mut refused, some_ways, &[1, 12, 14, 9, 10]);
     last_ray_alone(&mut damages);
-    damaged(rng, &mut damages, 60);
+    (0..60).filter_map(|k| damaged(rng, k)).for_each(|case| damages.add(case));
     vec![sums, refused, damages, timed_loss_sizes::group()]
 }
