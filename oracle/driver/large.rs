@@ -15,7 +15,7 @@ use glam::vec3a;
 use obvhs::ray::Ray;
 
 /// A ray through the row of boxes: from one place near it to another.
-fn across(rng: &mut Rng, n: u32) -> Ray {
+pub fn across(rng: &mut Rng, n: u32) -> Ray {
     let long = 16.0 * n as f32;
     let middle = MIDDLE as f32;
     let place = |rng: &mut Rng, far: f32| {

@@ -21,12 +21,16 @@ fn mixed(seed: u32, k: u32) -> u32 {
 }
 
 impl Made {
+    /// Number c of leaf or pane k, below `most`.
+    fn some(&self, k: u32, c: u32, most: u32) -> u32 {
+        mixed(self.seed, 8 * k + c) % most
+    }
+
     /// The least and greatest ends of leaf k, whole numbers: boxes in a row along x.
     fn ends(&self, k: u32) -> [u32; 6] {
-        let some = |c: u32, most: u32| mixed(self.seed, 8 * k + c) % most;
-        let x = 16 * k + some(0, 16);
-        let off = |c: u32| 1 + some(c, self.reach);
-        [x, MIDDLE - off(1), MIDDLE - off(2), x + 1 + some(3, 64), MIDDLE + off(4), MIDDLE + off(5)]
+        let x = 16 * k + self.some(k, 0, 16);
+        let off = |c: u32| 1 + self.some(k, c, self.reach);
+        [x, MIDDLE - off(1), MIDDLE - off(2), x + 1 + self.some(k, 3, 64), MIDDLE + off(4), MIDDLE + off(5)]
     }
 
     /// The words of leaf k's box.
@@ -49,6 +53,16 @@ impl Made {
         }
         let words = |(ends, link): ([u32; 6], u32)| ends.into_iter().map(|x| (x as f32).to_bits()).chain([link]);
         Tree { nodes: nodes.into_iter().flat_map(words).collect(), indices: (0..n).map(|p| 7 * p % n).collect() }
+    }
+
+    /// The spans of all panes: a first quarter that rises with the pane, to 79 at most and then from the start again, and a last one up
+    /// to 16 later.
+    pub fn spans(&self) -> Vec<u8> {
+        let span = |k: u32| {
+            let first = k / 16 % 64 + self.some(k, 6, 17);
+            [first as u8, (first + self.some(k, 7, 17)) as u8]
+        };
+        (0..self.n).flat_map(span).collect()
     }
 
     /// The boxes of the first leaves, as panes.

@@ -41,6 +41,7 @@ mod timed_causes;
 mod timed_compare;
 mod timed_conversions;
 mod timed_corners;
+mod timed_large;
 mod timed_loss;
 mod timed_loss_sizes;
 mod timed_losses;
@@ -83,6 +84,7 @@ fn store(folder: &str) -> bool {
     store::write(&at("timed_queries"), &timed_queries::groups(SEED + 16));
     store::write(&at("timed_steps"), &timed_steps::groups(SEED + 17));
     store::write(&at("timed_losses"), &timed_losses::groups(SEED + 18));
+    store::write(&at("timed_large"), &timed_large::groups(SEED + 19));
     store::write(&at("showrecord"), &show::groups(SEED + 4));
     store::write(&at("nodes"), &nodes::groups(SEED + 6));
     store::write(&at("children"), &children::groups(SEED + 7));

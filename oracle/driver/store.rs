@@ -52,6 +52,7 @@ pub const TIMED_CALLS: u32 = 55;
 pub const TIMED_FORGED: u32 = 56;
 pub const TIMED_LOSSES: u32 = 57;
 pub const TIMED_LOSS_SIZES: u32 = 58;
+pub const TIMED_LARGE_TREES: u32 = 59;
 
 pub struct Group {
     pub kind: u32,

@@ -200,6 +200,25 @@ impl Rule {
         }
     }
 
+    // The span of pane k: a first quarter that rises with the pane, to 79 at most and then from the start again, and a last one up to 16 later.
+    fn span_of(self, k: u32) -> [u8; 2]
+        requires { k ≤ 65536 }
+    {
+        let first = k / 16 % 64 + some(self.seed, k, 6, 17);
+        let last = first + some(self.seed, k, 7, 17);
+        [first as u8, last as u8]
+    }
+
+    // The spans of the panes, two bytes to each.
+    pub fn put_spans(self, spans: &mut [u8]) {
+        if spans.len() > 65536 {
+            return;
+        }
+        for i in 0..spans.len() {
+            spans[i] = self.span_of((i / 2) as u32)[i % 2];
+        }
+    }
+
     // Makes the words of a tree, its index words, and its panes.
     pub fn put_tree(self, words: &mut [u32], indices: &mut [u32], panes: &mut [f32]) {
         self.put_leaves(words);

@@ -1,11 +1,11 @@
 // A stored ray on a large record: any-hit with a list of just the length needed and with one word less, closest, miss, and a walker to its end.
-use any_hit::AnyHitError;
+use any_hit::{AnyHit, AnyHitError};
 use closest::{ClosestHit, Occlusion};
 use stored::{WORD, beam, digest_with, digested_words, real, same, untouched, word};
 use traverse::{Answer, Walker};
 
 // Room for all positions and guard words past them.
-const SPACE: usize = 20064;
+pub const SPACE: usize = 20064;
 
 // The most steps of a walk.
 const MOST_STEPS: u32 = 1000000;
@@ -21,18 +21,14 @@ pub struct Asked<'a> {
 
 // ---- any-hit
 
-// Whether any-hit with room for so many positions answers as stored from word 8 on: tests, positions, digest.
-fn same_any(asked: Asked, room: usize, space: &mut [u32]) -> bool {
-    let ray = asked.ray;
-    if room > space.len() {
-        return false;
-    }
-    match any_hit::any_hit(
-        asked.record,
-        asked.list.len(),
-        beam(ray, 0),
-        &mut space[..room],
-    ) {
+// Whether any-hit, lent so many of these words, answered as stored from word 8 on: tests, positions, digest.
+pub fn same_found(
+    ray: &[u8],
+    room: usize,
+    answer: Result<AnyHit, AnyHitError>,
+    space: &[u32],
+) -> bool {
+    match answer {
         Ok(found) => {
             found.tests == word(ray, 8)
                 && found.count == word(ray, 9)
@@ -43,6 +39,20 @@ fn same_any(asked: Asked, room: usize, space: &mut [u32]) -> bool {
         }
         Err(AnyHitError::Refused(_)) => false,
     }
+}
+
+// Whether any-hit with room for so many positions answers as stored.
+fn same_any(asked: Asked, room: usize, space: &mut [u32]) -> bool {
+    if room > space.len() {
+        return false;
+    }
+    let answer = any_hit::any_hit(
+        asked.record,
+        asked.list.len(),
+        beam(asked.ray, 0),
+        &mut space[..room],
+    );
+    same_found(asked.ray, room, answer, space)
 }
 
 // The same with words that hold a pattern before, lent to another function, as in other programs, whose calls differ.

@@ -5,11 +5,11 @@ use bvh2_to_cwbvh::{Converted, bvh2_to_cwbvh};
 use stored::{digest_of, digest_of_bytes, filled_with, word};
 
 // The most leaves, and for these the words of a tree, the bytes of a record, the floats of panes, and the working words of a check.
-const LEAVES: usize = 20000;
+pub const LEAVES: usize = 20000;
 
-const WORDS: usize = 279993;
+pub const WORDS: usize = 279993;
 
-const BYTES: usize = 1599920;
+pub const BYTES: usize = 1599920;
 
 const CORNERS: usize = 120000;
 
@@ -107,7 +107,7 @@ fn same_made(
 }
 
 // Leaves, seed, reach, limit, order; nodes, deepest level; digests of decision words, costs, record, list; rays, and these.
-fn large(case: &[u8]) -> bool {
+pub fn large(case: &[u8]) -> bool {
     let Some(rule) = Rule::of(case) else {
         return false;
     };
@@ -121,12 +121,4 @@ fn large(case: &[u8]) -> bool {
         &mut indices[..rule.leaves()],
         &mut panes[..6 * rule.leaves()],
     )
-}
-
-// Whether the library agrees with a case, whose kind the file tells by a number.
-pub fn agrees(kind: u32, case: &[u8]) -> bool {
-    match kind {
-        42 => large(case),
-        _ => false,
-    }
 }

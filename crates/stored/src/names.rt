@@ -50,6 +50,7 @@ pub fn print_name(rt: &impl Print, kind: u32) -> io::Result<()> {
         56 => "forged timed walkers",
         57 => "timed losses",
         58 => "timed losses by lengths",
+        59 => "large timed trees",
         _ => "unknown",
     })
 }
