@@ -58,6 +58,7 @@ impl Question for Call {
 
     fn spoil(&mut self, rng: &mut Rng, cause: u32) {
         if cause == 14 {
+            // every cause starts with this draw
             rng.pick(&self.met);
             return self.spoil_hours(rng);
         }
