@@ -1,6 +1,6 @@
-// Makes large trees by a rule, converts them, checks the records and asks all queries of them; and converts such trees with spans, and asks any-hit at
-// quarter hours. Digests of what is written, and all answers, are compared with the stored ones. Its arguments name two files of answers; how these
-// are made and laid out is said in oracle/README.md.
+// Makes large trees by a rule, converts them, checks the records and asks all queries of them; and converts such trees with spans, and asks any-hit
+// at quarter hours. Digests of what is written, and all answers, are compared with the stored ones. Its arguments name two files of answers; how
+// these are made and laid out is said in oracle/README.md.
 #![tactic(auto)]
 
 mod made;
