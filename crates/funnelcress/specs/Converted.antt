@@ -8,20 +8,26 @@ use Rattle.bvh2_to_cwbvh.specs.Conversion.{ConversionAnswer, converted, refused,
 unfoldable pub order_cause : (words n : ℕ) → ℕ
 order_cause words n = elim (sizes_cause words n) [ zero ↦ 3 | suc k ↦ suc k ]
 
--- Conversion with ordering off for 0 and on for 1, of the call with either; any other order is refused, and every slice is left as it was.
-unfoldable pub conversion_by : (order : ℕ) → (Bool → Call) → Outcome
+-- By a word of order: what there is with ordering off for 0 and on for 1, and what there is instead for any other.
+unfoldable pub by_order : {A : Type 0} → (order : ℕ) → (Bool → A) → A → A
+by_order zero either other = either false
+by_order (suc zero) either other = either true
+by_order (suc (suc k)) either other = other
+
+-- a call whose order is another: refused, and every slice as it was
+unfoldable pub order_refused : Call → Outcome
 unfolding order_cause
-conversion_by zero call = conversion_of (call false)
-conversion_by (suc zero) call = conversion_of (call true)
-conversion_by (suc (suc k)) call =
-    let c = call false in
-    record {
-      answer = refused (order_cause (length c.words) (leaf_count c));
-      decisions = c.decisions;
-      costs = c.costs;
-      bytes = c.bytes;
-      list = c.list;
-    }
+order_refused c = record {
+  answer = refused (order_cause (length c.words) (leaf_count c));
+  decisions = c.decisions;
+  costs = c.costs;
+  bytes = c.bytes;
+  list = c.list;
+}
+
+unfoldable pub conversion_by : (order : ℕ) → (Bool → Call) → Outcome
+unfolding by_order order_refused
+conversion_by order call = by_order order (λ ordered. conversion_of (call ordered)) (order_refused (call false))
 
 -- kind 0 is converted, its deepest level above the sixteen bits of its node count; kind 2 is refused with its number, as the record check has it
 unfoldable pub conversion_number : ConversionAnswer → ℕ

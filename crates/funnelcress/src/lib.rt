@@ -3,6 +3,7 @@
 // what they answer: C takes one number for an answer, so that its kind is a number here, and each answer has a function that makes it.
 #![tactic(auto)]
 
+mod hours;
 mod joins;
 mod reports;
 mod walkers;

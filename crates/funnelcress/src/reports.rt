@@ -5,9 +5,9 @@ ghost use Rattle.funnelcress.specs.Reports.{report_number, handed_report};
 
 use causes::Refusal;
 
-// A report's answer as a number.
+// A report's answer as a number, whatever quarter hours its rays have.
 #[tactic(auto, unfolding(crate::specs::Reports::report_number, loss::specs::Loss::totals_answer))]
-fn report_number(report: Result<u64, Refusal>) -> u64
+pub fn report_number(report: Result<u64, Refusal>) -> u64
     ensures { result ≡ report_number (totals_answer report) }
 {
     match report {
