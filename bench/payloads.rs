@@ -3,7 +3,9 @@
 #[allow(dead_code)]
 #[path = "../oracle/driver/rng.rs"]
 mod rng;
+mod lent;
 
+use lent::{Lent, byte, nan};
 use rng::Rng;
 
 // Floats go as their bits, so that nothing here touches a NaN.
@@ -34,51 +36,31 @@ unsafe extern "C" {
         list: *mut u32,
         list_len: usize,
     ) -> u64;
+    fn funnelcress_bvh2_to_cwbvh_timed(
+        words: *const u32,
+        words_len: usize,
+        indices: *const u32,
+        indices_len: usize,
+        limit: u32,
+        order: u32,
+        panes: usize,
+        spans: *const u8,
+        spans_len: usize,
+        decisions: *mut u32,
+        decisions_len: usize,
+        costs: *mut u32,
+        costs_len: usize,
+        record: *mut u8,
+        record_len: usize,
+        list: *mut u32,
+        list_len: usize,
+        side: *mut u8,
+        side_len: usize,
+    ) -> u64;
 }
-
-const GUARDS: usize = 64;
 
 /// The bits of the largest finite float.
 const LARGEST: u32 = 0x7f7f_ffff;
-
-/// The bits of NaN number k: a quiet or a signalling one of either sign, with a payload of its own.
-fn nan(k: usize) -> u32 {
-    [0x7fc0_0000, 0xffc0_0000, 0x7f80_0000, 0xff80_0000][k % 4] + 1 + k as u32 % 0x3f_ffff
-}
-
-fn byte(k: usize) -> u8 {
-    (k * 7 + 129) as u8
-}
-
-/// A slice with guards before and behind it, and what all of it held at first.
-struct Lent<T> {
-    all: Vec<T>,
-    before: Vec<T>,
-    long: usize,
-}
-
-impl<T: Copy + PartialEq + std::fmt::Debug> Lent<T> {
-    fn new(long: usize, pattern: fn(usize) -> T) -> Lent<T> {
-        let all: Vec<T> = (0..long + 2 * GUARDS).map(pattern).collect();
-        Lent { before: all.clone(), all, long }
-    }
-
-    fn pointer(&mut self) -> *mut T {
-        self.all[GUARDS..].as_mut_ptr()
-    }
-
-    /// The first elements, which the call may have written.
-    fn front(&self, used: usize) -> &[T] {
-        &self.all[GUARDS..GUARDS + used]
-    }
-
-    /// All else is as it was.
-    fn kept_past(&self, used: usize, what: &str) {
-        assert!(used <= self.long, "{what}");
-        assert_eq!(self.all[..GUARDS], self.before[..GUARDS], "{what}: before the slice");
-        assert_eq!(self.all[GUARDS + used..], self.before[GUARDS + used..], "{what}: past {used} of {}", self.long);
-    }
-}
 
 /// A tree's words and its indices.
 #[derive(Clone)]
@@ -132,12 +114,50 @@ fn heap(rng: &mut Rng, n: usize) -> Tree {
     Tree { words, indices: (0..n as u32).collect() }
 }
 
-/// The four slices that conversion is lent.
+/// The slices that conversion is lent, and the one that a timed one is lent besides.
 struct Slices {
     decisions: Lent<u32>,
     costs: Lent<u32>,
     record: Lent<u8>,
     list: Lent<u32>,
+    side: Lent<u8>,
+}
+
+/// How many panes there are, and their spans.
+struct Hours {
+    panes: usize,
+    spans: Vec<u8>,
+}
+
+/// A span for each index word, so that none is past the panes.
+fn all_day(t: &Tree) -> Hours {
+    Hours { panes: t.n(), spans: [0, 95].repeat(t.n()) }
+}
+
+fn call_timed(t: &Tree, limit: u32, order: u32, hours: &Hours, s: &mut Slices) -> u64 {
+    unsafe {
+        funnelcress_bvh2_to_cwbvh_timed(
+            t.words.as_ptr(),
+            t.words.len(),
+            t.indices.as_ptr(),
+            t.indices.len(),
+            limit,
+            order,
+            hours.panes,
+            hours.spans.as_ptr(),
+            hours.spans.len(),
+            s.decisions.pointer(),
+            s.decisions.long,
+            s.costs.pointer(),
+            s.costs.long,
+            s.record.pointer(),
+            s.record.long,
+            s.list.pointer(),
+            s.list.long,
+            s.side.pointer(),
+            s.side.long,
+        )
+    }
 }
 
 fn call(t: &Tree, limit: u32, order: u32, s: &mut Slices) -> u64 {
@@ -161,16 +181,28 @@ fn call(t: &Tree, limit: u32, order: u32, s: &mut Slices) -> u64 {
     }
 }
 
-/// One call: it is refused as expected, and what it is lent holds what a call so refused, or not refused, leaves there.
+/// One call, untimed and timed: it is refused as expected.
 fn convert(t: &Tree, limit: u32, order: u32, lengths: [usize; 4], expected: Option<u32>) {
-    let what = format!("{} leaves, limit {limit}, order {order}, lengths {lengths:?}, refused {expected:?}", t.n());
+    convert_once(t, limit, order, None, lengths, expected);
+    convert_once(t, limit, order, Some(&all_day(t)), lengths, expected);
+}
+
+/// One call: it is refused as expected, and what it is lent holds what a call so refused, or not refused, leaves there. A record node's
+/// row in the side table is a fifth as long as the node.
+fn convert_once(t: &Tree, limit: u32, order: u32, hours: Option<&Hours>, lengths: [usize; 4], expected: Option<u32>) {
+    let timed = hours.is_some();
+    let what = format!("{} leaves, limit {limit}, order {order}, timed {timed}, lengths {lengths:?}, refused {expected:?}", t.n());
     let mut s = Slices {
         decisions: Lent::new(lengths[0], nan),
         costs: Lent::new(lengths[1], nan),
         record: Lent::new(lengths[2], byte),
         list: Lent::new(lengths[3], nan),
+        side: Lent::new(lengths[2] / 5, byte),
     };
-    let answer = call(t, limit, order, &mut s);
+    let answer = match hours {
+        None => call(t, limit, order, &mut s),
+        Some(hours) => call_timed(t, limit, order, hours, &mut s),
+    };
     let refused = (answer >> 32 == 2).then_some(answer as u32);
     assert_eq!(refused, expected, "{what}");
     let [worked, _, _, n] = t.needs();
@@ -183,9 +215,34 @@ fn convert(t: &Tree, limit: u32, order: u32, lengths: [usize; 4], expected: Opti
     s.costs.kept_past(used[0], &what);
     s.record.kept_past(used[1], &what);
     s.list.kept_past(used[2], &what);
+    s.side.kept_past(if timed { used[1] / 5 } else { 0 }, &what);
     let most = if refused.is_some() { 0 } else { LARGEST };
     assert!(s.costs.front(used[0]).iter().all(|&w| w <= most), "{what}: costs");
     assert!(refused.is_none() || s.decisions.front(used[0]).iter().all(|&w| w == 0), "{what}: decisions");
+}
+
+/// Calls refused 14, whose working slices are cleared as far as they are needed, also where the tree is refused 7.
+fn refused_spans(rng: &mut Rng) -> usize {
+    let mut calls = 0;
+    for n in [1, 2, 50, 1000] {
+        let t = heap(rng, n);
+        let twice = t.with(7 * (t.nodes() - 1) + 6, 1 << 30);
+        let day = all_day(&t).spans;
+        let with = |at: usize, byte: u8| {
+            let mut spans = day.clone();
+            spans[at] = byte;
+            Hours { panes: n, spans }
+        };
+        let short = Hours { panes: n, spans: day[1..].to_vec() };
+        let fewer = Hours { panes: n - 1, spans: day[2..].to_vec() };
+        for hours in [short, fewer, with(0, 96), with(2 * n - 1, 96), with(2 * n - 2, 255)] {
+            for (tree, spare) in [(&t, 0), (&t, 1000), (&twice, 0), (&twice, 1000)] {
+                convert_once(tree, 3, 1, Some(&hours), t.needs().map(|k| k + spare), Some(14));
+                calls += 1;
+            }
+        }
+    }
+    calls
 }
 
 /// With every limit and order that is taken, and slices of just the lengths needed, and of some more.
@@ -319,6 +376,7 @@ fn main() {
     for (k, calls) in [one, two, three, four, five, six, seven, eight].into_iter().enumerate() {
         println!("refused {}: {calls} calls", k + 1);
     }
+    println!("refused 14: {} calls", refused_spans(&mut rng));
     println!("half areas, entry distances: {} calls", lists(&mut rng));
     println!("record check: {} calls", checks());
     println!("every bit that a call leaves came back");

@@ -1,5 +1,5 @@
-/* A small house from C: its tree converted, the record checked, a ray asked for what it meets, a report of two rays, and
- * the house joined to a corridor.
+/* A small house from C: its tree converted, the record checked, a ray asked for what it meets, a report of two rays, one of
+ * a screen drawn at noon, and the house joined to a corridor.
  *
  *   (cd crates/funnelcress && rt lib)
  *   cc -std=c11 -O2 -Iinclude examples/house.c crates/funnelcress/out/libfunnelcress.a -o target/house && target/house */
@@ -111,6 +111,32 @@ static void report(const uint8_t *record, size_t length, const uint32_t *list, c
     }
 }
 
+/* The house with a screen for its south roof, drawn from 10:00 to 14:00: what a ray loses at 9:00 and at noon. */
+static void screen(const float *ray) {
+    static uint32_t words[7 * (2 * PANES - 1)], indices[PANES], list[PANES], decisions[7 * (2 * PANES - 1)];
+    static float costs[7 * (2 * PANES - 1)];
+    uint8_t record[80 * PANES], side[16 * PANES], spans[PANES][2];
+    const uint8_t quarters[2] = {4 * 9, 4 * 12};
+    uint64_t ray_totals[2], pane_totals[PANES];
+    float rays[2][8];
+    build_tree(words, indices);
+    for (int k = 0; k < PANES; k++) {
+        spans[k][0] = k == 4 ? 4 * 10 : 0;
+        spans[k][1] = k == 4 ? 4 * 14 - 1 : FUNNELCRESS_LAST_QUARTER;
+    }
+    uint64_t number = funnelcress_bvh2_to_cwbvh_timed(
+        words, funnelcress_tree_words(PANES), indices, PANES, 3, 1, PANES, spans[0], 2 * PANES, decisions, funnelcress_table_words(PANES),
+        costs, funnelcress_table_words(PANES), record, funnelcress_record_bytes(PANES), list, PANES, side, funnelcress_side_bytes(PANES));
+    uint32_t nodes = funnelcress_value(unless_refused("timed convert", number)) & 0xffff;
+    memcpy(rays[0], ray, sizeof rays[0]);
+    memcpy(rays[1], ray, sizeof rays[1]);
+    number = unless_refused("timed report", funnelcress_report_timed(record, (size_t)nodes * FUNNELCRESS_NODE_BYTES, side,
+                                                                     (size_t)nodes * FUNNELCRESS_SIDE_BYTES, list, PANES, PANES, spans[0],
+                                                                     2 * PANES, losses, PANES, rays[0], 16, quarters, 2, ray_totals, 2,
+                                                                     pane_totals, PANES));
+    printf("the ray loses %.3f dB at 9:00 and %.3f dB at noon\n", ray_totals[0] / 1e3, ray_totals[1] / 1e3);
+}
+
 /* The house and the roof of a corridor as one tree: the corridor's pane is counted on from the house's. */
 static void join(void) {
     static uint32_t house[7 * (2 * PANES - 1)], house_indices[PANES], marks[3 * PANES];
@@ -145,6 +171,7 @@ int main(void) {
     uint64_t miss = unless_refused("miss", funnelcress_miss(record, length, list, PANES, panes[0], 6 * PANES, ray, 8));
     printf("the sun %s\n", funnelcress_kind(miss) == 0 ? "is seen" : "is behind glass");
     report(record, length, list, ray);
+    screen(ray);
     join();
     printf("no nodes, NULL for empty slices: %u positions\n",
            funnelcress_value(unless_refused("any-hit", funnelcress_any_hit(NULL, 0, 0, ray, 8, NULL, 0))));

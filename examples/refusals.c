@@ -15,7 +15,7 @@ static const float along[8] = {-1, 0.5f, 0.5f, 1, 0, 0, 0, INFINITY};
 static uint32_t words[21], indices[2] = {0, 1};
 static uint32_t decisions[MOST], list[MOST], work[MOST];
 static float costs[MOST], out[MOST];
-static uint8_t record[MOST];
+static uint8_t record[MOST], side[MOST];
 static uint64_t ray_totals[MOST], pane_totals[MOST];
 static int failures;
 
@@ -29,6 +29,7 @@ static void fresh(void) {
     memset(decisions, 0xa5, sizeof decisions);
     memset(costs, 0xa5, sizeof costs);
     memset(record, 0xa5, sizeof record);
+    memset(side, 0xa5, sizeof side);
     memset(list, 0xa5, sizeof list);
     memset(work, 0xa5, sizeof work);
     memset(out, 0xa5, sizeof out);
@@ -79,6 +80,45 @@ static void trees(void) {
     convert("convert, a box with a NaN", 6, 21, 2, 3, 1, 21);
     words[20] = FUNNELCRESS_LEAF(0);
     convert("convert, a position held twice", 7, 21, 2, 3, 1, 21);
+}
+
+/* Timed conversion with these spans of so many panes and with so much room for the side table: refused, all outputs untouched, and from 5
+ * on the working slices zero. */
+static void convert_timed(const char *call, uint32_t cause, size_t panes, const uint8_t *spans, size_t spans_len, size_t room) {
+    uint64_t number = funnelcress_bvh2_to_cwbvh_timed(words, 21, indices, 2, 3, 0, panes, spans, spans_len, decisions, 21, costs, 21, record,
+                                                      80, list, 2, side, room);
+    size_t used = cause >= 5 ? 21 : 0;
+    int zero = 1;
+    for (size_t i = 0; i < used; i++) {
+        zero = zero && decisions[i] == 0 && costs[i] == 0;
+    }
+    expect(call, cause, number,
+           zero && kept(decisions, 4 * used, sizeof decisions) && kept(costs, 4 * used, sizeof costs) && kept(record, 0, MOST) &&
+               kept(list, 0, sizeof list) && kept(side, 0, MOST));
+    fresh();
+}
+
+static const uint8_t spans[4] = {32, 63, 60, 95};
+
+static void timed_trees(void) {
+    const uint8_t swapped[4] = {63, 32, 60, 95}, late[4] = {32, 63, 60, 96};
+    convert_timed("timed convert, side table short", 4, 2, spans, 3, funnelcress_side_bytes(2) - 1);
+    convert_timed("timed convert, a span byte short", 14, 2, spans, 3, 16);
+    convert_timed("timed convert, a span from 63 to 32", 14, 2, swapped, 4, 16);
+    convert_timed("timed convert, a span to 96", 14, 2, late, 4, 16);
+    convert_timed("timed convert, an index past the panes", 14, 1, spans, 2, 16);
+    words[20] = FUNNELCRESS_LEAF(0);
+    convert_timed("timed convert, a position held twice", 7, 2, spans, 4, 16);
+    words[20] = FUNNELCRESS_LEAF(0);
+    convert_timed("timed convert, both", 14, 2, late, 4, 16);
+    uint64_t number = funnelcress_bvh2_to_cwbvh_timed(words, 21, indices, 2, 3, 0, 2, spans, 4, decisions, 21, costs, 21, record, 80, list, 2,
+                                                      side, MOST);
+    int right = number == 1 && memcmp(side, spans, 4) == 0;
+    for (int i = 4; i < 16; i++) {
+        right = right && side[i] == 0;
+    }
+    expect("timed convert, nothing wrong", 0, number, right && kept(side, 16, MOST) && kept(record, 80, MOST));
+    fresh();
 }
 
 /* A join of the sample with a second tree, with room for so many words: refused, its outputs untouched, and from 5 on the five marks
@@ -180,6 +220,41 @@ static void reports(const uint8_t *good, const uint32_t *good_list) {
     expect("report, nothing wrong", 0, number, totals && past_kept && number == 2);
 }
 
+/* A timed report of the sample by two rays, with so many spans, side table bytes and quarter hours: refused, and both totals untouched. */
+static void report_timed(const char *call, uint32_t cause, const uint8_t *good, const uint8_t *table, size_t table_len, size_t spans_len,
+                         const uint8_t *quarters, size_t quarters_len, float last_tmax) {
+    const uint32_t losses[2] = {3000, 500};
+    float rays[2][8];
+    memcpy(rays[0], along, sizeof along);
+    memcpy(rays[1], along, sizeof along);
+    rays[1][7] = last_tmax;
+    uint64_t number = funnelcress_report_timed(good, 80, table, table_len, indices, 2, 2, spans, spans_len, losses, 2, rays[0], 16, quarters,
+                                               quarters_len, ray_totals, 2, pane_totals, 2);
+    if (cause != 0) {
+        expect(call, cause, number, kept(ray_totals, 0, sizeof ray_totals) && kept(pane_totals, 0, sizeof pane_totals));
+    } else {
+        int totals = ray_totals[0] == 3000 && ray_totals[1] == 3500 && pane_totals[0] == 6000 && pane_totals[1] == 500;
+        int past_kept = kept(ray_totals, 16, sizeof ray_totals) && kept(pane_totals, 16, sizeof pane_totals);
+        expect(call, 0, number, totals && past_kept && number == 2);
+    }
+    fresh();
+}
+
+static void timed_reports(void) {
+    const uint8_t quarters[3] = {40, 61, 96};
+    uint8_t good[80], table[32];
+    uint32_t good_list[2];
+    failures += funnelcress_bvh2_to_cwbvh_timed(words, 21, indices, 2, 3, 0, 2, spans, 4, decisions, 21, costs, 21, good, 80, good_list, 2,
+                                                table, 16) != 1;
+    fresh();
+    report_timed("timed report, a quarter hour short", 1, good, table, 16, 3, quarters, 1, NAN);
+    report_timed("timed report, a span byte short", 14, good, table, 16, 3, quarters, 2, NAN);
+    report_timed("timed report, side table of 17 bytes", 14, good, table, 17, 4, quarters, 2, NAN);
+    report_timed("timed report, quarter hour 96", 14, good, table, 16, 4, quarters + 1, 2, NAN);
+    report_timed("timed report, tmax of the last ray a NaN", 9, good, table, 16, 4, quarters, 2, NAN);
+    report_timed("timed report, nothing wrong", 0, good, table, 16, 4, quarters, 2, INFINITY);
+}
+
 static void walkers(const uint8_t *good) {
     funnelcress_walker w, before;
     memset(&w, 0xa5, sizeof w);
@@ -229,6 +304,7 @@ int main(void) {
     uint32_t good_list[2];
     fresh();
     trees();
+    timed_trees();
     joins();
     if (funnelcress_bvh2_to_cwbvh(words, 21, indices, 2, 3, 1, decisions, 21, costs, 21, good, 80, good_list, 2) != 1) {
         return 1;
@@ -236,6 +312,7 @@ int main(void) {
     fresh();
     queries(good, good_list);
     reports(good, good_list);
+    timed_reports();
     walkers(good);
     zeros(good);
     printf("%d wrong\n", failures);

@@ -8,8 +8,8 @@
  * - No function keeps a pointer, allocates, or has state of its own: calls may run on many threads at once, as long as
  *   none writes what another reads or writes.
  * - Any values are allowed in the slices. What can't be used is refused, with a number that says why:
- *     1  some length is wrong for its layout (tree 7 words a node, record 80 bytes a node, pane 6 floats, ray 8), or the
- *        tree has not 2n - 1 nodes
+ *     1  some length is wrong for its layout (tree 7 words a node, record 80 bytes a node, pane 6 floats, ray 8, a byte for
+ *        the quarter hour of each), or the tree has not 2n - 1 nodes
  *     2  more than 65,536 positions, those of a joined tree too, 65,535 record nodes or 65,536 rays of a report
  *     3  the leaf limit exceeds 3, or the order is neither 0 nor 1
  *     4  too little room was lent for outputs or work
@@ -22,8 +22,10 @@
  *    11  any-hit meets more positions than its list has room for
  *    12  losses that are not one for each pane, or one over 1,000,000
  *    13  an index word of a joined tree that 32 bits don't hold
- *   Causes are looked at in rising number, but 12 right after 6 and 13 right after 7; those of a walk come where the walk
- *   meets them.
+ *    14  spans that are not two bytes for each pane, a span whose first quarter hour is past its last, a quarter hour over
+ *        95, a side table to be read that has not 16 bytes a record node, or at conversion an index word past the panes
+ *   Causes are looked at in rising number, but 12 and then 14 right after 6, and 13 right after 7; those of a walk come
+ *   where the walk meets them.
  * - Zeros of a ray's origin and direction have no sign: -0.0 there is read as +0.0. tmin and tmax are read as they are.
  * - Unless said otherwise a refused call leaves all slices as they were, and no call writes past what it says.
  *
@@ -43,10 +45,13 @@ extern "C" {
 #define FUNNELCRESS_TREE_WORDS 7       /* words of a tree node: lower and upper corner as float bits, link */
 #define FUNNELCRESS_RAY_FLOATS 8       /* origin x y z, direction x y z, tmin, tmax */
 #define FUNNELCRESS_PANE_FLOATS 6      /* min x y z, max x y z */
+#define FUNNELCRESS_SPAN_BYTES 2       /* a pane's first and last quarter hour, both included */
+#define FUNNELCRESS_SIDE_BYTES 16      /* bytes of a side table for a record node: a span for each slot */
 #define FUNNELCRESS_MAX_POSITIONS 65536
 #define FUNNELCRESS_MAX_NODES 65535
 #define FUNNELCRESS_MAX_RAYS 65536     /* rays of a report */
 #define FUNNELCRESS_MAX_LOSS 1000000   /* a pane's loss, in thousandths of a decibel */
+#define FUNNELCRESS_LAST_QUARTER 95    /* the quarter hour that ends at midnight; 0 begins there */
 #define FUNNELCRESS_WALKER_HEAD 18     /* words of a walker's state */
 #define FUNNELCRESS_WALKER_STACK 32    /* and of its stack */
 
@@ -64,11 +69,12 @@ static inline uint32_t funnelcress_cause(uint64_t number) {
     return funnelcress_kind(number) == 2 ? funnelcress_value(number) : 0;
 }
 
-/* Lengths for a tree of n leaves: its words, decision words (and as many costs), record bytes; and working words of the
- * record check. */
+/* Lengths for a tree of n leaves: its words, decision words (and as many costs), record bytes, side table bytes; and
+ * working words of the record check. */
 static inline size_t funnelcress_tree_words(size_t n) { return n == 0 ? 0 : 7 * (2 * n - 1); }
 static inline size_t funnelcress_table_words(size_t n) { return funnelcress_tree_words(n); }
 static inline size_t funnelcress_record_bytes(size_t n) { return n == 0 ? 0 : n == 1 ? 80 : 80 * (n - 1); }
+static inline size_t funnelcress_side_bytes(size_t n) { return n == 0 ? 0 : n == 1 ? 16 : 16 * (n - 1); }
 static inline size_t funnelcress_check_words(size_t record_len, size_t n) { return record_len / 80 + n; }
 /* Working words of a join of trees with so many leaves. */
 static inline size_t funnelcress_join_marks(size_t first, size_t second) {
@@ -91,6 +97,23 @@ static inline size_t funnelcress_join_marks(size_t first, size_t second) {
 uint64_t funnelcress_bvh2_to_cwbvh(const uint32_t *words, size_t words_len, const uint32_t *indices, size_t indices_len,
                                    uint32_t limit, uint32_t order, uint32_t *decisions, size_t decisions_len, float *costs,
                                    size_t costs_len, uint8_t *record, size_t record_len, uint32_t *list, size_t list_len);
+
+/* The same for panes that are there at some quarter hours of the day alone: it writes a side table too, in which slot i of
+ * record node v has the first quarter hour at byte 16 v + 2i and the last at the next, the narrowest span over the panes
+ * below that slot; an empty slot has 0 and 0.
+ *   words, indices, limit, order, decisions, costs, record, list      as funnelcress_bvh2_to_cwbvh has them
+ *   panes      how many panes there are; each index word names one of them
+ *   spans      FUNNELCRESS_SPAN_BYTES a pane: its first quarter hour, then its last, 0 to FUNNELCRESS_LAST_QUARTER, both
+ *              included; what is there over midnight is two panes; read
+ *   side       funnelcress_side_bytes(n) bytes or more
+ * Returns as funnelcress_bvh2_to_cwbvh does. Written then also: the first 16 bytes a node of side, which is what a report
+ * is to be given; what is behind stays. A refused call leaves side as it was, and 14 what 5 leaves. Refusals, looked at in
+ * this order: 1, 2, 3, 4, 5, 6, 14, 7, 8. */
+uint64_t funnelcress_bvh2_to_cwbvh_timed(const uint32_t *words, size_t words_len, const uint32_t *indices, size_t indices_len,
+                                         uint32_t limit, uint32_t order, size_t panes, const uint8_t *spans, size_t spans_len,
+                                         uint32_t *decisions, size_t decisions_len, float *costs, size_t costs_len,
+                                         uint8_t *record, size_t record_len, uint32_t *list, size_t list_len, uint8_t *side,
+                                         size_t side_len);
 
 /* The record check.
  *   record     80 bytes a node; read
@@ -134,6 +157,21 @@ uint64_t funnelcress_miss(const uint8_t *record, size_t record_len, const uint32
 uint64_t funnelcress_report(const uint8_t *record, size_t record_len, const uint32_t *indices, size_t indices_len,
                             size_t panes, const uint32_t *losses, size_t losses_len, const float *rays, size_t rays_len,
                             uint64_t *ray_totals, size_t ray_totals_len, uint64_t *pane_totals, size_t pane_totals_len);
+
+/* A report over rays that each have a quarter hour: a ray passes only what is there then. It passes a slot whose box and
+ * whose span in the side table let it through, and meets a position whose pane's own span holds its quarter hour besides.
+ *   record, indices, panes, losses, rays, ray_totals, pane_totals      as funnelcress_report has them
+ *   side       the record's side table, 16 bytes a node and no more; read as it is: a span whose first is past its last
+ *              holds no quarter hour
+ *   spans      FUNNELCRESS_SPAN_BYTES a pane, as at conversion; read
+ *   quarters   a byte for each ray, 0 to FUNNELCRESS_LAST_QUARTER; read
+ * Returns and writes as funnelcress_report does. Refusals, looked at in this order: 1, also where quarters are not one byte
+ * a ray, 2, 4, 12, 14, 9 for any ray, and then 10, as there. */
+uint64_t funnelcress_report_timed(const uint8_t *record, size_t record_len, const uint8_t *side, size_t side_len,
+                                  const uint32_t *indices, size_t indices_len, size_t panes, const uint8_t *spans,
+                                  size_t spans_len, const uint32_t *losses, size_t losses_len, const float *rays,
+                                  size_t rays_len, const uint8_t *quarters, size_t quarters_len, uint64_t *ray_totals,
+                                  size_t ray_totals_len, uint64_t *pane_totals, size_t pane_totals_len);
 
 /* Joins two trees under a new root, whose box is the union of theirs. Every other box stays bit for bit; the second's
  * leaves stand behind the first's, and its panes are counted on from the first's.

@@ -2,6 +2,8 @@
 
 /// The bytes of a record node.
 pub const NODE_BYTES: usize = 80;
+/// The bytes of a side table for a record node.
+pub const SIDE_BYTES: usize = 16;
 /// The most positions of a record.
 pub const MAX_POSITIONS: usize = 65_536;
 /// The most nodes of a record.
@@ -17,8 +19,8 @@ pub const MAX_LOSS: u32 = 1_000_000;
 ///
 /// ```
 /// let needed = funnelcress::Lengths::of(2);
-/// assert_eq!((needed.words, needed.tables, needed.record, needed.list), (21, 21, 80, 2));
-/// assert_eq!(funnelcress::Lengths::of(0).record, 0);
+/// assert_eq!((needed.words, needed.tables, needed.record, needed.list, needed.side), (21, 21, 80, 2, 16));
+/// assert_eq!((funnelcress::Lengths::of(0).record, funnelcress::Lengths::of(0).side), (0, 0));
 /// assert_eq!((funnelcress::Lengths::marks(2, 5), funnelcress::Lengths::marks(0, 0)), (14, 0));
 /// ```
 #[derive(Clone, Copy, Debug, PartialEq, Eq)]
@@ -31,6 +33,8 @@ pub struct Lengths {
     pub record: usize,
     /// Index words.
     pub list: usize,
+    /// Bytes that the side table may need, where the tree is converted with spans.
+    pub side: usize,
 }
 
 impl Lengths {
@@ -43,6 +47,7 @@ impl Lengths {
             tables: nodes.saturating_mul(7),
             record: record_nodes.saturating_mul(NODE_BYTES),
             list: n,
+            side: record_nodes.saturating_mul(SIDE_BYTES),
         }
     }
 

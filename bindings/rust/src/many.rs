@@ -3,6 +3,7 @@ use crate::answers::Report;
 use crate::ray::Ray;
 use crate::record::Record;
 use crate::refusal::Refusal;
+use crate::timed::{Span, TimedRecord};
 use std::num::NonZero;
 use std::thread;
 
@@ -59,10 +60,30 @@ pub fn report_on_threads(
     together(on_threads(threads, &parts, |part| record.report(panes, losses, part)))
 }
 
-/// The whole list's report from its parts', or its refusal: 9 of any ray comes before 10 of any other, and whatever else
-/// refuses one part refuses all.
+/// The report of [`TimedRecord::report`], the rays and their quarter hours shared by so many threads, as
+/// [`report_on_threads`] shares them.
+pub fn timed_report_on_threads(
+    threads: usize,
+    record: &TimedRecord,
+    panes: usize,
+    spans: &[Span],
+    losses: &[u32],
+    rays: &[Ray],
+    quarters: &[u8],
+) -> Result<Report, Refusal> {
+    if threads < 2 || rays.len() < 2 || rays.len() > crate::MAX_RAYS || rays.len() != quarters.len() {
+        return record.report(panes, spans, losses, rays, quarters);
+    }
+    let share = rays.len().div_ceil(threads);
+    let parts: Vec<(&[Ray], &[u8])> = rays.chunks(share).zip(quarters.chunks(share)).collect();
+    together(on_threads(threads, &parts, |(rays, quarters)| record.report(panes, spans, losses, rays, quarters)))
+}
+
+/// The whole list's report from its parts', or its refusal: 14 of any quarter hour comes before 9 of any ray, and that before
+/// 10 of any other; whatever else refuses one part refuses all.
 fn together(parts: Vec<Result<Report, Refusal>>) -> Result<Report, Refusal> {
-    let first = parts.iter().filter_map(|part| part.as_ref().err()).min_by_key(|refusal| refusal.number());
+    let place = |refusal: &&Refusal| (**refusal != Refusal::Spans, refusal.number());
+    let first = parts.iter().filter_map(|part| part.as_ref().err()).min_by_key(place);
     if let Some(refusal) = first {
         return Err(*refusal);
     }

@@ -235,6 +235,73 @@ fn refused_reports() {
     assert!(status == 1 && out.is_empty() && err.contains("not sound"));
 }
 
+/// The house with a screen that is drawn from quarter 40 to 55, and what a report at quarter hours is given besides.
+fn screens(name: &str) -> (PathBuf, String) {
+    let at = losses(name);
+    std::fs::write(at.join("spans.txt"), "0 95 first\n# a remark\n40 55 screen\n").unwrap();
+    std::fs::write(at.join("quarters.txt"), "40\n40 at ten\n40\n").unwrap();
+    let converted = printed(&at, "convert house.tree -o timed --spans spans.txt --order 0");
+    assert_eq!(converted, "converted 1 nodes 2 positions\n");
+    let report = "report timed.record timed.list losses.txt three.txt --side timed.side --spans spans.txt";
+    (at, report.into())
+}
+
+#[test]
+fn quarter_hours() {
+    let (at, report) = screens("quarter_hours");
+    assert_eq!(std::fs::read(at.join("timed.side")).unwrap()[..4], [0, 95, 40, 55]);
+    assert!(!at.join("house.side").exists());
+    for more in ["", "--threads 1", "--threads 3", "--panes 2"] {
+        assert_eq!(printed(&at, &format!("{report} --quarters quarters.txt {more}")), TOTALS);
+    }
+    std::fs::write(at.join("early.u8"), [39, 55, 56]).unwrap();
+    let early = "ray 0 3000\nray 1 3000\nray 2 0\npane 0 6000\npane 1 0\ntests 3\n";
+    assert_eq!(printed(&at, &format!("{report} --quarters early.u8")), early);
+    std::fs::write(at.join("spans.u8"), [0, 95, 40, 55]).unwrap();
+    printed(&at, "convert house.tree -o packed --spans spans.u8 --order 0");
+    for kind in ["record", "list", "side"] {
+        let read = |name: &str| std::fs::read(at.join(format!("{name}.{kind}"))).unwrap();
+        assert_eq!(read("packed"), read("timed"));
+    }
+}
+
+/// What is wrong with spans, side table or quarter hours is said, and no file or line is written.
+#[test]
+fn refused_quarter_hours() {
+    let (at, report) = screens("refused_quarter_hours");
+    std::fs::write(at.join("swapped.txt"), "0 95\n55 40\n").unwrap();
+    std::fs::write(at.join("late.txt"), "0 95\n40 96\n").unwrap();
+    for words in ["swapped.txt", "late.txt", "spans.txt --panes 3"] {
+        let (status, out, err) = failed(&at, &format!("convert house.tree -o x --spans {words}"));
+        assert!(status == 1 && out.is_empty() && err.contains("refused 14: "), "{words}: {err}");
+        assert!(["record", "list", "side"].iter().all(|kind| !at.join(format!("x.{kind}")).exists()));
+    }
+    std::fs::write(at.join("short.u8"), [40, 40]).unwrap();
+    std::fs::write(at.join("over.u8"), [40, 96, 40]).unwrap();
+    std::fs::write(at.join("cut.side"), [0; 15]).unwrap();
+    let cut = report.replace("timed.side", "cut.side");
+    for (words, number) in [
+        (format!("{report} --quarters short.u8"), 1),
+        (format!("{report} --quarters over.u8"), 14),
+        (format!("{cut} --quarters quarters.txt"), 14),
+    ] {
+        let (status, out, err) = failed(&at, &words);
+        assert!(status == 1 && out.is_empty() && err.contains(&format!("refused {number}: ")), "{words}: {err}");
+    }
+    let (status, _, err) = failed(&at, &report);
+    assert!(status == 2 && err.contains("--side, --spans and --quarters are needed together"));
+    for (text, said) in [
+        ("40", "line 1: 2 numbers are needed, 1 are there"),
+        ("0 95 40", "line 1: 2 numbers are needed, more are there"),
+        ("0 256", "line 1: 256 is no whole number of 8 bits"),
+    ] {
+        std::fs::write(at.join("odd.txt"), text).unwrap();
+        assert!(failed(&at, "convert house.tree -o x --spans odd.txt").2.contains(said));
+    }
+    std::fs::write(at.join("odd.u8"), [0, 95, 40]).unwrap();
+    assert!(failed(&at, "convert house.tree -o x --spans odd.u8").2.contains("no multiple of 2 bytes"));
+}
+
 /// The worked house and its corridor as one model: a ray up from the corridor's floor meets the last pane of both.
 #[test]
 fn the_worked_corridor() {
@@ -269,4 +336,24 @@ fn the_worked_house() {
     assert_eq!(rays.iter().sum::<u64>(), panes.iter().sum());
     assert!(rays.iter().all(|loss| *loss > 0));
     assert_eq!(printed(&at, &format!("{words} --threads 1")), printed(&at, &format!("{words} --threads 5")));
+}
+
+/// The worked house with its screens drawn around noon alone: the rays of the morning and the afternoon lose nothing to them.
+#[test]
+fn the_worked_screens() {
+    let at = folder("worked_screens");
+    let house = concat!(env!("CARGO_MANIFEST_DIR"), "/../../examples/house");
+    printed(&at, &format!("tree {house}/house.txt -o house.tree"));
+    let converted = printed(&at, &format!("convert house.tree -o house --spans {house}/spans.txt"));
+    assert_eq!(converted, "converted 4 nodes 42 positions\n");
+    let report = format!("report house.record house.list {house}/losses.txt {house}/rays.txt");
+    let hours = format!("--side house.side --spans {house}/spans.txt --quarters {house}/quarters.txt");
+    let lines = printed(&at, &format!("{report} {hours}"));
+    assert!(lines.starts_with("ray 0 5610\nray 1 "), "{lines}");
+    assert!(lines.contains("\npane 39 15490\npane 40 0\n") && lines.ends_with("\ntests 111\n"), "{lines}");
+    assert!(printed(&at, &report).starts_with("ray 0 7159\n"));
+    for kind in ["ray ", "pane "] {
+        let of_kind = lines.lines().filter_map(|line| line.strip_prefix(kind)?.split(' ').nth(1)?.parse::<u64>().ok());
+        assert_eq!(of_kind.sum::<u64>(), 105_346);
+    }
 }

@@ -283,7 +283,7 @@ fn a_damaged_report() {
 
 #[test]
 fn sentences() {
-    for number in 1..=13 {
+    for number in 1..=14 {
         let refusal = match number {
             11 => Refusal::List { needed: 9 },
             _ => Refusal::from_number(number),

@@ -1,44 +1,9 @@
 //! Nothing is written past a slice, and what a call leaves as it was comes back bit by bit, NaNs with payloads too.
+#[path = "common/lent.rs"]
+mod lent;
+
 use funnelcress::{Lengths, Options, Pane, Tree, sys};
-
-const GUARDS: usize = 16;
-
-/// A quiet or signalling NaN of either sign with a payload of its own, as bits.
-fn nan(k: usize) -> u32 {
-    [0x7fc0_0000, 0xffc0_0000, 0x7f80_0000, 0xff80_0000][k % 4] + 1 + k as u32 % 0x3f_ffff
-}
-
-/// A slice with guards at both ends, and what all of it held at first.
-struct Lent<T> {
-    all: Vec<T>,
-    before: Vec<T>,
-    long: usize,
-}
-
-impl<T: Copy + PartialEq + std::fmt::Debug> Lent<T> {
-    fn new(long: usize, pattern: fn(usize) -> T) -> Lent<T> {
-        let all: Vec<T> = (0..long + 2 * GUARDS).map(pattern).collect();
-        Lent { before: all.clone(), all, long }
-    }
-
-    fn pointer(&mut self) -> *mut T {
-        self.all[GUARDS..].as_mut_ptr()
-    }
-
-    /// All but the first elements is as it was.
-    fn kept_past(&self, used: usize) {
-        assert_eq!(self.all[..GUARDS], self.before[..GUARDS]);
-        assert_eq!(self.all[GUARDS + used..], self.before[GUARDS + used..]);
-    }
-}
-
-fn byte(k: usize) -> u8 {
-    (k * 7 + 129) as u8
-}
-
-fn word(k: usize) -> u64 {
-    nan(k) as u64 * 0x1_0000_0001
-}
+use lent::{GUARDS, Lent, byte, nan, word};
 
 fn panes(n: usize) -> Vec<Pane> {
     (0..n).map(|k| [2.0 * k as f32, 0.0, 0.0, 2.0 * k as f32 + 1.0, 1.0, 1.0]).collect()

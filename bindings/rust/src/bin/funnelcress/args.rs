@@ -9,6 +9,9 @@ pub struct Args {
     pub order: Option<u32>,
     pub panes: Option<usize>,
     pub threads: Option<usize>,
+    pub spans: Option<String>,
+    pub side: Option<String>,
+    pub quarters: Option<String>,
     pub json: bool,
     pub help: bool,
 }
@@ -26,6 +29,9 @@ impl Args {
                 "--order" => args.order = Some(number(word, words.next())?),
                 "--panes" => args.panes = Some(number(word, words.next())?),
                 "--threads" => args.threads = Some(number(word, words.next())?),
+                "--spans" => args.spans = Some(value(word, words.next())?),
+                "--side" => args.side = Some(value(word, words.next())?),
+                "--quarters" => args.quarters = Some(value(word, words.next())?),
                 option if option.starts_with('-') && option.len() > 1 => return Err(format!("no option {option}")),
                 file => args.files.push(file.into()),
             }
@@ -45,6 +51,15 @@ impl Args {
 
     pub fn panes(&self) -> Result<usize, Failure> {
         self.panes.ok_or(Failure::Words("--panes is needed, with how many panes the first tree is over".into()))
+    }
+
+    /// The files of side table, spans and quarter hours, where a report is asked for at quarter hours.
+    pub fn hours(&self) -> Result<Option<[&str; 3]>, Failure> {
+        match [&self.side, &self.spans, &self.quarters] {
+            [None, None, None] => Ok(None),
+            [Some(side), Some(spans), Some(quarters)] => Ok(Some([side, spans, quarters])),
+            _ => Err(Failure::Words("--side, --spans and --quarters are needed together".into())),
+        }
     }
 
     pub fn threads(&self) -> usize {

@@ -4,7 +4,8 @@ use crate::failure::Failure;
 use crate::output::{self, Progress, joined};
 use crate::{files, help};
 use funnelcress::{
-    AnyHit, Closest, Miss, Pane, Ray, Record, Refusal, Report, Tree, Verdict, on_threads, report_on_threads,
+    AnyHit, Closest, Miss, Pane, Ray, Record, Refusal, Report, TimedRecord, Tree, Verdict, on_threads,
+    report_on_threads, timed_report_on_threads,
 };
 
 type Command = fn(&Args) -> Result<(), Failure>;
@@ -46,7 +47,16 @@ fn convert(args: &Args) -> Result<(), Failure> {
     let [name] = args.files()?;
     let out = args.out()?;
     let (tree, limit, order) = files::tree(name)?;
-    let record = tree.convert_by(args.limit.unwrap_or(limit), args.order.unwrap_or(order))?;
+    let (limit, order) = (args.limit.unwrap_or(limit), args.order.unwrap_or(order));
+    let record = match &args.spans {
+        None => tree.convert_by(limit, order)?,
+        Some(spans) => {
+            let spans = files::spans(spans)?;
+            let timed = tree.convert_timed_by(args.panes.unwrap_or(spans.len()), &spans, limit, order)?;
+            files::write(&format!("{out}.side"), timed.side())?;
+            timed.into_record()
+        }
+    };
     files::write(&format!("{out}.record"), &files::record_bytes(&record))?;
     files::write(&format!("{out}.list"), &files::to_bytes(record.indices()))?;
     let (nodes, n) = (record.bytes().len() / funnelcress::NODE_BYTES, record.positions());
@@ -164,9 +174,17 @@ fn report(args: &Args) -> Result<(), Failure> {
     let (_, bytes) = files::record(record)?;
     let record = Record::from_parts(bytes, files::list(list)?);
     let (losses, rays) = (files::losses(losses)?, files::rays(rays)?);
+    let hours = args.hours()?;
     sound(record.check())?;
-    let panes = args.panes.unwrap_or(losses.len());
-    let Report { rays, panes, tests } = report_on_threads(args.threads(), &record, panes, &losses, &rays)?;
+    let (threads, panes) = (args.threads(), args.panes.unwrap_or(losses.len()));
+    let Report { rays, panes, tests } = match hours {
+        None => report_on_threads(threads, &record, panes, &losses, &rays)?,
+        Some([side, spans, quarters]) => {
+            let timed = TimedRecord::from_parts(record, files::bytes(side)?);
+            let (spans, quarters) = (files::spans(spans)?, files::quarters(quarters)?);
+            timed_report_on_threads(threads, &timed, panes, &spans, &losses, &rays, &quarters)?
+        }
+    };
     let totals = |kind, totals: &[u64]| output::totals(kind, totals, args.json);
     output::text(&(totals("ray", &rays) + &totals("pane", &panes) + &output::tests(tests, args.json)))
 }

@@ -1,10 +1,12 @@
 //! The files that are read and written. Numbers are little-endian words; a name that ends in .f32 has packed floats, one
-//! that ends in .u32 packed words, any other text with one pane, ray or loss a line.
+//! that ends in .u32 packed words, one that ends in .u8 packed bytes, any other text with one pane, ray, loss, span or quarter
+//! hour a line.
 use crate::failure::Failure;
-use funnelcress::{MAX_POSITIONS, Pane, Ray, Record, Tree};
+use funnelcress::{MAX_POSITIONS, Pane, Ray, Record, Span, Tree};
 use std::fs;
+use std::str::FromStr;
 
-fn bytes(name: &str) -> Result<Vec<u8>, Failure> {
+pub fn bytes(name: &str) -> Result<Vec<u8>, Failure> {
     fs::read(name).map_err(|e| Failure::file(name, e))
 }
 
@@ -61,8 +63,8 @@ pub fn list(name: &str) -> Result<Vec<u32>, Failure> {
 
 /// What each line of a text says, but for empty ones and remarks.
 fn lines<T>(name: &str, all: Vec<u8>, read: impl Fn(&str) -> Result<T, String>) -> Result<Vec<T>, Failure> {
-    let text =
-        String::from_utf8(all).map_err(|_| Failure::file(name, "it is no text; packed numbers end in .f32 or .u32"))?;
+    let text = String::from_utf8(all)
+        .map_err(|_| Failure::file(name, "it is no text; packed numbers end in .f32, .u32 or .u8"))?;
     let lines = text.lines().enumerate().filter(|(_, l)| !l.trim().is_empty() && !l.trim_start().starts_with('#'));
     lines.map(|(k, line)| read(line).map_err(|e| Failure::file(name, format!("line {}: {e}", k + 1)))).collect()
 }
@@ -83,13 +85,18 @@ fn floats<const N: usize>(name: &str) -> Result<Vec<[f32; N]>, Failure> {
 
 /// A line's first floats; what stands behind them, as a name, is left.
 fn group<const N: usize>(line: &str) -> Result<[f32; N], String> {
-    let parts: Vec<&str> = line.split([' ', '\t', ',']).filter(|p| !p.is_empty()).collect();
+    let mut parts = parts(line);
     let mut out = [0.0; N];
     for (k, x) in out.iter_mut().enumerate() {
-        let part = parts.get(k).ok_or(format!("{N} numbers are needed, {k} are there"))?;
+        let part = parts.next().ok_or(format!("{N} numbers are needed, {k} are there"))?;
         *x = part.parse().map_err(|_| format!("{part} is no number"))?;
     }
     Ok(out)
+}
+
+/// What stands in a line between blanks and commas.
+fn parts(line: &str) -> impl Iterator<Item = &str> {
+    line.split([' ', '\t', ',']).filter(|p| !p.is_empty())
 }
 
 /// A word for each pane, packed or a line each.
@@ -98,17 +105,47 @@ pub fn losses(name: &str) -> Result<Vec<u32>, Failure> {
     if name.ends_with(".u32") {
         return words(name, &all);
     }
-    lines(name, all, loss)
+    Ok(lines(name, all, whole)?.into_iter().map(|[loss]| loss).collect())
 }
 
-/// A line's loss; a name may stand behind it, but no other number, as in a file of panes.
-fn loss(line: &str) -> Result<u32, String> {
-    let mut parts = line.split([' ', '\t', ',']).filter(|p| !p.is_empty());
-    let part = parts.next().unwrap_or(line);
-    if parts.any(|p| p.parse::<f32>().is_ok()) {
-        return Err("one number is needed, more are there".into());
+/// A span for each pane: two packed bytes, or two numbers a line.
+pub fn spans(name: &str) -> Result<Vec<Span>, Failure> {
+    let all = bytes(name)?;
+    if name.ends_with(".u8") {
+        let (spans, rest) = all.as_chunks::<2>();
+        if !rest.is_empty() {
+            return Err(Failure::file(name, "its length is no multiple of 2 bytes"));
+        }
+        return Ok(spans.to_vec());
     }
-    part.parse().map_err(|_| format!("{part} is no whole number of 32 bits"))
+    lines(name, all, whole)
+}
+
+/// A quarter hour for each ray, packed or a line each.
+pub fn quarters(name: &str) -> Result<Vec<u8>, Failure> {
+    let all = bytes(name)?;
+    if name.ends_with(".u8") {
+        return Ok(all);
+    }
+    Ok(lines(name, all, whole)?.into_iter().map(|[quarter]| quarter).collect())
+}
+
+/// A line's whole numbers; a name may stand behind them, but no other number, as in a file of panes.
+fn whole<T: Copy + Default + FromStr, const N: usize>(line: &str) -> Result<[T; N], String> {
+    let needed = if N == 1 { "one number is needed".into() } else { format!("{N} numbers are needed") };
+    let mut parts = parts(line);
+    let mut out = [T::default(); N];
+    let first: Vec<&str> = parts.by_ref().take(N).collect();
+    if first.len() < N {
+        return Err(format!("{needed}, {} are there", first.len()));
+    }
+    if parts.any(|p| p.parse::<f32>().is_ok()) {
+        return Err(format!("{needed}, more are there"));
+    }
+    for (x, part) in out.iter_mut().zip(first) {
+        *x = part.parse().map_err(|_| format!("{part} is no whole number of {} bits", 8 * size_of::<T>()))?;
+    }
+    Ok(out)
 }
 
 pub fn panes(name: &str) -> Result<Vec<Pane>, Failure> {

@@ -38,12 +38,18 @@ example: funnelcress join house.tree annex.tree --panes 42 -o both.tree
 ";
 
 pub const CONVERT: &str = "\
-usage: funnelcress convert TREE -o NAME [--limit L] [--order 0|1] [--json]
+usage: funnelcress convert TREE -o NAME [--limit L] [--order 0|1] [--spans SPANS [--panes N]] [--json]
 
 Converts a tree's words to NAME.record (n as a word, then 80 bytes a node) and NAME.list (n index words). The leaf limit,
 0 to 3, and the order are those of TREE unless given.
 
+With SPANS the panes are there at some quarter hours of the day alone, and NAME.side is written too, 16 bytes a node, for a
+report at quarter hours. SPANS has the first and the last quarter hour of each pane, 0 to 95, two whole numbers a line (a
+name may stand behind them), or packed bytes where its name ends in .u8; 32 is 8:00, 95 begins at 23:45. What is there over
+midnight is two panes. There are as many panes as spans unless --panes says how many.
+
 example: funnelcress convert house.tree -o house
+example: funnelcress convert house.tree -o house --spans spans.txt
 ";
 
 pub const CHECK: &str = "\
@@ -81,7 +87,8 @@ example: funnelcress miss house.record house.list house.txt rays.txt
 ";
 
 pub const REPORT: &str = "\
-usage: funnelcress report RECORD LIST LOSSES RAYS [--panes N] [--json] [--threads N]
+usage: funnelcress report RECORD LIST LOSSES RAYS [--panes N] [--side SIDE --spans SPANS --quarters QUARTERS] [--json]
+                          [--threads N]
 
 A line a ray, `ray NUMBER LOSS`: what the panes of all positions that it passes, those that any-hit lists, take from it.
 Then a line a pane, `pane NUMBER LOSS`: what it takes from all rays together. Last the node tests of all rays. The losses
@@ -92,5 +99,10 @@ or packed words where its name ends in .u32. There are as many panes as losses u
 thread's part of the rays is a report of the proved library; that the parts' pane totals and tests are added up is not
 proved: --threads 1 makes one call.
 
+With SIDE, SPANS and QUARTERS a ray meets only panes that are there at its quarter hour: SIDE and SPANS are what `convert
+--spans` wrote and read, and QUARTERS has a whole number a line for each ray, 0 to 95, or packed bytes where its name ends in
+.u8.
+
 example: funnelcress report house.record house.list losses.txt rays.txt
+example: funnelcress report house.record house.list losses.txt rays.txt --side house.side --spans spans.txt --quarters quarters.txt
 ";
