@@ -111,7 +111,7 @@ static void report(const uint8_t *record, size_t length, const uint32_t *list, c
     }
 }
 
-/* The house with a screen for its south roof, drawn from 10:00 to 14:00: what a ray loses at 9:00 and at noon. */
+/* The house with a screen for its south wall, drawn from 10:00 to 14:00: what a ray loses at 9:00 and at noon. */
 static void screen(const float *ray) {
     static uint32_t words[7 * (2 * PANES - 1)], indices[PANES], list[PANES], decisions[7 * (2 * PANES - 1)];
     static float costs[7 * (2 * PANES - 1)];
@@ -121,8 +121,8 @@ static void screen(const float *ray) {
     float rays[2][8];
     build_tree(words, indices);
     for (int k = 0; k < PANES; k++) {
-        spans[k][0] = k == 4 ? 4 * 10 : 0;
-        spans[k][1] = k == 4 ? 4 * 14 - 1 : FUNNELCRESS_LAST_QUARTER;
+        spans[k][0] = k == 0 ? 4 * 10 : 0;
+        spans[k][1] = k == 0 ? 4 * 14 - 1 : FUNNELCRESS_LAST_QUARTER;
     }
     uint64_t number = funnelcress_bvh2_to_cwbvh_timed(
         words, funnelcress_tree_words(PANES), indices, PANES, 3, 1, PANES, spans[0], 2 * PANES, decisions, funnelcress_table_words(PANES),

@@ -106,7 +106,8 @@ impl Refusal {
             Refusal::Losses => "the losses are not one for each pane, or one is over 1,000,000",
             Refusal::IndexSum => "an index word of the second tree plus the first's panes is over 4,294,967,295",
             Refusal::Spans => {
-                "the spans are not one for each pane, from 0 to 95 and no first past its last, or a ray's quarter hour is over 95, or the side table has not 16 bytes a node, or at conversion an index word names no pane"
+                "the spans are not one for each pane, with a first no later than its last and that at most 95, or a ray's quarter \
+                 hour is over 95, or the side table has not 16 bytes a node, or at conversion an index word names no pane"
             }
             Refusal::Other(_) => "the call was refused for a cause that these bindings do not know",
         }
@@ -116,7 +117,8 @@ impl Refusal {
     pub fn remedy(self) -> &'static str {
         match self {
             Refusal::Length => {
-                "a tree of n leaves has 7 (2n - 1) words, a record 80 bytes a node, a pane 6 floats, a ray 8 and a byte for its quarter hour: see that nothing was cut off"
+                "a tree of n leaves has 7 (2n - 1) words, a record 80 bytes a node, a pane 6 floats, a ray 8 and a byte for its \
+                 quarter hour: see that nothing was cut off"
             }
             Refusal::TooMany => "split the house, and convert its parts; split the list of rays",
             Refusal::Limit => "use a leaf limit from 0 to 3, and order 0 or 1",
@@ -135,7 +137,8 @@ impl Refusal {
             Refusal::Losses => "give each pane its loss in thousandths of a decibel, a whole number to 1,000,000",
             Refusal::IndexSum => "give how many panes the first tree is over, and count the second's panes from 0",
             Refusal::Spans => {
-                "give each pane its first and last quarter hour, and what is there over midnight as two panes; give the side table that was converted with the record"
+                "give each pane its first and last quarter hour, and what is there over midnight as two panes; give the side table \
+                 that was converted with the record"
             }
             Refusal::Other(_) => "use bindings of the library's version",
         }

@@ -1,12 +1,16 @@
--- What a query's answer can hold, on any bytes: tests of at most every node, positions that are there, and no more of them than steps.
+-- What a query's answer can hold, on any bytes: tests of at most every node, positions that are there, and no more of them than steps; and what
+-- number a cause can have.
 use mathlib.Core.Bool.{◌&&◌, ◌||◌, not}
 use mathlib.Core.List.{List, [], ◌∷◌}
+use mathlib.Core.Logic.{◌⊎◌, inl, inr}
 use mathlib.Core.Path.{◌≡◌, refl}
 use Prim.Native.Nat.{ℕ, zero, suc, ◌≤◌, ◌<◌}
 use native.Mathlib.Omega.{arith}
-use lib.Dec.{leb, ltb}
+use lib.Dec.{T, leb, leb→le, ltb}
 use borrow.Author.Tests.{leb-false}
 use Rattle.faststack.specs.Stack.{has_room, top_of}
+use Rattle.causes.specs.Causes.{Condition, first_cause}
+use Rattle.causes.proofs.Causes.{all_numbers, first_among}
 use Rattle.causes.specs.Sizes.{sizes_fit}
 use Rattle.walk.specs.Step.{Answer, tested, position, done, refused}
 use Rattle.walk.specs.Words.{Group, unpacked, rest_of, first_position, first_child, has_child, waiting_depth}
@@ -15,6 +19,14 @@ use Rattle.walk.specs.WordStep.{leaving, past_skips, report_words, visit_words, 
 use Rattle.walk.specs.Queries.{Reaction}
 use Rattle.walk.specs.WordQueries.{OutcomeWords, told_all_words, follow_words, query_words}
 use Rattle.walk.proofs.Cases.{cond_elim, or_false}
+
+-- the first of causes none of which has a greater number than this
+pub numbers_most : (most : ℕ) (l : List Condition) → T (all_numbers (λ k. leb k most) l) → first_cause l ≤ most
+numbers_most most l h = go (first_among (λ k. leb k most) l h)
+  where
+    go : (first_cause l ≡ 0) ⊎ T (leb (first_cause l) most) → first_cause l ≤ most
+    go (inl e) = omega (arith, e)
+    go (inr t) = leb→le (first_cause l) most t
 
 -- a position is one of the n, and a refusal has a cause's number
 abbrev pub Below : ℕ → Answer → Type 0

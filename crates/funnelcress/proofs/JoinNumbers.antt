@@ -1,14 +1,13 @@
 -- Every answer of a join fits its number, on any words, and no two share one.
-use mathlib.Core.Logic.{◌⊎◌, inl, inr}
 use mathlib.Core.Path.{◌≡◌, refl, ap}
 use Prim.Native.Nat.{ℕ, zero, suc, ◌≤◌}
 use native.Mathlib.Omega.{arith}
-use lib.Dec.{T, leb, leb→le}
 use borrow.Author.Tests.{leb-true}
-use Rattle.causes.proofs.Causes.{Passed, sorted, none_passed, all_numbers, first_among}
+use Rattle.causes.proofs.Causes.{Passed, sorted, none_passed, all_numbers}
 use Rattle.join.specs.Join.{JoinCall, both_leaves, size_tests, tree_tests, join_tests, join_cause, JoinAnswer, joined, refused_join}
 use Rattle.join.specs.Join.{join_by, join_of}
 use Rattle.funnelcress.specs.Joins.{join_number}
+use Rattle.funnelcress.proofs.Bounds.{numbers_most}
 
 -- ---- no two answers share a number
 
@@ -30,11 +29,7 @@ join_apart (refused_join n) (refused_join m) h k e = ap refused_join (omega arit
 module _ (c : JoinCall) where
   cause_most : join_cause c ≤ 13
   unfolding join_tests size_tests tree_tests all_numbers
-  cause_most = go (first_among (λ k. leb k 13) (join_tests c) tt)
-    where
-      go : (join_cause c ≡ 0) ⊎ T (leb (join_cause c) 13) → join_cause c ≤ 13
-      go (inl e) = omega arith
-      go (inr h) = leb→le (join_cause c) 13 h
+  cause_most = numbers_most 13 (join_tests c) tt
 
   -- not refused: not too many leaves
   few : join_cause c ≡ 0 → both_leaves c ≤ 65536

@@ -1,11 +1,10 @@
 -- Every query's answer fits its number, on any bytes.
 use mathlib.Core.Bool.{Bool, true, false, cond}
-use mathlib.Core.Logic.{◌⊎◌, inl, inr}
 use mathlib.Core.List.{List, [], ◌∷◌}
 use mathlib.Core.Path.{◌≡◌, refl}
 use Prim.Native.Nat.{ℕ, zero, suc, ◌+◌, ◌/◌, ◌≤◌, ◌<◌}
 use native.Mathlib.Omega.{arith}
-use lib.Dec.{T, eqb, leb, leb→le, ltb}
+use lib.Dec.{eqb, leb, ltb}
 use lib.Ieee.{Float}
 use borrow.Author.Tests.{ltb-true}
 use lib.ListN.{length, get_or, length-append}
@@ -22,7 +21,7 @@ use Rattle.walk_record.specs.WalkRay.{WalkRay, walk_ray, by_boxes}
 use Rattle.walk_record.specs.Record.{node_words_at}
 use Rattle.walk_record.specs.Walk.{query_at, any_hit_at}
 use Rattle.causes.specs.Sizes.{record_conditions}
-use Rattle.causes.proofs.Causes.{all_numbers, first_among}
+use Rattle.causes.proofs.Causes.{all_numbers}
 use Rattle.query.specs.Entry.{entry_conditions, entry_cause}
 use Rattle.query.specs.Result as R
 use Rattle.query.proofs.Entry.{entered}
@@ -30,17 +29,13 @@ use Rattle.any_hit.specs.AnyHit as H
 use Rattle.closest.specs.Panes as P
 use Rattle.packed.specs.Packed.{box_in, ray_in}
 use Rattle.funnelcress.specs.Queries.{any_hit_by, short_cause, closest_in, closest_by, miss_by, AnyHitFits, ClosestFits, MissFits}
-use Rattle.funnelcress.proofs.Bounds.{Below, query_few}
+use Rattle.funnelcress.proofs.Bounds.{numbers_most, Below, query_few}
 
 -- ---- refused on entry: a cause's number, or sizes that fit
 
 entry_most : (fits : Bool) (bytes n : ℕ) (r : Ray) → entry_cause fits bytes n 0 r ≤ 11
 unfolding entry_conditions record_conditions all_numbers
-entry_most fits bytes n r = go (first_among (λ k. leb k 11) (entry_conditions fits bytes n 0 r) tt)
-  where
-    go : (entry_cause fits bytes n 0 r ≡ 0) ⊎ T (leb (entry_cause fits bytes n 0 r) 11) → entry_cause fits bytes n 0 r ≤ 11
-    go (inl e) = omega arith
-    go (inr h) = leb→le (entry_cause fits bytes n 0 r) 11 h
+entry_most fits bytes n r = numbers_most 11 (entry_conditions fits bytes n 0 r) tt
 
 -- ---- any-hit
 

@@ -6,7 +6,7 @@ use mathlib.Core.Path.{◌≡◌, refl, sym, ap, subst}
 use Prim.Native.Nat.{ℕ, zero, suc, ◌≤◌, ◌<◌}
 use native.Mathlib.Omega.{arith}
 use borrow.Author.Tests.{leb-true, eq-eqb, eqb-true}
-use lib.Dec.{T, eqb, leb, leb→le}
+use lib.Dec.{T, eqb, leb}
 use lib.Ieee.{Float}
 use lib.ListN.{length}
 use Rattle.lists.proofs.Sums.{sum_most}
@@ -33,7 +33,7 @@ use Rattle.timed.specs.Hours.{Timetable}
 use Rattle.timed_entry.specs.Entry.{timetable}
 use Rattle.loss_timed.specs.Timed.{gates_by, hours_conditions, report_timed_of}
 use Rattle.funnelcress.specs.Reports.{report_number}
-use Rattle.funnelcress.proofs.Bounds.{query_few}
+use Rattle.funnelcress.proofs.Bounds.{numbers_most, query_few}
 
 -- ---- no two answers share a number
 
@@ -104,7 +104,8 @@ module _ (gates : ℕ → Gates) (fits : Bool) (between : ℕ) (bytes indices : 
     where
       go : (k : ℕ) → first_cause entry ≡ k → (node_count bytes ≤ 65535) × (ray_count rays ≤ 65536)
       go zero z =
-          let n = none_entering fits between bytes indices panes losses rays (length ray_totals) (length pane_totals) z in (n.sizes.small, n.entered.few)
+          let n = none_entering fits between bytes indices panes losses rays (length ray_totals) (length pane_totals) z in
+          (n.sizes.small, n.entered.few)
       go (suc k) z =
           absurd (omega (arith, z, e, append_first entry (gated_conditions gates bytes indices panes losses rays) (λ y. omega (arith, y, z))))
 
@@ -143,11 +144,7 @@ module _ (bytes side indices : List ℕ) (panes : ℕ) (spans losses : List ℕ)
 
   hours_most : hours_cause ≤ 14
   unfolding hours_conditions all_numbers
-  hours_most = go (first_among (λ k. leb k 14) (hours_conditions bytes lists quarters) tt)
-    where
-      go : (hours_cause ≡ 0) ⊎ T (leb hours_cause 14) → hours_cause ≤ 14
-      go (inl e) = omega (arith, e)
-      go (inr h) = leb→le hours_cause 14 h
+  hours_most = numbers_most 14 (hours_conditions bytes lists quarters) tt
 
   pub report_timed_fits : (ray_totals pane_totals : List ℕ)
       → ReportFits 14 (report_timed_of bytes side indices panes spans losses rays quarters ray_totals pane_totals).answer

@@ -25,6 +25,7 @@ order_refused c = record {
   list = c.list;
 }
 
+-- conversion of the call with ordering off for order 0 and on for 1, and such a refusal for any other
 unfoldable pub conversion_by : (order : ℕ) → (Bool → Call) → Outcome
 unfolding by_order order_refused
 conversion_by order call = by_order order (λ ordered. conversion_of (call ordered)) (order_refused (call false))

@@ -3,7 +3,7 @@ use Rattle.std.specs.Prelude.{Bool, false, List, ℕ}
 use Rattle.bvh2_to_cwbvh_timed.specs.TimedConversion.{TimedCall, TimedOutcome, timed_conversion_of}
 use Rattle.funnelcress.specs.Converted.{by_order, order_refused, Handed, handed}
 
--- an order that is neither 0 nor 1 leaves the side table's slice as it was too
+-- the timed conversion of the call with either; another order leaves the slice lent for the side table as it was too
 unfoldable pub timed_conversion_by : (order : ℕ) → (Bool → TimedCall) → TimedOutcome
 unfolding by_order order_refused
 timed_conversion_by order call =
