@@ -1,8 +1,11 @@
 //! Two trees joined: the samples, what is refused and in which order, and what the joined tree's record meets.
+#[path = "common/chain.rs"]
+mod chain;
 mod common;
 
+use chain::chain;
 use common::{PANES, node, sample};
-use funnelcress::{Link, Node, Options, Pane, Ray, Refusal, Tree, Verdict};
+use funnelcress::{Link, Options, Pane, Ray, Refusal, Tree, Verdict};
 
 /// The most that an index word holds.
 const MOST: usize = u32::MAX as usize;
@@ -14,15 +17,6 @@ fn lone(min: [f32; 3], max: [f32; 3], index: u32) -> Tree {
 
 fn empty() -> Tree {
     Tree::from_words(vec![], vec![])
-}
-
-/// A chain of n leaves, all at one point, whose longest path has n − 1 edges.
-fn chain(n: u32) -> Tree {
-    let at = |link| node([1.0; 3], [1.0; 3], link);
-    let inner = |k| at(Link::Inner(2 * k + 1));
-    let pairs = (1..n).flat_map(|k| [at(Link::Leaf(k - 1)), if k == n - 1 { at(Link::Leaf(k)) } else { inner(k) }]);
-    let nodes: Vec<Node> = std::iter::once(inner(0)).chain(pairs).collect();
-    Tree::from_nodes(&nodes, (0..n).collect()).unwrap()
 }
 
 fn links(tree: &Tree) -> Vec<u32> {

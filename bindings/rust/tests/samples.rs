@@ -1,6 +1,9 @@
 //! The samples of the requirements, through the safe types.
+#[path = "common/chain.rs"]
+mod chain;
 mod common;
 
+use chain::chain;
 use common::{PANES, node, sample};
 use funnelcress::{Hit, Link, Options, Ray, Record, Refusal, Report, State, Step, Tree, Verdict, entry_distances};
 
@@ -12,21 +15,6 @@ fn unordered() -> Record {
 /// One leaf with a box from 0 to an extent on x.
 fn lone(extent: f32) -> Tree {
     Tree::from_nodes(&[node([0.0; 3], [extent, 0.0, 0.0], Link::Leaf(0))], vec![0]).unwrap()
-}
-
-/// A chain of n leaves, all at one point.
-fn chain(n: u32) -> Tree {
-    let leaf = |k| node([1.0; 3], [1.0; 3], Link::Leaf(k));
-    let mut nodes = vec![];
-    for k in 0..n - 1 {
-        if k == 0 {
-            nodes.push(node([1.0; 3], [1.0; 3], Link::Inner(1)));
-        }
-        nodes.push(leaf(k));
-        let last = k == n - 2;
-        nodes.push(if last { leaf(n - 1) } else { node([1.0; 3], [1.0; 3], Link::Inner(2 * k + 3)) });
-    }
-    Tree::from_nodes(&nodes, (0..n).collect()).unwrap()
 }
 
 fn next_up(x: f32) -> f32 {

@@ -1,28 +1,19 @@
 //! One record asked from many threads gives the answers that one thread gets.
-use funnelcress::{Options, Pane, Ray, Record, Refusal, Tree, on_threads, report_on_threads};
+#[path = "common/many.rs"]
+mod many;
 
-fn panes() -> Vec<Pane> {
-    let pane = |k: i32| {
-        let (x, y, z) = ((k % 20) as f32, (k / 20) as f32, (k % 7) as f32);
-        [x, y, z, x + 0.9, y + 0.9, z + 0.1]
-    };
-    (0..300).map(pane).collect()
-}
+use funnelcress::{Options, Ray, Record, Refusal, Tree, on_threads, report_on_threads};
+use many::{losses, panes, rays};
 
 fn record() -> Record {
     Tree::over(&panes()).convert(Options::default()).unwrap()
-}
-
-fn rays() -> Vec<Ray> {
-    let ray = |k: i32| Ray::new([10.0, 7.0, -1.0], [(k % 31 - 15) as f32, (k % 23 - 11) as f32, 1.0 + (k % 11) as f32]);
-    (0..5000).map(ray).collect()
 }
 
 const THREADS: [usize; 5] = [0, 2, 3, 8, 6000];
 
 #[test]
 fn many_threads_agree_with_one() {
-    let (panes, record, rays) = (panes(), record(), rays());
+    let (panes, record, rays) = (panes(), record(), rays(5000));
     let asked = |threads| {
         on_threads(threads, &rays, |r| {
             let walked: Result<Vec<u32>, _> = record.walk(r).unwrap().collect();
@@ -42,8 +33,7 @@ fn many_threads_agree_with_one() {
 /// The parts of a report add up to what one call gives, and each ray loses what it loses alone.
 #[test]
 fn reports_in_parts() {
-    let (record, rays) = (record(), rays());
-    let losses: Vec<u32> = (0..300).map(|k| k * 3331 % 1_000_001).collect();
+    let (record, rays, losses) = (record(), rays(5000), losses());
     let whole = record.report(300, &losses, &rays).unwrap();
     assert_eq!(whole.rays.iter().sum::<u64>(), whole.panes.iter().sum());
     assert!(whole.rays.iter().any(|loss| *loss > 0));
@@ -61,7 +51,7 @@ fn reports_in_parts() {
 /// A report in parts is refused as one call is: for a bad ray before a bad index, and for too many rays in all.
 #[test]
 fn refused_parts() {
-    let (record, mut rays) = (record(), rays());
+    let (record, mut rays) = (record(), rays(5000));
     let refused = |panes, losses: &[u32], rays: &[Ray]| {
         let whole = record.report(panes, losses, rays).unwrap_err();
         for threads in THREADS {

@@ -1,11 +1,14 @@
 //! Quarter hours: the samples of the requirements, all-day spans, other spans against their definition, and threads.
 mod common;
+#[path = "common/many.rs"]
+mod many;
 
 use common::{PANES, node, sample};
 use funnelcress::{
     ALL_DAY, Link, Options, Pane, Ray, Record, Refusal, Report, SIDE_BYTES, Span, TimedRecord, Tree, Verdict,
     timed_report_on_threads,
 };
+use many::{losses, panes, rays};
 
 const UNORDERED: Options = Options { limit: 3, ordered: false };
 
@@ -27,6 +30,7 @@ fn the_side_table() {
     assert_eq!(timed.side(), [0x20, 0x3f, 0x3c, 0x5f, 0, 0, 0, 0, 0, 0, 0, 0, 0, 0, 0, 0]);
     assert_eq!(timed.record(), &sample().convert(UNORDERED).unwrap());
     assert_eq!(timed.record().check(), Ok(Verdict::Sound(0)));
+    assert_eq!(Tree::over(&PANES).convert_timed(2, &SPANS, UNORDERED), Ok(timed));
 }
 
 /// At 40 the ray meets the first pane, at 61 both, at 70 the second, at 10 none, each time by one test.
@@ -94,32 +98,16 @@ fn corners() {
     assert_eq!((at(94), at(95)), (0, 7));
 }
 
-/// A leaf child of two panes is passed between their hours, and nothing of it is met there.
+/// Leaf children of two panes each are passed between the hours of both, and nothing of them is met there.
 #[test]
 fn between_two_spans() {
-    let panes: Vec<Pane> = [PANES[0], PANES[0], [9.0, 9.0, 9.0, 10.0, 10.0, 10.0]].into();
-    let spans = [[0, 10], [90, 95], ALL_DAY];
-    let timed = Tree::over(&panes).convert_timed(3, &spans, UNORDERED).unwrap();
-    assert!(timed.side().chunks(2).any(|slot| slot == ALL_DAY));
-    let report = timed.report(3, &spans, &[1, 10, 100], &[along(); 3], &[10, 50, 90]).unwrap();
-    assert_eq!((report.rays, report.tests), (vec![1, 0, 10], 3));
-}
-
-fn many() -> Vec<Pane> {
-    let pane = |k: i32| {
-        let (x, y, z) = ((k % 20) as f32, (k / 20) as f32, (k % 7) as f32);
-        [x, y, z, x + 0.9, y + 0.9, z + 0.1]
-    };
-    (0..300).map(pane).collect()
-}
-
-fn rays() -> Vec<Ray> {
-    let ray = |k: i32| Ray::new([10.0, 7.0, -1.0], [(k % 31 - 15) as f32, (k % 23 - 11) as f32, 1.0 + (k % 11) as f32]);
-    (0..2000).map(ray).collect()
-}
-
-fn losses() -> Vec<u32> {
-    (0..300).map(|k| k * 3331 % 1_000_001).collect()
+    let pane = |k: usize| [k as f32, 0.0, 0.0, k as f32 + 0.5, 1.0, 1.0];
+    let places: Vec<Pane> = (0..16).map(|k| pane(k / 2)).collect();
+    let spans = [[0, 10], [90, 95]].repeat(8);
+    let timed = Tree::over(&places).convert_timed(16, &spans, UNORDERED).unwrap();
+    assert_eq!(timed.side(), ALL_DAY.repeat(8));
+    let report = timed.report(16, &spans, &[1, 10].repeat(8), &[along(); 3], &[10, 50, 90]).unwrap();
+    assert_eq!((report.rays, report.tests), (vec![8, 0, 80], 3));
 }
 
 fn quarters() -> Vec<u8> {
@@ -138,23 +126,23 @@ fn spans() -> Vec<Span> {
 /// Where every pane is always there the record and every report are the untimed ones.
 #[test]
 fn all_day() {
-    let (tree, spans) = (Tree::over(&many()), vec![ALL_DAY; 300]);
+    let (tree, spans) = (Tree::over(&panes()), vec![ALL_DAY; 300]);
     let record = tree.convert(Options::default()).unwrap();
     let timed = tree.convert_timed(300, &spans, Options::default()).unwrap();
     assert_eq!(timed.record(), &record);
-    let report = timed.report(300, &spans, &losses(), &rays(), &quarters());
-    assert_eq!(report, record.report(300, &losses(), &rays()));
+    let report = timed.report(300, &spans, &losses(), &rays(2000), &quarters());
+    assert_eq!(report, record.report(300, &losses(), &rays(2000)));
 }
 
 /// A ray loses to the positions that any-hit lists whose panes are there.
 #[test]
 fn by_own_spans() {
-    let (tree, spans, losses) = (Tree::over(&many()), spans(), losses());
+    let (tree, spans, losses) = (Tree::over(&panes()), spans(), losses());
     let timed = tree.convert_timed(300, &spans, Options::default()).unwrap();
     assert_eq!(timed.side().len() / SIDE_BYTES, timed.record().bytes().len() / 80);
-    let report = timed.report(300, &spans, &losses, &rays(), &quarters()).unwrap();
+    let report = timed.report(300, &spans, &losses, &rays(2000), &quarters()).unwrap();
     let mut panes = vec![0u64; 300];
-    for ((ray, quarter), total) in rays().iter().zip(quarters()).zip(&report.rays) {
+    for ((ray, quarter), total) in rays(2000).iter().zip(quarters()).zip(&report.rays) {
         let met = timed.record().any_hit(ray).unwrap().positions.into_iter();
         let named = met.map(|position| timed.record().indices()[position as usize] as usize);
         let there: Vec<usize> = named.filter(|pane| (spans[*pane][0]..=spans[*pane][1]).contains(&quarter)).collect();
@@ -162,14 +150,14 @@ fn by_own_spans() {
         assert_eq!(there.iter().map(|pane| u64::from(losses[*pane])).sum::<u64>(), *total);
     }
     assert_eq!(panes, report.panes);
-    assert!(report.tests < timed.record().report(300, &losses, &rays()).unwrap().tests);
+    assert!(report.tests < timed.record().report(300, &losses, &rays(2000)).unwrap().tests);
 }
 
 /// The parts of a report add up to what one call gives, and are refused as one call is: 14 before 9, and 9 before 10.
 #[test]
 fn in_parts() {
-    let (spans, losses, mut rays, mut quarters) = (spans(), losses(), rays(), quarters());
-    let timed = Tree::over(&many()).convert_timed(300, &spans, Options::default()).unwrap();
+    let (spans, losses, mut rays, mut quarters) = (spans(), losses(), rays(2000), quarters());
+    let timed = Tree::over(&panes()).convert_timed(300, &spans, Options::default()).unwrap();
     let nowhere = Record::from_parts(timed.record().bytes().to_vec(), vec![300; 300]);
     let broken = TimedRecord::from_parts(nowhere, timed.side().to_vec());
     let refused = |timed: &TimedRecord, rays: &[Ray], quarters: &[u8]| {

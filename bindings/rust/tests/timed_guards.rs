@@ -1,18 +1,12 @@
 //! Timed calls on lent slices: every refusal comes in its place, and what a call leaves as it was comes back bit by bit.
+#[path = "common/chain.rs"]
+mod chain;
 #[path = "common/lent.rs"]
 mod lent;
 
-use funnelcress::{ALL_DAY, Lengths, Link, Node, Options, Pane, Tree, sys};
+use chain::chain;
+use funnelcress::{ALL_DAY, Lengths, Options, Pane, Tree, sys};
 use lent::{GUARDS, Lent, byte, nan, word};
-
-/// A chain of n leaves, all at one point.
-fn chain(n: u32) -> Tree {
-    let at = |link| Node { min: [1.0; 3], max: [1.0; 3], link };
-    let inner = |k| at(Link::Inner(2 * k + 1));
-    let pairs = (1..n).flat_map(|k| [at(Link::Leaf(k - 1)), if k == n - 1 { at(Link::Leaf(k)) } else { inner(k) }]);
-    let nodes: Vec<Node> = std::iter::once(inner(0)).chain(pairs).collect();
-    Tree::from_nodes(&nodes, (0..n).collect()).unwrap()
-}
 
 /// The five slices of a timed conversion, each longer than needed by so much.
 struct Slices {
