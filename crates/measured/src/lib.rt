@@ -2,6 +2,8 @@
 // C takes one number for an answer: 0 or REFUSED where there is none.
 #![tactic(auto)]
 
+mod quarters;
+
 ghost use Rattle.std.specs.Prelude.{◌≡◌, ◌+◌, ◌*◌, ◌≤◌, ◌<◌, length};
 ghost use Rattle.bvh2.specs.Tree.{leaves};
 ghost use Rattle.bvh2.specs.Words.{tree_at};
