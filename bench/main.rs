@@ -8,6 +8,8 @@ mod nodes;
 mod queries;
 mod records;
 mod reports;
+mod timed;
+mod timed_calls;
 mod timing;
 mod trees;
 
@@ -26,7 +28,7 @@ mod tree;
 
 /// The modules that arguments name, or all: see bench/README.md.
 fn main() {
-    let parts: [(&str, fn()); 8] = [
+    let parts: [(&str, fn()); 9] = [
         ("boxes", boxes::rows),
         ("nodes", nodes::rows),
         ("trees", trees::rows),
@@ -35,6 +37,7 @@ fn main() {
         ("records", records::rows),
         ("queries", queries::rows),
         ("reports", reports::rows),
+        ("timed", timed::rows),
     ];
     let names: Vec<String> = std::env::args().skip(1).filter(|a| parts.iter().any(|(name, _)| a == name)).collect();
     for (name, rows) in parts {

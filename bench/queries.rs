@@ -16,7 +16,7 @@ pub struct Scene {
     name: String,
     pub record: Vec<u8>,
     pub list: Vec<u32>,
-    panes: Vec<f32>,
+    pub panes: Vec<f32>,
     bvh: CwBvh,
     boxes: Vec<Aabb>,
 }
@@ -104,11 +104,16 @@ pub fn any_hit(s: &Scene, r: &[f32; 8], mut met: impl FnMut(u32)) {
 }
 
 fn any_hits(s: &Scene, name: &str, rays: &[[f32; 8]]) {
+    any_hits_by(s, name, rays, |r, list| calls::any_hit(&s.record, list.len(), r, list));
+}
+
+/// Any-hit by a call of ours: how many positions it lists, and its node tests.
+pub fn any_hits_by(s: &Scene, name: &str, rays: &[[f32; 8]], ours: impl Fn(&[f32; 8], &mut [u32]) -> (u32, u32)) {
     let n = s.list.len();
     let (mut a, mut b) = (vec![0u32; n], vec![0u32; n]);
     let mut tests = 0;
     for r in rays {
-        let (count, t) = calls::any_hit(&s.record, n, r, &mut a);
+        let (count, t) = ours(r, &mut a);
         let mut found = vec![];
         any_hit(s, r, |id| found.push(id));
         assert_eq!(a[..count as usize], found);
@@ -120,7 +125,7 @@ fn any_hits(s: &Scene, name: &str, rays: &[[f32; 8]]) {
         tests,
         &mut || {
             for r in black_box(rays) {
-                black_box(calls::any_hit(&s.record, n, r, &mut a));
+                black_box(ours(r, &mut a));
             }
         },
         &mut || {
@@ -153,9 +158,14 @@ fn closest(s: &Scene, r: &[f32; 8]) -> Option<(u32, f32)> {
 }
 
 fn closests(s: &Scene, name: &str, rays: &[[f32; 8]]) {
+    closests_by(s, name, rays, |r| calls::closest(&s.record, &s.list, &s.panes, r));
+}
+
+/// Closest by a call of ours: position and distance of a hit, and its node tests.
+pub fn closests_by(s: &Scene, name: &str, rays: &[[f32; 8]], ours: impl Fn(&[f32; 8]) -> (Option<(u32, f32)>, u32)) {
     let mut tests = 0;
     for r in rays {
-        let (hit, t) = calls::closest(&s.record, &s.list, &s.panes, r);
+        let (hit, t) = ours(r);
         assert_eq!(hit.map(|(p, t)| (p, t.to_bits())), closest(s, r).map(|(p, t)| (p, unsigned_zero(t).to_bits())));
         tests += t as u64;
     }
@@ -165,7 +175,7 @@ fn closests(s: &Scene, name: &str, rays: &[[f32; 8]]) {
         tests,
         &mut || {
             for r in black_box(rays) {
-                black_box(calls::closest(&s.record, &s.list, &s.panes, r));
+                black_box(ours(r));
             }
         },
         &mut || {
@@ -182,9 +192,14 @@ fn missed(s: &Scene, r: &[f32; 8]) -> bool {
 }
 
 fn misses(s: &Scene, name: &str, rays: &[[f32; 8]]) {
+    misses_by(s, name, rays, |r| calls::miss(&s.record, &s.list, &s.panes, r));
+}
+
+/// Miss by a call of ours: whether nothing is nearer than the reach, and its node tests.
+pub fn misses_by(s: &Scene, name: &str, rays: &[[f32; 8]], ours: impl Fn(&[f32; 8]) -> (bool, u32)) {
     let mut tests = 0;
     for r in rays {
-        let (miss, t) = calls::miss(&s.record, &s.list, &s.panes, r);
+        let (miss, t) = ours(r);
         assert_eq!(miss, missed(s, r));
         tests += t as u64;
     }
@@ -194,7 +209,7 @@ fn misses(s: &Scene, name: &str, rays: &[[f32; 8]]) {
         tests,
         &mut || {
             for r in black_box(rays) {
-                black_box(calls::miss(&s.record, &s.list, &s.panes, r));
+                black_box(ours(r));
             }
         },
         &mut || {
@@ -243,12 +258,18 @@ fn walked(s: &Scene, name: &str, rays: &[[f32; 8]], steps: impl Fn(&[u8], usize,
     );
 }
 
-type Rows = fn(&Scene, &str, &[[f32; 8]]);
+/// What makes a query's rows of a scene, a name and rays.
+pub type Rows = fn(&Scene, &str, &[[f32; 8]]);
 
 const QUERIES: [(&str, Rows); 5] =
     [("any-hit", any_hits), ("closest", closests), ("miss", misses), ("steps", walks), ("lent steps", lent_walks)];
 
 pub fn rows() {
+    rows_of(&QUERIES);
+}
+
+/// The rows of these queries, by their names, in each scene for each class of rays.
+pub fn rows_of(queries: &[(&str, Rows)]) {
     let class = |name, least, most, rays| Class { name, least, most, rays };
     let nothing = || class("no position met", 0, 0, RAYS);
     let few = || class("1 to 8 met", 1, 8, RAYS);
@@ -261,7 +282,8 @@ pub fn rows() {
     ];
     for (s, classes) in &scenes {
         for class in classes {
-            let named = QUERIES.map(|(query, rows)| (format!("{query}, {}, {}", s.name, class.name), rows));
+            let named: Vec<(String, Rows)> =
+                queries.iter().map(|(query, rows)| (format!("{query}, {}, {}", s.name, class.name), *rows)).collect();
             if !named.iter().any(|(name, _)| picked(name)) {
                 continue;
             }

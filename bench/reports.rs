@@ -22,25 +22,27 @@ fn added(s: &Scene, losses: &[u32], rays: &[[f32; 8]], ray_totals: &mut [u64], p
     }
 }
 
-fn report(s: &Scene, name: &str, losses: &[u32], rays: &[[f32; 8]]) {
+/// A report by a call of ours, which fills the totals of rays and of panes.
+pub fn report_by(s: &Scene, name: &str, losses: &[u32], rays: &[[f32; 8]], ours: impl Fn(&[f32], &mut [u64], &mut [u64]) -> u64) {
     let (mut a, mut b) = (vec![0; rays.len()], vec![0; losses.len()]);
     let (mut c, mut d) = (a.clone(), b.clone());
-    calls::report(&s.record, &s.list, losses, rays.as_flattened(), &mut a, &mut b);
+    ours(rays.as_flattened(), &mut a, &mut b);
     added(s, losses, rays, &mut c, &mut d);
     assert!(a == c && b == d);
     row(
         name,
         rays.len(),
         &mut || {
-            black_box(calls::report(&s.record, &s.list, losses, black_box(rays).as_flattened(), &mut a, &mut b));
+            black_box(ours(black_box(rays).as_flattened(), &mut a, &mut b));
         },
         &mut || added(s, losses, black_box(rays), black_box(&mut c), &mut d),
     );
 }
 
-pub fn rows() {
+/// Each scene's report: its name, and losses and rays as drawn.
+pub fn each_report(query: &str, report: fn(&Scene, &str, &[u32], &[[f32; 8]])) {
     for leaves in [64, 4096, 65536] {
-        let name = format!("report, {leaves} leaves, {RAYS} rays, a ray");
+        let name = format!("{query}, {leaves} leaves, {RAYS} rays, a ray");
         if !picked(&name) {
             continue;
         }
@@ -50,4 +52,10 @@ pub fn rows() {
         let rays: Vec<[f32; 8]> = (0..RAYS).map(|_| ray(rng)).collect();
         report(&s, &name, &losses, &rays);
     }
+}
+
+pub fn rows() {
+    each_report("report", |s, name, losses, rays| {
+        report_by(s, name, losses, rays, |rays, a, b| calls::report(&s.record, &s.list, losses, rays, a, b))
+    });
 }

@@ -31,7 +31,7 @@ fn time(calls: usize, f: &mut dyn FnMut()) -> f64 {
 }
 
 /// Seconds in a unit that suits them.
-fn shown(seconds: f64) -> String {
+pub fn shown(seconds: f64) -> String {
     if seconds < 1e-4 { format!("{:.2} ns", seconds * 1e9) } else { format!("{:.3} ms", seconds * 1e3) }
 }
 
@@ -53,36 +53,36 @@ fn once() -> bool {
 
 /// Functions by whose names a profile tells the sides of a row; each has a number of its own, so that they are not merged.
 #[inline(never)]
-fn ours_once(f: &mut dyn FnMut()) {
+fn first_once(f: &mut dyn FnMut()) {
     f();
     black_box(0);
 }
 
 #[inline(never)]
-fn rust_once(f: &mut dyn FnMut()) {
+fn second_once(f: &mut dyn FnMut()) {
     f();
     black_box(1);
 }
 
-/// Runs both in turn and prints the row: the time of ours over the Rust's, and the best time of each for one of the `items`
+/// Runs both in turn and prints the row: the time of the first over the second's, and the best time of each for one of the `items`
 /// that a call works on, which it also returns.
-pub fn row(name: &str, items: usize, ours: &mut dyn FnMut(), rust: &mut dyn FnMut()) -> (f64, f64) {
+pub fn beside(sides: &str, name: &str, items: usize, first: &mut dyn FnMut(), second: &mut dyn FnMut()) -> (f64, f64) {
     if once() {
         println!("{name}, each once");
-        ours_once(ours);
-        rust_once(rust);
+        first_once(first);
+        second_once(second);
         return (f64::NAN, f64::NAN);
     }
-    let calls = enough(time(5, ours).max(time(5, rust)) / 5.0);
+    let calls = enough(time(5, first).max(time(5, second)) / 5.0);
     let mut ratios = vec![];
     let (mut a, mut b) = (f64::MAX, f64::MAX);
     for k in 0..RUNS {
         let (x, y) = if k % 2 == 0 {
-            let x = time(calls, ours);
-            (x, time(calls, rust))
+            let x = time(calls, first);
+            (x, time(calls, second))
         } else {
-            let y = time(calls, rust);
-            (time(calls, ours), y)
+            let y = time(calls, second);
+            (time(calls, first), y)
         };
         ratios.push(x / y);
         (a, b) = (a.min(x), b.min(y));
@@ -91,23 +91,39 @@ pub fn row(name: &str, items: usize, ours: &mut dyn FnMut(), rust: &mut dyn FnMu
     let (least, middle, greatest) = (ratios[0], ratios[RUNS / 2], ratios[RUNS - 1]);
     let [a, b] = [a, b].map(|t| t / (calls * items) as f64);
     println!(
-        "{name:<56} ours / Rust: {middle:.2} (least {least:.2}, greatest {greatest:.2}); best times {} and {}",
+        "{name:<56} {sides}: {middle:.2} (least {least:.2}, greatest {greatest:.2}); best times {} and {}",
         shown(a),
         shown(b)
     );
     (a, b)
 }
 
-/// The same of ours alone, where the Rust has nothing to measure it by.
+/// The row of ours beside the Rust.
+pub fn row(name: &str, items: usize, ours: &mut dyn FnMut(), rust: &mut dyn FnMut()) -> (f64, f64) {
+    beside("ours / Rust", name, items, ours, rust)
+}
+
+/// Seconds for one of the items that a call works on, of each run, the least first.
+fn sorted_times(items: usize, f: &mut dyn FnMut()) -> Vec<f64> {
+    let calls = enough(time(5, f) / 5.0);
+    let mut times: Vec<f64> = (0..RUNS).map(|_| time(calls, f) / (calls * items) as f64).collect();
+    times.sort_by(f64::total_cmp);
+    times
+}
+
+/// The best time of a call by itself, with no row of its own.
+pub fn best(f: &mut dyn FnMut()) -> f64 {
+    sorted_times(1, f)[0]
+}
+
+/// A row of ours alone, where the Rust has nothing to measure it by.
 pub fn alone(name: &str, items: usize, ours: &mut dyn FnMut()) -> f64 {
     if once() {
         println!("{name}, once");
-        ours_once(ours);
+        first_once(ours);
         return f64::NAN;
     }
-    let calls = enough(time(5, ours) / 5.0);
-    let mut times: Vec<f64> = (0..RUNS).map(|_| time(calls, ours) / (calls * items) as f64).collect();
-    times.sort_by(f64::total_cmp);
+    let times = sorted_times(items, ours);
     let [least, middle, greatest] = [0, RUNS / 2, RUNS - 1].map(|k| shown(times[k]));
     println!("{name:<56} ours: {middle} (least {least}, greatest {greatest}); nothing in the Rust");
     times[0]
