@@ -32,16 +32,11 @@ fn lists<'a>(s: &'a Scene, day: &'a Day) -> Lists<'a> {
     Lists { record: &s.record, list: &s.list, day }
 }
 
-/// What the look at the lists takes of a call, and the ratio without it. A report makes it once, a query each time.
-fn looked(l: Lists, calls: usize, timed: f64, untimed: f64) {
+/// What the look at the lists takes of a call. A report makes it once, a query each time.
+fn looked(l: Lists, rays: usize, timed: f64) {
     if timed.is_finite() {
-        let look = best(&mut || assert!(timed_calls::hours(black_box(l)))) / calls as f64;
-        let share = 100.0 * look / timed;
-        println!(
-            "    {} of it, {share:.1} %, for the look at the lists; without it {:.2}",
-            shown(look),
-            (timed - look) / untimed
-        );
+        let look = best(&mut || assert!(timed_calls::hours(black_box(l)))) / rays as f64;
+        println!("    {} of it, {:.1} %, for the look at the lists", shown(look), 100.0 * look / timed);
     }
 }
 
@@ -56,7 +51,7 @@ fn compared<T: PartialEq + Debug>(
     for r in rays {
         assert_eq!(timed(r), untimed(r));
     }
-    let (a, b) = beside(
+    let (time, _) = beside(
         UNTIMED,
         name,
         rays.len(),
@@ -71,7 +66,7 @@ fn compared<T: PartialEq + Debug>(
             }
         },
     );
-    looked(l, 1, a, b);
+    looked(l, 1, time);
 }
 
 fn any_hits(s: &Scene, name: &str, rays: &[[f32; 8]]) {
@@ -104,7 +99,7 @@ fn report(s: &Scene, name: &str, losses: &[u32], rays: &[[f32; 8]]) {
     let (mut a, mut b) = (vec![0; rays.len()], vec![0; losses.len()]);
     let (mut c, mut d) = (a.clone(), b.clone());
     let floats = rays.as_flattened();
-    let (x, y) = beside(
+    let (time, _) = beside(
         UNTIMED,
         name,
         rays.len(),
@@ -116,7 +111,7 @@ fn report(s: &Scene, name: &str, losses: &[u32], rays: &[[f32; 8]]) {
         },
     );
     assert!(a == c && b == d);
-    looked(l, rays.len(), x, y);
+    looked(l, rays.len(), time);
     report_by(s, name, losses, rays, timed);
 }
 

@@ -1,4 +1,4 @@
-// What bench/ measures of quarter hours, where no function for C has it: timed queries, for a ray of eight floats each, and what they look at on entry.
+// What bench/ measures at a quarter hour: queries for a ray of eight floats, what each looks at on entry, the report and the conversion.
 use super::{REFUSED, two_words};
 use pane_walk::{ClosestHit, Occlusion};
 
