@@ -7,7 +7,7 @@ ghost use Rattle.any_hit_walk.specs.AnyHit.{result_of};
 ghost use Rattle.timed_entry.specs.Entry.{timetable};
 ghost use Rattle.any_hit_timed.specs.Timed.{any_hit_timed_of, list_timed};
 
-use any_hit_walk::{AnyHit, AnyHitError};
+pub use any_hit_walk::{AnyHit, AnyHitError};
 use gate::AllOpen;
 use ray::Beam;
 use timed::AtQuarter;

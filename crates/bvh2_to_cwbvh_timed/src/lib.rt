@@ -14,7 +14,7 @@ ghost use Rattle.bvh2_to_cwbvh_timed.specs.TimedConversion.{side_size, panes_fit
 ghost use Rattle.bvh2_to_cwbvh_timed.specs.Answer.{timed_outcome_of};
 
 use bvh2::Bvh2;
-use bvh2_to_cwbvh::Converted;
+pub use bvh2_to_cwbvh::Converted;
 use causes::Refusal;
 
 // How many bytes of side table a tree needs.

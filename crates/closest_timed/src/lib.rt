@@ -11,7 +11,8 @@ ghost use Rattle.closest_timed.specs.Timed.{pane_timetable, closest_timed_of, mi
 
 use causes::Refusal;
 use gate::AllOpen;
-use pane_walk::{ClosestFound, IndexedPanes, MissFound};
+use pane_walk::IndexedPanes;
+pub use pane_walk::{ClosestFound, ClosestHit, MissFound, Occlusion};
 use ray::Beam;
 use timed::{AtQuarter, Hours};
 

@@ -12,12 +12,13 @@ ghost use Rattle.traverse.specs.Walker.{walker_words};
 ghost use Rattle.traverse_timed.specs.Walker.{at_quarter};
 ghost use Rattle.traverse_timed.specs.Walker.{timed_words, timed_stepped_of, timed_started_of, timed_started, timed_step_bytes, timed_told};
 
-use advance::{Answer, CwBvh};
+pub use advance::Answer;
+use advance::CwBvh;
 use causes::Refusal;
 use gate::Gate;
 use ray::Beam;
 use timed::{AtQuarter, Hours};
-use traverse::Walker;
+pub use traverse::Walker;
 
 // A walker, and the quarter hour of its ray.
 #[derive(Clone, Copy)]
