@@ -79,7 +79,7 @@ unsafe extern "C" {
         ray_len: usize,
         quarter: u8,
     ) -> u64;
-    fn measured_report_timed(
+    fn funnelcress_report_timed(
         record: *const u8,
         record_len: usize,
         side: *const u8,
@@ -100,7 +100,7 @@ unsafe extern "C" {
         pane_totals: *mut u64,
         pane_totals_len: usize,
     ) -> u64;
-    fn measured_bvh2_to_cwbvh_timed(
+    fn funnelcress_bvh2_to_cwbvh_timed(
         words: *const u32,
         words_len: usize,
         indices: *const u32,
@@ -234,7 +234,7 @@ pub fn miss(l: Lists, panes: &[f32], ray: &[f32; 8]) -> (bool, u32) {
 pub fn report(l: Lists, losses: &[u32], rays: &[f32], quarters: &[u8], ray_totals: &mut [u64], pane_totals: &mut [u64]) -> u64 {
     let Day { side, spans } = l.day;
     let x = unsafe {
-        measured_report_timed(
+        funnelcress_report_timed(
             l.record.as_ptr(),
             l.record.len(),
             side.as_ptr(),
@@ -271,7 +271,7 @@ pub fn bvh2_to_cwbvh(
     side: &mut [u8],
 ) -> u64 {
     unsafe {
-        measured_bvh2_to_cwbvh_timed(
+        funnelcress_bvh2_to_cwbvh_timed(
             words.as_ptr(),
             words.len(),
             indices.as_ptr(),

@@ -1,4 +1,5 @@
-// What bench/ measures at a quarter hour: queries for a ray of eight floats, what each looks at on entry, the report and the conversion.
+// What bench/ measures of quarter hours, where no function for C has it: timed queries, for a ray of eight floats each, and what they look at on
+// entry.
 use super::{REFUSED, two_words};
 use pane_walk::{ClosestHit, Occlusion};
 
@@ -87,61 +88,6 @@ pub extern "C" fn measured_miss_timed(
             let blocked = found.answer == Occlusion::Blocked;
             two_words(found.tests, u32::from(blocked))
         }
-        Err(_) => REFUSED,
-    }
-}
-
-// A timed report: the node tests of all rays.
-#[unsafe(no_mangle)]
-pub extern "C" fn measured_report_timed(
-    record: &[u8],
-    side: &[u8],
-    indices: &[u32],
-    panes: usize,
-    spans: &[u8],
-    losses: &[u32],
-    rays: &[f32],
-    quarters: &[u8],
-    ray_totals: &mut [u64],
-    pane_totals: &mut [u64],
-) -> u64 {
-    match loss_timed::report_timed(
-        record,
-        side,
-        indices,
-        panes,
-        spans,
-        losses,
-        rays,
-        quarters,
-        ray_totals,
-        pane_totals,
-    ) {
-        Ok(tests) => tests,
-        Err(_) => REFUSED,
-    }
-}
-
-// The timed conversion, with ordering unless `order` is 0: the deepest level, and below 2^16 how many nodes.
-#[unsafe(no_mangle)]
-pub extern "C" fn measured_bvh2_to_cwbvh_timed(
-    words: &[u32],
-    indices: &[u32],
-    limit: u32,
-    order: u32,
-    panes: usize,
-    spans: &[u8],
-    decisions: &mut [u32],
-    costs: &mut [f32],
-    record: &mut [u8],
-    list: &mut [u32],
-    side: &mut [u8],
-) -> u64 {
-    let ordered = order != 0;
-    match bvh2_to_cwbvh_timed::bvh2_to_cwbvh_timed(
-        words, indices, limit, ordered, panes, spans, decisions, costs, record, list, side,
-    ) {
-        Ok(converted) => u64::from(converted.level) * 65536 + u64::from(converted.nodes),
         Err(_) => REFUSED,
     }
 }
