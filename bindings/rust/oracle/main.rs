@@ -141,7 +141,8 @@ fn asked(s: &Scene, r: &Ray) -> Answers {
 /// The published distances at which the ray enters the panes.
 fn same_distances(s: &Scene, r: &Ray) {
     let got = entry_distances(&panes(s), &ours(r)).expect("whole boxes and a ray");
-    let expected = query::panes_of(&s.panes).into_iter().map(|b| unsigned_zero(b.intersect_ray(&entered(r))));
+    let boxes = query::panes_of(&s.panes).into_iter().flatten();
+    let expected = boxes.map(|b| unsigned_zero(b.intersect_ray(&entered(r))));
     assert!(got.into_iter().map(f32::to_bits).eq(expected.map(f32::to_bits)));
 }
 

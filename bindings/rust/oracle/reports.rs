@@ -1,6 +1,6 @@
 //! Reports of the package against the published any-hit, whose positions the driver adds up; against the rules where a
 //! ray, a loss or the record is refused.
-use crate::loss::{Call, MOST_LOSS, Report};
+use crate::loss::{Call, MOST_LOSS, Report, Reported};
 use crate::queries::{aimed, odd_ray};
 use crate::rng::Rng;
 use crate::scene::Scene;
