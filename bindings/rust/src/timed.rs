@@ -16,8 +16,8 @@ pub const LAST_QUARTER: u8 = 95;
 /// The span of a pane that is always there.
 pub const ALL_DAY: Span = [0, LAST_QUARTER];
 
-/// A record with the side table beside it, 16 bytes a node: slot i's first quarter hour at byte 2i and its last at 2i + 1, the
-/// narrowest span over the panes below it. A walk at a quarter hour leaves alone what is not there.
+/// A record with the side table beside it, 16 bytes a node: from byte 2i on slot i's first quarter hour, then its last, a span as
+/// narrow as those of all panes below the slot allow. A walk at a quarter hour leaves alone what is not there.
 ///
 /// ```
 /// use funnelcress::{ALL_DAY, Options, Ray, Tree};
