@@ -55,7 +55,7 @@ extern "C" {
 #define FUNNELCRESS_WALKER_HEAD 18     /* words of a walker's state */
 #define FUNNELCRESS_WALKER_STACK 32    /* and of its stack */
 
-/* A link: the first of two adjacent children, or a position in the index list. */
+/* A link: where an inner node's pair of children begins, or a leaf's position. */
 #define FUNNELCRESS_INNER(child) ((uint32_t)(child))
 #define FUNNELCRESS_LEAF(position) (UINT32_C(1) << 30 | (uint32_t)(position))
 
@@ -192,7 +192,7 @@ uint64_t funnelcress_join(const uint32_t *first, size_t first_len, const uint32_
                           size_t second_indices_len, uint32_t *marks, size_t marks_len, uint32_t *words, size_t words_len,
                           uint32_t *indices, size_t indices_len);
 
-/* A walker: a ray walked step by step, for a caller with a pane test of its own. It is kept in words that the caller
+/* A walker: a ray walked step by step, for callers who test panes themselves. It is kept in words that the caller
  * lends, which are opaque and may be copied and kept. Neither pointer may be NULL. */
 typedef struct funnelcress_walker {
     uint64_t head[FUNNELCRESS_WALKER_HEAD];

@@ -134,7 +134,7 @@ impl Group {
         (0..32).rev().filter(|&b| self.has(b)).map(|b| self.base as u64 + b as u64).collect()
     }
 
-    /// Children by falling slot XOR octant; a child's rank is the count of imask ones below its slot.
+    /// Children by falling slot XOR octant; a child's rank is how many bits of imask are set below its slot.
     fn children(&self, octant: u32) -> Vec<u64> {
         let child = |k: u32| {
             let slot = k ^ octant & 7;
