@@ -1,6 +1,6 @@
 -- What the level pass and the emission ask holds where none of causes 1 to 7 does.
 use denote.Ref.{Bor}
-use mathlib.Core.Path.{◌≡◌, refl, sym, subst}
+use mathlib.Core.Path.{◌≡◌, refl, sym, subst, ◌∙◌}
 use mathlib.Core.List.{List}
 use Prim.Native.Nat.{ℕ, ◌*◌, ◌≤◌, ◌<◌}
 use native.Mathlib.Omega.{arith}
@@ -14,7 +14,8 @@ use Rattle.cost.specs.Rows.{RowsHold}
 use Rattle.children.specs.declared.branch.Branch.{Branch}
 use Rattle.children.specs.declared.branch.Bvh2Slices.{Bvh2Slices}
 use Rattle.children.specs.Branches.{words_of, decisions_of, subtree_of}
-use Rattle.children.specs.Tabled.{subtree_at, Tabled}
+use Rattle.children.specs.Tabled.{most_edges, subtree_at, Tabled}
+use Rattle.children.proofs.Deeper.{tree_deeper, subtree_deeper}
 use Rattle.wide_tree.proofs.Ordered.{index_count_lem, node-count}
 use Rattle.emit_tree.specs.Emission.{EmitTree}
 use Rattle.bvh2_tables.specs.Call.{Call, leaf_count}
@@ -39,16 +40,19 @@ of_root {b} {ds = ds} r P x =
     subst (P (words_of b) (decisions_of b)) (sym r.node) (subst (λ (d : List ℕ). P (words_of b) d 0) (sym r.decisions)
     (subst (λ (w : List ℕ). P w ds 0) (sym r.words) x))
 
-pub root_tree : {b : Branch} {ws ds : List ℕ} → IsRoot b ws ds → subtree_of b ≡ tree_of ws
-root_tree r = λ i. subtree_at (r.words i) (r.node i)
+pub root_tree : {b : Branch} {ws ds : List ℕ} {n : ℕ} → Subtree ws n 127 0 → IsRoot b ws ds → subtree_of b ≡ tree_of ws
+root_tree s r = (λ i. subtree_at (r.words i) (r.node i)) ∙ tree_deeper s
 
 module _ (c : Call) (ds₁ : List ℕ) (some : 0 < leaf_count c) (parts : Convertible c)
     (filled : ds₁ ≡ work_after 0 (word_of c.limit) c.words (leaf_count c) 0 c.decisions) where
   pub tree : Decoded c.words (leaf_count c)
   tree = (accepted_decoded c.words (leaf_count c) some).0 parts.accepted
 
-  pub holds : RowsHold (word_of c.limit) 0 ds₁ (tree_of c.words)
-  holds = work_holds 0 (word_of c.limit) c.words (leaf_count c) c.decisions ds₁ some tree filled parts.words 0
+  pub subtree : Subtree c.words (leaf_count c) 127 0
+  subtree = root c.words (leaf_count c) tree
+
+  pub holds : RowsHold (word_of c.limit) 0 ds₁ (subtree_at c.words 0)
+  holds = rw (tree_deeper subtree) (work_holds 0 (word_of c.limit) c.words (leaf_count c) c.decisions ds₁ some tree filled parts.words 0)
 
   pub room : tree_nodes (leaf_count c) * 7 ≤ length ds₁
   room =
@@ -56,7 +60,7 @@ module _ (c : Call) (ds₁ : List ℕ) (some : 0 < leaf_count c) (parts : Conver
 
   -- the level pass
   pub tabled : Tabled c.words ds₁ 0
-  tabled = record { n = leaf_count c; tree = root c.words (leaf_count c) tree; room = room; limit = c.limit; holds = holds }
+  tabled = record { n = leaf_count c; tree = subtree_deeper subtree; room = room; limit = c.limit; holds = holds }
 
   -- the emission
   unfoldable pub whole : (b : Branch) → IsRoot b c.words ds₁ → EmitTree b (leaf_count c) c.ordered (length c.bytes) (length c.list)
@@ -68,14 +72,14 @@ module _ (c : Call) (ds₁ : List ℕ) (some : 0 < leaf_count c) (parts : Conver
       let s = size_some (leaf_count c) some in
       record {
         at = record {
-          tree = of_root r (λ ws ds v. Subtree ws (leaf_count c) 127 v) (root c.words (leaf_count c) tree);
+          tree = of_root r (λ ws ds v. Subtree ws (leaf_count c) most_edges v) (subtree_deeper subtree);
           room = of_root r (λ ws ds v. tree_nodes (leaf_count c) * 7 ≤ length ds) room;
           limit = c.limit;
           small = parts.small;
           holds = of_root r (λ ws ds v. RowsHold (word_of c.limit) 0 ds (subtree_at ws v)) holds;
         };
-        record_room = rw (root_tree r) (omega arith);
-        list_room = rw (root_tree r) (omega (arith, parts.list));
-        few = rw (root_tree r) (omega arith);
-        short = rw (root_tree r) (omega arith);
+        record_room = rw (root_tree subtree r) (omega arith);
+        list_room = rw (root_tree subtree r) (omega (arith, parts.list));
+        few = rw (root_tree subtree r) (omega arith);
+        short = rw (root_tree subtree r) (omega arith);
       }

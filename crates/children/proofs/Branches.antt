@@ -21,7 +21,7 @@ use Rattle.cost.proofs.Decisions.{kind_coded}
 use Rattle.children.specs.declared.branch.Branch.{Branch}
 use Rattle.children.specs.Branches.{words_of, decisions_of, subtree_of, DecidedBy, BranchAt, Room}
 use Rattle.children.specs.Gather.{gather, part}
-use Rattle.children.specs.Tabled.{subtree_at, Tabled}
+use Rattle.children.specs.Tabled.{most_edges, subtree_at, Tabled}
 use Rattle.children.proofs.Deeper.{fork}
 use Rattle.children.proofs.Steps.{Here, here_tabled, Opens, slot_left, Divides, root_divides, left_tabled, right_tabled, Says, says}
 
@@ -35,7 +35,7 @@ accepted b = ∥∥₁_elim b.tabled (hlevel props) (λ h. (node h.tree).box)
 
 -- its link is well formed
 pub formed_link : (b : Branch) → malformed ≡ link_at (words_of b) b.node → ⊥
-formed_link b q = ∥∥₁_elim b.tabled (hlevel props) (λ h. formed (words_of b) 127 b.node (sym q) h.tree.whole)
+formed_link b q = ∥∥₁_elim b.tabled (hlevel props) (λ h. formed (words_of b) most_edges b.node (sym q) h.tree.whole)
 
 -- what the word of an entry says
 pub word_says : (b : Branch) (limit : ℕ) → DecidedBy limit b → (i : ℕ) → i ≤ 6
@@ -62,9 +62,9 @@ inside b {f} q = ∥∥₁_elim b.tabled (hlevel props) (λ h.
     let p = fork (words_of b) h.n b.node f h.tree (sym q) in
     record { second = omega (arith, p.second, h.tree.few); left = ∣ left_tabled h f p ∣₁; right = ∣ right_tabled h f p ∣₁ })
 
--- at most 127 edges lie below it
-pub few_edges : (b : Branch) → depth (subtree_of b) ≤ 127
-few_edges b = depth_most (words_of b) 127 b.node
+-- at most so many edges lie below it
+pub few_edges : (b : Branch) → depth (subtree_of b) ≤ most_edges
+few_edges b = depth_most (words_of b) most_edges b.node
 
 -- ---- the branch of another node
 pub branch_tree : {b c : Branch} {v : ℕ} → BranchAt b v c → subtree_of c ≡ subtree_at (words_of b) v

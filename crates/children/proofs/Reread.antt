@@ -13,21 +13,21 @@ use Rattle.bvh2.proofs.Subtree.{at_leaf}
 use Rattle.cost.specs.Table.{word_of}
 use Rattle.cost.specs.Rows.{RowsHold}
 use Rattle.children.specs.Gather.{gather, EachTree}
-use Rattle.children.specs.Tabled.{subtree_at}
+use Rattle.children.specs.Tabled.{most_edges, subtree_at}
 use Rattle.children.proofs.Deeper.{fork}
 use Rattle.children.proofs.Gather.{gather-each}
 
 -- the tree, part of one of n leaves, is what its own number reads as, and its decision words for a limit stand in ds
 pub record Reread (ws ds : List ℕ) (n limit : ℕ) (t : Tree ℕ) : Type 0 where
   pub tree : subtree_at ws (label_of t) ≡ t
-  pub subtree : Subtree ws n 127 (label_of t)
+  pub subtree : Subtree ws n most_edges (label_of t)
   pub holds : RowsHold (word_of limit) 0 ds t
 
 leaf_inner : {A : Type 0} {v u p : ℕ} {b c : Aabb} {l r t : Tree ℕ} → t ≡ leaf v b p → t ≡ inner u c l r → A
 leaf_inner x y = let z : ◌≡◌ {A = ℕ} 0 1 = cc in absurd (omega arith)
 
 -- a tree read as an inner one has an inner link
-inner_kind : {ws : List ℕ} {n v u : ℕ} {box : Aabb} {a b : Tree ℕ} → Subtree ws n 127 v → subtree_at ws v ≡ inner u box a b
+inner_kind : {ws : List ℕ} {n v u : ℕ} {box : Aabb} {a b : Tree ℕ} → Subtree ws n most_edges v → subtree_at ws v ≡ inner u box a b
     → word_at ws v 6 / 0x4000_0000 ≡ 0
 inner_kind {ws} {v = v} h q = pick (ℕ_discrete (word_at ws v 6 / 0x4000_0000) 0)
   where
@@ -35,11 +35,11 @@ inner_kind {ws} {v = v} h q = pick (ℕ_discrete (word_at ws v 6 / 0x4000_0000) 
     pick (yes k) = k
     pick (no k) = leaf_inner (at_leaf h k).tree q
 
-reread_at : (ws ds : List ℕ) (n limit f : ℕ) (t : Tree ℕ) → Subtree ws n 127 f → t ≡ subtree_at ws f → RowsHold (word_of limit) 0 ds t
+reread_at : (ws ds : List ℕ) (n limit f : ℕ) (t : Tree ℕ) → Subtree ws n most_edges f → t ≡ subtree_at ws f → RowsHold (word_of limit) 0 ds t
     → Reread ws ds n limit t
 reread_at ws ds n limit f t h q k =
-    let e : label_of t ≡ f = ap label_of q ∙ label_is ws 127 f in
-    record { tree = ap (subtree_at ws) e ∙ sym q; subtree = subst (λ (x : ℕ). Subtree ws n 127 x) (sym e) h; holds = k }
+    let e : label_of t ≡ f = ap label_of q ∙ label_is ws most_edges f in
+    record { tree = ap (subtree_at ws) e ∙ sym q; subtree = subst (λ (x : ℕ). Subtree ws n most_edges x) (sym e) h; holds = k }
 
 same_left : {v u : ℕ} {b c : Aabb} {l r l' r' t : Tree ℕ} → t ≡ inner v b l r → t ≡ inner u c l' r' → l ≡ l'
 same_left x y = cc
@@ -60,7 +60,7 @@ below ws ds n limit v box a b h =
     )
 
 -- every node that one opens into
-pub gather_here : (ws ds : List ℕ) (n limit v : ℕ) → Subtree ws n 127 v → RowsHold (word_of limit) 0 ds (subtree_at ws v) → (i : ℕ)
+pub gather_here : (ws ds : List ℕ) (n limit v : ℕ) → Subtree ws n most_edges v → RowsHold (word_of limit) 0 ds (subtree_at ws v) → (i : ℕ)
     → EachTree (Reread ws ds n limit) (gather limit (subtree_at ws v) i)
 gather_here ws ds n limit v h k i =
     gather-each limit (Reread ws ds n limit) (below ws ds n limit) (subtree_at ws v) i (reread_at ws ds n limit v (subtree_at ws v) h refl k)

@@ -1,26 +1,30 @@
 -- The tables that `cost` fills are those that gathering asks for.
+use mathlib.Core.Path.{sym, subst}
 use mathlib.Core.List.{List}
 use Prim.Native.Nat.{ℕ}
 use native.Mathlib.Omega.{arith}
 use lib.ListN.{length}
-use Rattle.bvh2.specs.Words.{tree_nodes}
+use Rattle.bvh2.specs.Tree.{Tree}
+use Rattle.bvh2.specs.Words.{tree_nodes, tree_at}
 use Rattle.cost.specs.Table.{word_of}
 use Rattle.cost.specs.Rows.{fill, RowsHold, RowsReady}
 use Rattle.cost.proofs.Fill.{length-fill, inside}
-use Rattle.children.specs.Tabled.{subtree_at, Tabled}
+use Rattle.children.specs.Tabled.{Tabled}
+use Rattle.children.proofs.Deeper.{tree_deeper, subtree_deeper}
 
 -- every row holds its words
-pub filled_holds : {ws : List ℕ} {c v : ℕ} (limit : ℕ) (ds : List ℕ) → RowsReady ws (length ds) c 127 v
-    → RowsHold (word_of limit) 0 (fill (word_of limit) (subtree_at ws v) ds) (subtree_at ws v)
-filled_holds {ws} {v = v} limit ds h =
-    inside (word_of limit) (subtree_at ws v) ds 0 (tree_nodes h.n) h.n h.tree.distinct h.tree.within h.decisions
+pub filled_holds : {ws : List ℕ} {c e v : ℕ} (limit : ℕ) (ds : List ℕ) → RowsReady ws (length ds) c e v
+    → RowsHold (word_of limit) 0 (fill (word_of limit) (tree_at ws e v) ds) (tree_at ws e v)
+filled_holds {ws} {e = e} {v = v} limit ds h =
+    inside (word_of limit) (tree_at ws e v) ds 0 (tree_nodes h.n) h.n h.tree.distinct h.tree.within h.decisions
 
-pub filled-tabled : {ws : List ℕ} {c v : ℕ} (limit : ℕ) (ds : List ℕ) → RowsReady ws (length ds) c 127 v
-    → Tabled ws (fill (word_of limit) (subtree_at ws v) ds) v
-filled-tabled {ws} {v = v} limit ds h = record {
+pub filled-tabled : {ws : List ℕ} {c e v : ℕ} (limit : ℕ) (ds : List ℕ) → RowsReady ws (length ds) c e v
+    → Tabled ws (fill (word_of limit) (tree_at ws e v) ds) v
+filled-tabled {ws} {e = e} {v = v} limit ds h = record {
   n = h.n;
-  tree = h.tree;
-  room = omega (arith, length-fill (word_of limit) (subtree_at ws v) ds, h.decisions);
+  tree = subtree_deeper h.tree;
+  room = omega (arith, length-fill (word_of limit) (tree_at ws e v) ds, h.decisions);
   limit = limit;
-  holds = filled_holds limit ds h;
+  holds = subst (λ (t : Tree ℕ). RowsHold (word_of limit) 0 (fill (word_of limit) (tree_at ws e v) ds) t) (sym (tree_deeper h.tree))
+      (filled_holds limit ds h);
 }

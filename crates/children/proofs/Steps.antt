@@ -23,7 +23,7 @@ use Rattle.cost.specs.Rows.{RowsHold}
 use Rattle.cost.proofs.Splits.{leaf_distribute, internal_distribute, leaf_kind, splits_few, word_fields}
 use Rattle.cost.proofs.Decisions.{kind_coded}
 use Rattle.children.specs.Gather.{opened, gather, part}
-use Rattle.children.specs.Tabled.{subtree_at, Tabled, Gathered}
+use Rattle.children.specs.Tabled.{most_edges, subtree_at, Tabled, Gathered}
 use Rattle.children.proofs.Deeper.{Fork, fork}
 use Rattle.children.proofs.Gather.{one_child, gather_width}
 
@@ -55,7 +55,7 @@ pub says : {ws ds : List ℕ} {v : ℕ} → Tabled ws ds v → (limit : ℕ) →
     → Says (get_or ds (v * 7 + i) 0) (table limit (subtree_at ws v) i)
 says {ws} {ds} {v} h limit k i u =
     let t = subtree_at ws v in
-    let q : get_or ds (v * 7 + i) 0 ≡ word_of limit t i = rw (label_is ws 127 v) at (word_held limit ds t k i (omega arith)) in
+    let q : get_or ds (v * 7 + i) 0 ≡ word_of limit t i = rw (label_is ws most_edges v) at (word_held limit ds t k i (omega arith)) in
     let f = splits_few limit t h.tree.boxes (omega (arith, subtree_leaves h.tree, h.tree.few)) i u in
     let w = word_fields (table limit t i) (omega arith) in
     record {
@@ -122,7 +122,7 @@ pub stay : {ws ds : List ℕ} {v i count : ℕ} {kind : Told} → Opens ws ds v 
     → Gathered (part limit (subtree_at ws v) i) count before (set before count v) (count + 1)
 stay {ws} {v = v} {i = i} {count = count} o before l q z limit k =
     let u = slot_left o q z in
-    one_written (subtree_at ws v) v count before (part limit (subtree_at ws v) i) (label_is ws 127 v)
+    one_written (subtree_at ws v) v count before (part limit (subtree_at ws v) i) (label_is ws most_edges v)
     (stays o.tabled limit k i o.entry (not_told q z)) (omega arith)
 
 -- ---- a node that is opened: what each call asks, and what they make together
@@ -274,8 +274,8 @@ root_divides {ws} {v = v} h =
 pub root_leaf : (ws : List ℕ) (v : ℕ) {p : ℕ} → position p ≡ link_at ws v → (before : List ℕ) → 8 ≤ length before
     → (limit : ℕ) → Gathered (gather limit (subtree_at ws v) 0) 0 before (set before 0 v) 1
 root_leaf ws v {p} q before u limit =
-    one_written (subtree_at ws v) v 0 before (gather limit (subtree_at ws v) 0) (label_is ws 127 v)
-    (itself limit (subtree_at ws v) (tree_leaf ws 127 v p (sym q))) (omega arith)
+    one_written (subtree_at ws v) v 0 before (gather limit (subtree_at ws v) 0) (label_is ws most_edges v)
+    (itself limit (subtree_at ws v) (tree_leaf ws most_edges v p (sym q))) (omega arith)
   where
     itself : (limit : ℕ) (t : Tree ℕ) {box : _} {p : ℕ} → t ≡ leaf v box p → gather limit t 0 ≡ t ∷ []
     itself limit t {box} {p} k = rw k (one_child limit v box p 0)

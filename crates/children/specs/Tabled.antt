@@ -7,14 +7,18 @@ use Rattle.bvh2.specs.Decoded.{Subtree}
 use Rattle.cost.specs.Table.{word_of}
 use Rattle.cost.specs.Rows.{RowsHold}
 
--- the subtree of node v: of an accepted tree nothing is cut off, since no path has more than 127 edges
+-- the most edges that lie below a node: an accepted tree has at most 65536 leaves
+abbrev pub most_edges : ℕ
+most_edges = 65535
+
+-- The subtree of node v. Nothing is cut off: what reads whole with any number of edges left is the same with these (law `tree_deeper`).
 abbrev pub subtree_at : List ℕ → ℕ → Tree ℕ
-subtree_at ws v = tree_at ws 127 v
+subtree_at ws v = tree_at ws most_edges v
 
 -- below node v the words are an accepted tree's, and ds holds its decision words for some limit
 pub record Tabled (ws ds : List ℕ) (v : ℕ) : Type 0 where
   pub n : ℕ
-  pub tree : Subtree ws n 127 v
+  pub tree : Subtree ws n most_edges v
   pub room : tree_nodes n * 7 ≤ length ds
   pub limit : ℕ
   pub holds : RowsHold (word_of limit) 0 ds (subtree_at ws v)

@@ -1,7 +1,7 @@
 // Internal: the children of a wide node, gathered from a binary tree by the decisions of its cost tables (bvh2_to_cwbvh.rs, get_children).
 #![tactic(auto)]
 
-ghost use Rattle.std.specs.Prelude.{◌≡◌, ℕ, ◌≤◌};
+ghost use Rattle.std.specs.Prelude.{◌≡◌, ℕ, ◌≤◌, length};
 ghost use Rattle.bvh2.specs.Words.{children, link_at};
 ghost use Rattle.children.specs.Gather.{gather, part};
 ghost use Rattle.children.specs.Tabled.{Gathered};
@@ -15,9 +15,10 @@ mod branch;
 pub use branch::{Branch, Bvh2Slices};
 
 // Writes what a branch contributes at an entry behind `count` children: its node, or where the decision is DISTRIBUTE, what that opens into.
-// Returns the count after them. The children are an array with a count, since there is no heap.
+// Returns the count after them. The children are a slice with a count, since there is no heap.
 #[cycle(open_child_open_node)]
-fn open_child(branch: Branch<'_>, entry: usize, found: &mut [u32; 8], count: usize) -> usize
+fn open_child(branch: Branch<'_>, entry: usize, found: &mut [u32], count: usize) -> usize
+    requires in_bounds { 8 ≤ length found.old }
     requires bound { entry ≤ 6 }
     requires room { ∥ Room branch count (λ limit. part limit (subtree_of branch) entry) ∥₁ }
     ensures { (limit : ℕ) → DecidedBy limit branch.entry
@@ -45,9 +46,10 @@ fn open_node(
     branch: Branch<'_>,
     first: usize,
     entry: usize,
-    found: &mut [u32; 8],
+    found: &mut [u32],
     count: usize,
 ) -> usize
+    requires in_bounds { 8 ≤ length found.old }
     requires inner { children first ≡ link_at (words_of branch) branch.node }
     requires bound { entry ≤ 6 }
     requires room { ∥ Room branch count (λ limit. gather limit (subtree_of branch) entry) ∥₁ }
@@ -62,7 +64,8 @@ fn open_node(
 
 // Writes the numbers of the children of the wide node that a branch's node becomes, in gathered order from place 0 on, and returns how many there
 // are. The node is opened whatever its own decision says; a leaf's one child is itself.
-pub fn get_children(branch: Branch<'_>, found: &mut [u32; 8]) -> usize
+pub fn get_children(branch: Branch<'_>, found: &mut [u32]) -> usize
+    requires { 8 ≤ length found.old }
     ensures { (limit : ℕ) → DecidedBy limit branch.entry
         → Gathered (gather limit (subtree_of branch.entry) 0) 0 found.old found.new result }
 {

@@ -10,7 +10,7 @@ use Rattle.bvh2.specs.Tree.{Tree, leaf, inner, leaves, depth, positions}
 use Rattle.bvh2.specs.Words.{tree_nodes, children, position, malformed, link_at}
 use Rattle.bvh2.proofs.Subtree.{leaf_link, formed}
 use Rattle.lists.specs.At.{words_at}
-use Rattle.children.specs.Tabled.{subtree_at}
+use Rattle.children.specs.Tabled.{most_edges, subtree_at}
 use Rattle.children.proofs.Deeper.{fork}
 use Rattle.emit.specs.Leaves.{LeavesReady, LeavesWritten}
 
@@ -92,4 +92,4 @@ last {ws} {indices} {at} {v} {p} {o} h e =
 
 -- ---- no link is malformed
 pub formed_link : {ws : List ℕ} {n m at v : ℕ} → LeavesReady ws n m at v → malformed ≡ link_at ws v → ⊥
-formed_link {ws} {v = v} h e = formed ws 127 v (sym e) h.tree.whole
+formed_link {ws} {v = v} h e = formed ws most_edges v (sym e) h.tree.whole

@@ -9,7 +9,7 @@ use Rattle.quantization.specs.Exponent.{exponent_of}
 use Rattle.bvh2.specs.Tree.{Tree, leaves, positions}
 use Rattle.bvh2.specs.Words.{box_at}
 use Rattle.bvh2.specs.Decoded.{Subtree}
-use Rattle.children.specs.Tabled.{subtree_at}
+use Rattle.children.specs.Tabled.{most_edges, subtree_at}
 use Rattle.node.specs.Node.{no_slot}
 use Rattle.record.specs.Record.{leaf_meta, inner_meta, grid_box}
 use Rattle.node.specs.declared.Slot.{Slot}
@@ -97,7 +97,7 @@ CellReady m start at (as_leaf c t) = (at + leaves t ≤ m) × (start ≤ at) × 
 CellReady m start at (as_node c) = Unit {0}
 
 pub record SlotReady (ws decisions : List ℕ) (n m v start at : ℕ) : Type 0 where
-  pub tree : (v ≡ 0xffff_ffff → ⊥) → Subtree ws n 127 v
+  pub tree : (v ≡ 0xffff_ffff → ⊥) → Subtree ws n most_edges v
   pub decided : (v ≡ 0xffff_ffff → ⊥) → v * 7 < length decisions
   pub cell : CellReady m start at (cell_of ws decisions v)
 

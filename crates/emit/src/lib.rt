@@ -1,18 +1,18 @@
 // Internal: a wide tree's record and index list, written into lent slices (bvh2_to_cwbvh.rs: convert_to_cwbvh_impl, count_primitives).
 #![tactic(auto)]
 
-ghost use Rattle.std.specs.Prelude.{◌≡◌, ◌^◌, ◌<◌, ◌≤◌, length};
+ghost use Rattle.std.specs.Prelude.{◌≡◌, true, ◌+◌, ◌*◌, ◌^◌, ◌<◌, ◌≤◌, length};
+ghost use Rattle.aabb.specs.Aabb.{accepted_box};
 ghost use Rattle.bvh2.specs.Words.{box_at};
 ghost use Rattle.record.specs.Record.{leaf_meta};
 ghost use Rattle.emit.specs.Leaves.{LeavesReady, LeavesWritten};
 ghost use Rattle.emit.specs.Grid.{grid_of, box_on};
 ghost use Rattle.children.specs.Tabled.{subtree_at};
-ghost use Rattle.children.specs.Branches.{words_of, decisions_of};
 ghost use Rattle.emit.specs.Own.{SlotReady, OwnReady, held_in, leaf_words_in, all_slots, BuiltAs, cell_of};
 
 use aabb::Aabb;
 use bvh2::Link;
-use children::Branch;
+use children::Bvh2Slices;
 use cost::Kind;
 use node::{Node, Slot};
 use ray::Vec3;
@@ -112,10 +112,9 @@ pub struct Held {
     pub at: usize,
 }
 
-// One slot of a branch's node whose own positions start at a place: nothing, a leaf child whose index words are written from `at` on, or an inner
-// child.
+// One slot of a node whose own positions start at a place: nothing, a leaf child whose index words are written from `at` on, or an inner child.
 fn own_slot(
-    branch: Branch<'_>,
+    tree: &Bvh2Slices<'_>,
     indices: &[u32],
     out: &mut [u32],
     v: u32,
@@ -124,10 +123,10 @@ fn own_slot(
     grid: Grid,
     at: usize,
 ) -> Held
-    requires { (i < 8) × SlotReady (words_of branch) (decisions_of branch) (length indices.now) (length out.old) v start at }
+    requires { (i < 8) × SlotReady tree.now.words.now tree.now.decisions.now (length indices.now) (length out.old) v start at }
     ensures value { (b : Aabb) → grid ≡ grid_of b
-        → result ≡ held_in b start i at (cell_of (words_of branch.entry) (decisions_of branch.entry) v) }
-    ensures out_after { out.new ≡ leaf_words_in indices.now at (cell_of (words_of branch.entry) (decisions_of branch.entry) v)
+        → result ≡ held_in b start i at (cell_of tree.now.words.now tree.now.decisions.now v) }
+    ensures out_after { out.new ≡ leaf_words_in indices.now at (cell_of tree.now.words.now tree.now.decisions.now v)
         out.old }
 {
     // all ones: no child, since each of the eight slots has a word
@@ -140,11 +139,11 @@ fn own_slot(
             at,
         };
     }
-    let words = branch.tree.words;
+    let words = tree.words;
     let child = v as usize;
     let b = bvh2::node_box(words, child);
     let corners = grid_box(grid, b);
-    if cost::decision_at(branch.tree.decisions, child, 0).kind == Kind::Leaf {
+    if cost::decision_at(tree.decisions, child, 0).kind == Kind::Leaf {
         let next = write_leaves(words, indices, out, child, at);
         return Held {
             meta: leaf_meta(next - at, at - start),
@@ -171,24 +170,24 @@ pub struct Built {
     pub at: usize,
 }
 
-// The node that a branch's node becomes with the children in its slots: its index words are written from `start` on, and its inner children
-// are counted from `count` on.
+// The node that binary node v becomes with the children in its slots: its index words are written from `start` on, and its inner children
+// are counted from `count` on. No Branch, since v's own decision words are not read.
 pub fn build_node(
-    branch: Branch<'_>,
+    tree: &Bvh2Slices<'_>,
+    v: usize,
     indices: &[u32],
     out: &mut [u32],
     slots: &[u32; 8],
     count: usize,
     start: usize,
 ) -> Built
-    requires { (count < 2 ^ 32) × (start < 2 ^ 32)
-        × OwnReady (words_of branch) (decisions_of branch) indices.now slots.now (box_at (words_of branch) branch.node) (length out.old)
-        start out.old }
-    ensures { BuiltAs (words_of branch.entry) branch.entry.node count start
-        (all_slots (words_of branch.entry) (decisions_of branch.entry) indices.now slots.now branch.entry.node start out.old)
-        result out.new }
+    requires { (v * 7 + 6 < length tree.now.words.now) × (accepted_box (box_at tree.now.words.now v) ≡ true) × (count < 2 ^ 32) × (start < 2 ^ 32)
+        × OwnReady tree.now.words.now tree.now.decisions.now indices.now slots.now (box_at tree.now.words.now v) (length out.old) start out.old }
+    ensures { BuiltAs tree.now.words.now v count start
+        (all_slots tree.now.words.now tree.now.decisions.now indices.now slots.now v start out.old) result
+        out.new }
 {
-    let b = branch.node_box();
+    let b = bvh2::node_box(tree.words, v);
     let grid = grid_of(b);
     let mut metas = [0u8; 8];
     let mut boxes = [NO_SLOT; 8];
@@ -196,7 +195,7 @@ pub fn build_node(
     let mut inner = 0usize;
     let mut at = start;
     for i in 0..8 {
-        let held = own_slot(branch, indices, out, slots[i], i, start, grid, at);
+        let held = own_slot(tree, indices, out, slots[i], i, start, grid, at);
         metas[i] = held.meta;
         boxes[i] = held.corners;
         imask += held.bit;

@@ -16,7 +16,7 @@ use Rattle.cost.specs.Table.{word_of}
 use Rattle.cost.specs.Rows.{RowsHold}
 use Rattle.children.specs.declared.branch.Branch.{Branch}
 use Rattle.children.specs.Branches.{words_of, decisions_of, subtree_of}
-use Rattle.children.specs.Tabled.{subtree_at, Tabled}
+use Rattle.children.specs.Tabled.{most_edges, subtree_at, Tabled}
 use Rattle.wide_layout.specs.Wide.{Slots, inner}
 use Rattle.wide_layout.specs.Conversion.{State, convert, convert_node}
 use Rattle.wide_tree.specs.WideTree.{root_slots, slots_from}
@@ -30,7 +30,7 @@ use Rattle.emit_tree.proofs.Rolling.{put, Rolling, child_room, child_done, other
 module _ (root : Branch) (indices : List ℕ) (ordered : Bool) (h : EmitNode root (length indices)) (i x : ℕ) (l : i < 8)
     (q : x ≡ get_or (slot_words ordered h.limit (subtree_of root)) i 0) where
   abbrev Child_of : Type 0
-  Child_of = (depth (subtree_at (words_of root) x) < depth (subtree_of root)) × Subtree (words_of root) (length indices) 127 x
+  Child_of = (depth (subtree_at (words_of root) x) < depth (subtree_of root)) × Subtree (words_of root) (length indices) most_edges x
       × RowsHold (word_of h.limit) 0 (decisions_of root) (subtree_at (words_of root) x)
       × (standing root (length indices) ordered h i ≡ inner_child (box_at (words_of root) x) (root_slots (placing ordered) h.limit
       (subtree_at (words_of root) x)))
@@ -43,9 +43,9 @@ module _ (root : Branch) (indices : List ℕ) (ordered : Bool) (h : EmitNode roo
       let z : label_of t ≡ x = b.label ∙ sym q in
       let u : subtree_at (words_of root) x ≡ t = ap (subtree_at (words_of root)) (sym z) ∙ r.tree in (
         subst (λ (y : Tree ℕ). depth y < depth (subtree_of root)) (sym u) b.shallower,
-        subst (λ (y : ℕ). Subtree (words_of root) (length indices) 127 y) z r.subtree,
+        subst (λ (y : ℕ). Subtree (words_of root) (length indices) most_edges y) z r.subtree,
         subst (λ (y : Tree ℕ). RowsHold (word_of h.limit) 0 (decisions_of root) y) (sym u) r.holds,
-        b.held ∙ ap₂ (λ (y : Aabb) (s : Slots 8). inner_child y s) (ap box_of (sym u) ∙ box_is (words_of root) 127 x)
+        b.held ∙ ap₂ (λ (y : Aabb) (s : Slots 8). inner_child y s) (ap box_of (sym u) ∙ box_is (words_of root) most_edges x)
             (ap (root_slots (placing ordered) h.limit) (sym u)),
       )
 

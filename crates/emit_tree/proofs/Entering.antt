@@ -1,11 +1,12 @@
 -- A node's own part: what building it asks, and what writing it leaves.
 use mathlib.Core.Path.{◌≡◌, refl, ap, ◌∙◌}
-use mathlib.Core.Bool.{Bool}
+use mathlib.Core.Bool.{Bool, true}
 use mathlib.Core.List.{List}
 use Prim.Native.Nat.{ℕ, zero, suc, ◌+◌, ◌*◌, ◌^◌, ◌≤◌, ◌<◌}
 use native.Mathlib.Omega.{arith}
 use lib.ListN.{length, get_or}
 use Rattle.lists.specs.Splice.{splice}
+use Rattle.aabb.specs.Aabb.{accepted_box}
 use Rattle.bvh2.specs.Words.{box_at}
 use Rattle.bvh2.proofs.Subtree.{node}
 use Rattle.cost.proofs.Bound.{leaves_pos}
@@ -87,8 +88,9 @@ module _ (root : Branch) (indices bytes out xs : List ℕ) (i : ℕ) (ordered : 
       };
     }
 
-    pub build_asks : (x.nodes < 2 ^ 32) × (x.positions < 2 ^ 32)
-    build_asks = (omega (arith, h.room.few), omega (arith, h.room.short))
+    pub build_asks : (root.node * 7 + 6 < length (words_of root)) × (accepted_box (box_at (words_of root) root.node) ≡ true) × (x.nodes < 2 ^ 32)
+        × (x.positions < 2 ^ 32)
+    build_asks = let n = node h.at.tree in (omega (arith, n.room), n.box, omega (arith, h.room.few), omega (arith, h.room.short))
 
     module _ (r : Built) (bytes₁ out₁ : List ℕ) (b : BuiltAs (words_of root) root.node x.nodes x.positions
         (all_slots (words_of root) (decisions_of root) indices xs root.node x.positions out) r out₁)

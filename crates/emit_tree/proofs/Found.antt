@@ -17,7 +17,7 @@ use Rattle.bvh2.proofs.Decoded.{subtree_leaves}
 use Rattle.cost.specs.Table.{word_of}
 use Rattle.cost.specs.Rows.{RowsHold}
 use Rattle.children.specs.Gather.{gather, EachTree}
-use Rattle.children.specs.Tabled.{subtree_at, Tabled, Gathered}
+use Rattle.children.specs.Tabled.{most_edges, subtree_at, Tabled, Gathered}
 use Rattle.children.proofs.Gather.{gather_width}
 use Rattle.children.proofs.Reread.{Reread, gather_here}
 use Rattle.order.specs.Lists.{padded}
@@ -31,7 +31,7 @@ boxes_read : (ws ds : List ℕ) (n limit : ℕ) (g : List (Tree ℕ)) → EachTr
 unfolding EachTree
 boxes_read ws ds n limit [] h = refl
 boxes_read ws ds n limit (t ∷ g) h =
-    ap₂ (λ (b : Aabb) (bs : List Aabb). b ∷ bs) (sym (box_is ws 127 (label_of t)) ∙ ap box_of h.0.tree) (boxes_read ws ds n limit g h.1)
+    ap₂ (λ (b : Aabb) (bs : List Aabb). b ∷ bs) (sym (box_is ws most_edges (label_of t)) ∙ ap box_of h.0.tree) (boxes_read ws ds n limit g h.1)
 
 rows_read : (ws ds : List ℕ) (n limit : ℕ) (g : List (Tree ℕ)) → EachTree (Reread ws ds n limit) g → (i : ℕ) → i < length (map label_of g)
     → get_or (map label_of g) i 0 * 7 + 6 < length ws
@@ -99,7 +99,7 @@ module _ {ws ds : List ℕ} {v r : ℕ} {found : List ℕ} (h : Tabled ws ds v)
         ap (take r) (f ∙ ap (λ (xs : List ℕ). padded p (map (box_at ws) xs)) (numbers limit z))
         ∙ take_at (map (box_at ws) l) (replicate (8 - length (map (box_at ws) l)) p) r (length-map l (box_at ws) ∙ number limit z)
         ∙ boxes_read ws ds h.n limit g (gather_here ws ds h.n limit v h.tree z 0) in
-        rw (numbers limit z, b, e, ← (box_is ws 127 v), o) refl
+        rw (numbers limit z, b, e, ← (box_is ws most_edges v), o) refl
 
     -- without
     pub found_in_order : (ordered : Bool) → ordered ≡ false → (limit : ℕ) → RowsHold (word_of limit) 0 ds (subtree_at ws v) → found

@@ -14,7 +14,7 @@ use Rattle.bvh2.proofs.Subtree.{node}
 use Rattle.cost.specs.Table.{Kind, LEAF, INTERNAL, DISTRIBUTE, code, table, word_of}
 use Rattle.cost.specs.Rows.{RowsHold}
 use Rattle.children.specs.declared.branch.Branch.{Branch}
-use Rattle.children.specs.Tabled.{subtree_at}
+use Rattle.children.specs.Tabled.{most_edges, subtree_at}
 use Rattle.children.specs.Branches.{words_of, decisions_of, subtree_of}
 use Rattle.children.specs.Gather.{gather, EachTree}
 use Rattle.children.proofs.Steps.{says}
@@ -44,7 +44,7 @@ module _ (ws ds : List ℕ) (n limit : ℕ) (place : Placing) (room : tree_nodes
       ∙ ap (λ (x : Tree ℕ). code (table limit x 0).kind) r.tree
 
   pub box_says : (t : Tree ℕ) → Reread ws ds n limit t → box_at ws (label_of t) ≡ box_of t
-  box_says t r = sym (box_is ws 127 (label_of t)) ∙ ap box_of r.tree
+  box_says t r = sym (box_is ws most_edges (label_of t)) ∙ ap box_of r.tree
 
   pub a_node : (t : Tree ℕ) → Reread ws ds n limit t → label_of t ≡ 0xffff_ffff → ⊥
   a_node t r e = let k = node r.subtree in omega (arith, k.below, r.subtree.few)

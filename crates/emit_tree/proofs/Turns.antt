@@ -16,7 +16,7 @@ use Rattle.bvh2.specs.Decoded.{Subtree}
 use Rattle.cost.specs.Table.{Kind, LEAF, INTERNAL, DISTRIBUTE, code, table}
 use Rattle.cost.proofs.Splits.{leaf_kind}
 use Rattle.children.specs.declared.branch.Branch.{Branch}
-use Rattle.children.specs.Tabled.{subtree_at}
+use Rattle.children.specs.Tabled.{most_edges, subtree_at}
 use Rattle.children.specs.Branches.{words_of, decisions_of, subtree_of}
 use Rattle.children.specs.Gather.{gather, EachTree}
 use Rattle.children.proofs.Gather.{one_child, gather_shallower}
@@ -111,7 +111,7 @@ module _ (ws ds : List ℕ) (n limit : ℕ) (place : Placing) (room : tree_nodes
   leaf_below v box p r (suc i) e = none_inner e
 
   list_subtree : (g : List (Tree ℕ)) → EachTree (Reread ws ds n limit) g → (i : ℕ) → (get_or (map label_of g) i 0xffff_ffff ≡ 0xffff_ffff → ⊥)
-      → Subtree ws n 127 (get_or (map label_of g) i 0xffff_ffff)
+      → Subtree ws n most_edges (get_or (map label_of g) i 0xffff_ffff)
   unfolding EachTree
   list_subtree [] h i z = absurd (z refl)
   list_subtree (t ∷ g) h zero z = h.0.subtree
@@ -153,7 +153,7 @@ module _ (root : Branch) (n : ℕ) (ordered : Bool) (h : EmitNode root n) where
       slot_put (c ∷ cs) (suc i) s = slot_put cs i s
 
   pub slot_subtree : (k : ℕ) → k < 8 → (get_or (slot_words ordered h.limit (subtree_of root)) k 0 ≡ 0xffff_ffff → ⊥)
-      → Subtree (words_of root) n 127 (get_or (slot_words ordered h.limit (subtree_of root)) k 0)
+      → Subtree (words_of root) n most_edges (get_or (slot_words ordered h.limit (subtree_of root)) k 0)
   slot_subtree k l z =
       let e = word_at k l in
       rw e (list_subtree (words_of root) (decisions_of root) n h.limit (placing ordered) h.room (gather h.limit (subtree_of root) 0)

@@ -11,6 +11,7 @@ use Rattle.bvh2.specs.Words.{box_at}
 use Rattle.bvh2.proofs.Reading.{box_is}
 use Rattle.children.specs.declared.branch.Branch.{Branch}
 use Rattle.children.specs.Branches.{words_of, subtree_of}
+use Rattle.children.specs.Tabled.{most_edges}
 use Rattle.wide_layout.specs.Layout.{Entry, layout, index_list}
 use Rattle.wide_layout.specs.Conversion.{State, convert_node, write_all, write_positions}
 use Rattle.wide_layout.proofs.Conversion.{converted}
@@ -65,7 +66,7 @@ whole_done root indices ordered bytes list bytes₁ list₁ x h g =
     let t = wide_tree ordered h.at.limit (subtree_of root) in
     let z : Written = record { bytes = bytes; list = list } in
     let c = e ∙ ap (λ (b : _). convert_node (write_entry indices) b (wide_slots_at root ordered h.at.limit) 0 0 0 0
-    (progress_of bytes list (record { nodes = 1; positions = 0 }))) (sym (box_is (words_of root) 127 root.node))
+    (progress_of bytes list (record { nodes = 1; positions = 0 }))) (sym (box_is (words_of root) most_edges root.node))
     ∙ converted (write_entry indices) t z in
     let w = both indices (layout t) z in
     record {

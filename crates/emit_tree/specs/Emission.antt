@@ -8,6 +8,7 @@ use Rattle.bvh2.specs.Decoded.{Subtree}
 use Rattle.children.specs.declared.branch.Branch.{Branch}
 use Rattle.children.specs.Branches.{words_of, decisions_of, subtree_of, DecidedBy}
 use Rattle.children.specs.Gather.{gather}
+use Rattle.children.specs.Tabled.{most_edges}
 use Rattle.order.specs.Order.{slots_of, placed}
 use Rattle.wide_layout.specs.Wide.{Slots, Wide}
 use Rattle.wide_layout.specs.Sizes.{inner_children, nodes_below, own_count, count_below}
@@ -28,7 +29,7 @@ slot_words ordered limit t =
 
 -- a branch of an accepted tree of n leaves, with the decision words for a limit of at most 3
 pub record EmitNode (b : Branch) (n : ℕ) : Type 0 where
-  pub tree : Subtree (words_of b) n 127 b.node
+  pub tree : Subtree (words_of b) n most_edges b.node
   pub room : tree_nodes n * 7 ≤ length (decisions_of b)
   pub limit : ℕ
   pub small : limit ≤ 3

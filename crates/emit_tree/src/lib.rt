@@ -74,7 +74,15 @@ fn emit_node(
         (wide_slots_at branch.entry ordered h.at.limit) l p k number (progress_of bytes.old out.old next) }
 {
     let slots = slots_of(branch, ordered);
-    let built = emit::build_node(branch, indices, out, &slots, next.nodes, next.positions);
+    let built = emit::build_node(
+        branch.tree,
+        branch.node,
+        indices,
+        out,
+        &slots,
+        next.nodes,
+        next.positions,
+    );
     node::write_node(bytes, number, built.node);
     let mut free = Next {
         nodes: next.nodes + built.inner,

@@ -24,7 +24,7 @@ use Rattle.cost.proofs.Splits.{leaf_distribute, internal_leaf, leaf_kind}
 use Rattle.cost.proofs.Steps.{no_children}
 use Rattle.children.specs.declared.branch.Branch.{Branch}
 use Rattle.children.specs.Branches.{words_of, decisions_of, subtree_of, DecidedBy, BranchAt}
-use Rattle.children.specs.Tabled.{subtree_at, Tabled}
+use Rattle.children.specs.Tabled.{most_edges, subtree_at, Tabled}
 use Rattle.children.proofs.Deeper.{fork}
 use Rattle.children.proofs.Branches.{of_branch, word_kind}
 use Rattle.children.proofs.Steps.{says, told}
@@ -122,7 +122,7 @@ pub root_leaf : (b : Branch) {p : ℕ} → position p ≡ link_at (words_of b) b
     → (limit : ℕ) (ordered : Bool) → 0 ≡ level (wide_tree ordered limit (subtree_of b))
 root_leaf b {p} q limit ordered =
     sym (root_level b limit ordered
-    ∙ levels_leaf limit (subtree_of b) b.node (box_at (words_of b) b.node) p 0 (tree_leaf (words_of b) 127 b.node p (sym q)))
+    ∙ levels_leaf limit (subtree_of b) b.node (box_at (words_of b) b.node) p 0 (tree_leaf (words_of b) most_edges b.node p (sym q)))
 
 pub root_joined : (b : Branch) {m : ℕ} → ((limit : ℕ) → DecidedBy limit b → m ≡ levels limit (subtree_of b) 0)
     → (limit : ℕ) (ordered : Bool) → DecidedBy limit b → m ≡ level (wide_tree ordered limit (subtree_of b))

@@ -21,11 +21,14 @@ pub open_child-open_node-requires : goal.open_child-open_node-requires
 open_child-open_node-requires t c = (
   omega (arith, c.decreases),
   (
-    c.in-Children.ensures.says,
+    c.requires.in_bounds,
     (
-      c.requires.bound,
-      ∥∥₁_map (open_at c.args.branch c.requires.bound c.requires.room)
-          (λ o. room_opened {b = c.args.branch} (divides o c.decision.ensures.kind c.in-Distribute.is)),
+      c.in-Children.ensures.says,
+      (
+        c.requires.bound,
+        ∥∥₁_map (open_at c.args.branch c.requires.bound c.requires.room)
+            (λ o. room_opened {b = c.args.branch} (divides o c.decision.ensures.kind c.in-Distribute.is)),
+      ),
     ),
   ),
 )
@@ -43,7 +46,7 @@ open_child-offset_bounds-found-count t c =
 
 pub open_child-bounds-found-count : goal.open_child-bounds-found-count
 open_child-bounds-found-count t c =
-    place_left c.args.branch c.requires.bound c.requires.room c.decision.ensures.kind c.in_default.not-Distribute
+    omega (arith, c.requires.in_bounds, place_left c.args.branch c.requires.bound c.requires.room c.decision.ensures.kind c.in_default.not-Distribute)
 
 pub open_child-overflow_add-result : goal.open_child-overflow_add-result
 open_child-overflow_add-result t c =
@@ -63,8 +66,11 @@ open_node-open_child-half-requires t c =
     let e = c.decision-decision.ensures in (
       omega (arith, c.decreases, left_shallower c.requires.inner c.left-left.ensures),
       (
-        omega (arith, e.few),
-        ∥∥₁_map o (λ h. branch_room c.left-left.ensures (down h c.requires.inner e.left e.right).left),
+        c.requires.in_bounds,
+        (
+          omega (arith, e.few),
+          ∥∥₁_map o (λ h. branch_room c.left-left.ensures (down h c.requires.inner e.left e.right).left),
+        ),
       ),
     )
 
@@ -75,8 +81,11 @@ open_node-open_child-requires t c =
     let g = of_branch c.left-left.ensures (Gives _ _ _ _ _) c.open_child-half.ensures in (
       omega (arith, c.decreases, right_shallower c.requires.inner c.right.ensures),
       (
-        omega (arith, e.few),
-        ∥∥₁_map o (λ h. branch_room c.right.ensures ((down h c.requires.inner e.left e.right).right _ _ _ g)),
+        omega (arith, c.requires.in_bounds, c.open_child-half.auto.found),
+        (
+          omega (arith, e.few),
+          ∥∥₁_map o (λ h. branch_room c.right.ensures ((down h c.requires.inner e.left e.right).right _ _ _ g)),
+        ),
       ),
     )
 

@@ -4,7 +4,6 @@ use native.Mathlib.Numerals.{add-one}
 use native.Mathlib.Omega.{arith}
 use lib.ListN.{get_or}
 use Rattle.bvh2.specs.Words.{box_at}
-use Rattle.children.specs.Branches.{words_of, decisions_of}
 use Rattle.emit.specs.Grid.{grid_of}
 use Rattle.emit.specs.Own.{Cell, Own, OwnState, made, with_held, cell_of, first_slots}
 use Rattle.emit.proofs.OwnSteps.{first_next, few_bits, corner_numbers, built}
@@ -19,10 +18,10 @@ abbrev own_end : After-loop-i → Own
 own_end c = record { metas = c.loop-i.metas; boxes = c.loop-i.boxes; imask = c.loop-i.imask; inner = c.loop-i.inner; at = c.loop-i.at }
 
 abbrev cells : Start → ℕ → Cell
-cells s j = cell_of (words_of s.args.branch) (decisions_of s.args.branch) (get_or s.args.slots.now j 0)
+cells s j = cell_of s.args.tree.now.words.now s.args.tree.now.decisions.now (get_or s.args.slots.now j 0)
 
 abbrev slots_upto : Start → ℕ → OwnState
-slots_upto s k = first_slots s.args.indices.now (box_at (words_of s.args.branch) s.args.branch.node) s.args.start (cells s) k s.args.out.now
+slots_upto s k = first_slots s.args.indices.now (box_at s.args.tree.now.words.now s.args.v) s.args.start (cells s) k s.args.out.now
 
 -- the slots with one more
 next : (c : After-own_slot-held) → let p = goal.at.After-own_slot-held c in
@@ -30,13 +29,13 @@ next : (c : After-own_slot-held) → let p = goal.at.After-own_slot-held c in
 next c =
     let p = goal.at.After-own_slot-held c in
     let s = c.args in
-    first_next s.indices.now (box_at (words_of s.branch) s.branch.node) s.start (cells p.Start) s.out.now c.loop-i.i
+    first_next s.indices.now (box_at s.tree.now.words.now s.v) s.start (cells p.Start) s.out.now c.loop-i.i
     (own c) c.loop-i.out _ _ c.loop-i.invariant.1
-    (c.own_slot-held.ensures.value (box_at (words_of s.branch) s.branch.node) (c.grid_of-grid.ensures ∙ ap grid_of c.node_box-b.ensures.value))
+    (c.own_slot-held.ensures.value (box_at s.tree.now.words.now s.v) (c.grid_of-grid.ensures ∙ ap grid_of c.node_box-b.ensures))
     c.own_slot-held.ensures.out_after
 
 few : (s : Start) (k : ℕ) (o : Own) → k ≤ 8 → o ≡ (slots_upto s k).own → (o.imask < 256) × (o.inner ≤ 8)
-few s k o = few_bits s.args.indices.now (box_at (words_of s.args.branch) s.args.branch.node) s.args.start (cells s) s.args.out.now k o
+few s k o = few_bits s.args.indices.now (box_at s.args.tree.now.words.now s.args.v) s.args.start (cells s) s.args.out.now k o
 
 few_next : (c : After-own_slot-held) → (c.loop-i.imask + c.own_slot-held.result.bit < 256) × (c.loop-i.inner + c.own_slot-held.result.inner ≤ 8)
 few_next c =
@@ -58,15 +57,13 @@ loop-i-preserved c =
 
 -- the box is an accepted one
 pub float_to_bits-node : goal.float_to_bits-node
-float_to_bits-node c = rw c.node_box-b.ensures.value (corner_numbers (box_at _ _) (rw c.node_box-b.ensures.value at c.node_box-b.ensures.accepted)).0
+float_to_bits-node c = rw c.node_box-b.ensures (corner_numbers (box_at _ _) c.requires.1).0
 
 pub float_to_bits-node-2 : goal.float_to_bits-node-2
-float_to_bits-node-2 c = rw c.node_box-b.ensures.value (corner_numbers (box_at _ _)
-    (rw c.node_box-b.ensures.value at c.node_box-b.ensures.accepted)).1
+float_to_bits-node-2 c = rw c.node_box-b.ensures (corner_numbers (box_at _ _) c.requires.1).1
 
 pub float_to_bits-node-3 : goal.float_to_bits-node-3
-float_to_bits-node-3 c = rw c.node_box-b.ensures.value (corner_numbers (box_at _ _)
-    (rw c.node_box-b.ensures.value at c.node_box-b.ensures.accepted)).2
+float_to_bits-node-3 c = rw c.node_box-b.ensures (corner_numbers (box_at _ _) c.requires.1).2
 
 pub overflow_cast-node : goal.overflow_cast-node
 overflow_cast-node c =
@@ -81,9 +78,9 @@ returns c =
     let a = c.loop-i.invariant.1 ∙ ap (slots_upto p.Start) e in
     record {
       node =
-          (built (words_of s.branch) s.branch.node s.count s.start c.node_box-b.result c.grid_of-grid.result
-          (own_end p.After-loop-i) _ c.node_box-b.ensures.value
-          (c.grid_of-grid.ensures ∙ ap grid_of c.node_box-b.ensures.value) (ap (λ (x : OwnState). x.own) a));
+          (built s.tree.now.words.now s.v s.count s.start c.node_box-b.result c.grid_of-grid.result
+          (own_end p.After-loop-i) _ c.node_box-b.ensures
+          (c.grid_of-grid.ensures ∙ ap grid_of c.node_box-b.ensures) (ap (λ (x : OwnState). x.own) a));
       inner = ap (λ (x : OwnState). x.own.inner) a;
       at = ap (λ (x : OwnState). x.own.at) a;
       list = ap (λ (x : OwnState). x.list) a;

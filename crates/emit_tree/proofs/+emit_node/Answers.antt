@@ -51,6 +51,8 @@ build_node-built-requires t c =
     let a = build_asks s.branch s.indices.now s.bytes.now s.out.now c.slots_of-slots.result s.number s.ordered s.next c.requires q in (
       a.0,
       a.1,
+      a.2,
+      a.3,
       own_ready s.branch s.indices.now s.bytes.now s.out.now c.slots_of-slots.result s.number s.ordered s.next c.requires q,
     )
 
