@@ -10,7 +10,7 @@ use Rattle.walk.specs.Step as S
 use Rattle.walk.specs.Words as W
 use Rattle.walk.specs.Words.{unpacked, waiting_depth, has_child}
 use Rattle.walk.specs.WordStep.{WalkerWords, NodeWords, no_group, stay_words, visit_words, pop_words, turn_words, advance_words}
-use Rattle.walk.proofs.Stacks.{waiting_child}
+use Rattle.walk.proofs.Stacks.{waiting_child, waiting_most}
 use Rattle.walk.proofs.Words.{empty_front}
 use Rattle.walk.proofs.WordKept.{unskipped_turn}
 use Rattle.advance.specs.Turn.{DueGroup, popped, due_group}
@@ -48,6 +48,19 @@ module _ (g : W.Group) (stack : List ℕ) (depth : ℕ) where
             let there : found ≡ unpacked (top_of stack (suc k)) = q ∙ ap (λ (x : ℕ). unpacked (top_of stack x)) y in
             let holds : has_child (unpacked (top_of stack (suc k))) ≡ true = sym (ap has_child there) ∙ le-leb 0x100_0000 found.bits some in
             rw (holds, z, there)
+
+-- no more groups wait below it than waited
+pub due_depth : (g : W.Group) (stack : List ℕ) (depth : ℕ) → (due_group g stack depth).depth ≤ depth
+unfolding due_group
+due_depth g stack depth = go (has_child g)
+  where
+    below : (k : ℕ) → k ≤ depth → (popped stack k).depth ≤ depth
+    below zero h = omega arith
+    below (suc k) h = omega arith
+
+    go : (b : Bool) → (cond b (record { group = g; depth = depth }) (popped stack (waiting_depth stack depth))).depth ≤ depth
+    go true = omega arith
+    go false = below (waiting_depth stack depth) (waiting_most stack depth)
 
 -- ---- a turn does what is due
 

@@ -3,6 +3,7 @@
 
 ghost use Rattle.std.specs.Prelude.{◌≡◌, false, ◌≤◌, ◌<◌, length, IfSome};
 ghost use Rattle.causes.proofs.Sizes.{Fit};
+ghost use Rattle.faststack.specs.Stack.{capacity};
 ghost use Rattle.record_shape.specs.Record.{node_count};
 ghost use Rattle.walk.specs.Words.{packed, unpacked, first_position, first_child, rest_of};
 ghost use Rattle.walk.specs.WordStep.{visit_words, advance_words, seek_words};
@@ -145,7 +146,8 @@ pub fn first_child(g: Group, octant: u32) -> usize
 
 // The group in hand is due, or else the last that waits and holds a child.
 #[tactic(auto, using(crate::proofs::Dues::due_hand, crate::proofs::Dues::due_none))]
-pub fn due_group(current: Group, depth: u32, stack: &Stack) -> Option<Due>
+pub fn due_group(current: Group, depth: u32, stack: &[u64]) -> Option<Due>
+    requires { capacity ≤ length stack.now }
     ensures value { due_in result ≡ due_group (group_of current) stack.now depth }
     ensures child { IfSome result (λ g. 0x100_0000 ≤ g.group.bits) }
 {
@@ -184,8 +186,9 @@ fn is_past(child: usize, tests: u32, m: usize) -> bool
 }
 
 // Lets what is left of a group wait above `depth` others, if it holds a child; how many wait then.
-fn wait(stack: &mut Stack, depth: u32, rest: Group) -> u32
-    requires { lacks_room depth rest.bits ≡ false }
+fn wait(stack: &mut [u64], depth: u32, rest: Group) -> u32
+    requires room { lacks_room depth rest.bits ≡ false }
+    requires stack { capacity ≤ length stack.old }
     ensures value { result ≡ waits depth rest.bits }
     ensures stack_after { stack.new ≡ stacked stack.old depth (group_of rest) }
 {
@@ -218,8 +221,9 @@ fn follow(tests: u32, t: Tested, depth: u32) -> Walk
 
 // Tests the first child of a group; what is left of the group waits above those below it. Aim, gate, stack and record go by themselves here and
 // below: closest lowers an aim's reach, a walk changes the stack, and gate and record stay.
-fn visit<G: Gate>(walk: Walk, g: Due, aim: &Aim, gate: G, stack: &mut Stack, bvh: CwBvh) -> Turn
-    requires { 0x100_0000 ≤ g.group.bits }
+fn visit<G: Gate>(walk: Walk, g: Due, aim: &Aim, gate: G, stack: &mut [u64], bvh: CwBvh) -> Turn
+    requires child { 0x100_0000 ≤ g.group.bits }
+    requires stack { capacity ≤ length stack.old }
     ensures { let bytes = bvh.entry.bytes.now in turned aim.now.ray aim.now.octant result stack.new
         ≡ visit_words (node_count bytes) (node_words_at bytes (rays_of (G.gates gate))) bvh.entry.positions
         (walker_of aim.now.ray aim.now.octant walk stack.old) (group_of g.group) g.depth }
@@ -254,8 +258,9 @@ fn visit<G: Gate>(walk: Walk, g: Due, aim: &Aim, gate: G, stack: &mut Stack, bvh
 }
 
 // One turn without positions in hand: the node that is due is tested, or nothing is left.
-fn test_due<G: Gate>(walk: Walk, aim: &Aim, gate: G, stack: &mut Stack, bvh: CwBvh) -> Turn
-    requires { walk.positions.bits ≡ 0 }
+fn test_due<G: Gate>(walk: Walk, aim: &Aim, gate: G, stack: &mut [u64], bvh: CwBvh) -> Turn
+    requires none { walk.positions.bits ≡ 0 }
+    requires stack { capacity ≤ length stack.old }
     ensures { let bytes = bvh.entry.bytes.now in turned aim.now.ray aim.now.octant result stack.new
         ≡ advance_words (node_count bytes) (node_words_at bytes (rays_of (G.gates gate))) bvh.entry.positions
         (walker_of aim.now.ray aim.now.octant walk stack.old) }
@@ -289,9 +294,10 @@ pub fn seek<G: Gate>(
     most: u32,
     aim: &Aim,
     gate: G,
-    stack: &mut Stack,
+    stack: &mut [u64],
     bvh: CwBvh,
 ) -> Turn
+    requires { capacity ≤ length stack.old }
     ensures { let bytes = bvh.entry.bytes.now in turned aim.now.ray aim.now.octant result stack.new
         ≡ seek_words (node_count bytes) (node_words_at bytes (rays_of (G.gates gate))) most bvh.entry.positions
         (walker_of aim.now.ray aim.now.octant (seeking tests held current bits depth) stack.old) }

@@ -3,6 +3,7 @@ use mathlib.Core.Path.{◌≡◌, sym, ◌∙◌}
 use Prim.Native.Nat.{ℕ, ◌-◌, ◌<◌}
 use native.Mathlib.Omega.{arith}
 use lib.Ieee.{Float}
+use lib.ListN.{length}
 use Rattle.record_shape.specs.Record.{node_count}
 use Rattle.walk.specs.WordStep.{WalkerWords, SteppedWords, NodeWords, advance_words, seek_words}
 use Rattle.walk_record.specs.WalkRay.{WalkRay, rays_of}
@@ -49,9 +50,12 @@ module _ (g : _) (c : After-goes_on g) where
   unfolding goes_on
   none h = seek_none m N n w r c.loop-gate.left turn (sym c.goes_on.ensures ∙ h)
 
+  same : length r.walker.stack ≡ length c.args.stack.now
+  same = c.test_due-turn.auto.stack ∙ c.loop-gate.invariant.0
+
 pub returns-then-not-goes_on : goal.returns-then-not-goes_on
 returns-then-not-goes_on g c =
-    ends g (goal.at.returns-then-not-goes_on g c).After-goes_on c.if-not-goes_on.true ∙ c.loop-gate.invariant.1
+    ends g (goal.at.returns-then-not-goes_on g c).After-goes_on c.if-not-goes_on.true ∙ c.loop-gate.invariant.2
 
 pub overflow_sub-left : goal.overflow_sub-left
 overflow_sub-left g c = some_left g (goal.at.overflow_sub-left g c).After-goes_on c.if-not-goes_on.false
@@ -63,4 +67,4 @@ pub loop-gate-preserved : goal.loop-gate-preserved
 loop-gate-preserved g c =
     let turn = (goal.at.loop-gate-preserved g c).After-goes_on in
     let h = c.if-not-goes_on.false in
-    (none g turn h, goes g turn h ∙ c.loop-gate.invariant.1)
+    (same g turn, none g turn h, goes g turn h ∙ c.loop-gate.invariant.2)

@@ -1,4 +1,5 @@
 use mathlib.Core.Path.{◌≡◌}
+use lib.ListN.{length}
 use Rattle.record_shape.specs.Record.{node_count}
 use Rattle.walk.specs.WordStep.{seek_words}
 use Rattle.walk_record.specs.WalkRay.{rays_of}
@@ -10,7 +11,7 @@ abbrev pub invariant-loop-gate : goal.invariant-loop-gate
 invariant-loop-gate g l =
     let m = node_count l.bvh.bytes.now in
     let N = node_words_at l.bvh.bytes.now (rays_of (g.G.Gate.gates l.gate)) in
-    (l.walk.positions.bits ≡ 0)
+    (length l.stack ≡ length l.initial.stack) × (l.walk.positions.bits ≡ 0)
     × (seek_words m N l.left l.bvh.positions (walker_of l.aim.ray l.aim.octant l.walk l.stack)
     ≡ seek_words m N l.most l.bvh.positions (walker_of l.aim.ray l.aim.octant l.initial.walk l.initial.stack))
 

@@ -20,7 +20,7 @@ returns-in_default g c =
     let a = c.args in
     let aim = a.aim.now in
     turn_none (node_count a.bvh.bytes.now) (node_words_at a.bvh.bytes.now (rays_of (g.G.Gate.gates a.gate))) a.bvh.positions
-    (walker_of aim.ray aim.octant a.walk a.stack.now) (omega (arith, c.requires))
+    (walker_of aim.ray aim.octant a.walk a.stack.now) (omega (arith, c.requires.none))
     (due_in c.due_group.result) c.due_group.ensures.value (no_child _ c.in_default.not-Some)
 
 pub returns : goal.returns
@@ -29,5 +29,5 @@ returns g c =
     let aim = a.aim.now in
     c.visit.ensures
     ∙ turn_visits (node_count a.bvh.bytes.now) (node_words_at a.bvh.bytes.now (rays_of (g.G.Gate.gates a.gate))) a.bvh.positions
-    (walker_of aim.ray aim.octant a.walk a.stack.now) (omega (arith, c.requires))
+    (walker_of aim.ray aim.octant a.walk a.stack.now) (omega (arith, c.requires.none))
     _ c.in-Some.ensures.value c.in-Some.ensures.child
