@@ -4,15 +4,16 @@ use mathlib.Core.List.{List, [], ◌∷◌, ◌++◌, map}
 use mathlib.Core.Path.{◌≡◌, refl, sym, ap, ap₂, subst, ◌∙◌}
 use Prim.Native.Nat.{ℕ, suc, ◌+◌, ◌-◌, ◌*◌, ◌/◌, ◌^◌, ◌<◌, ◌≤◌}
 use native.Mathlib.Decide.{ℕ_discrete}
+use native.Mathlib.Nat.{add-zero}
 use native.Mathlib.Omega.{arith}
 use lib.ListN.{length, get_or, length-append, length-map, get_or-map}
 use lib.Seq.{ext_get_or}
 use lib.Dec.{leb}
-use borrow.Author.Tests.{leb-true}
+use borrow.Author.Tests.{le-leb, leb-true}
 use Rattle.lists.specs.Splice.{splice}
 use Rattle.lists.specs.Values.{values}
 use Rattle.lists.proofs.Values.{values_length, values_at}
-use Rattle.lists.proofs.Tells.{all_at}
+use Rattle.lists.proofs.Tells.{all_pass, all_at}
 use Rattle.bvh2.specs.Words.{tree_nodes, Link, children, position, malformed, link_of, word_at, link_at}
 use Rattle.bvh2.specs.Causes.{LinkInside, Accepted}
 use Rattle.bvh2.proofs.First.{accepted_facts}
@@ -34,6 +35,15 @@ pub all_moved : (l : List ℕ) (by : ℕ) (s : List ℕ) (at : ℕ) (t : List �
     → t ≡ splice s at (map (λ k. k + by) l)
 all_moved l by s at t i e h =
     e ∙ ap (λ (k : ℕ). splice s at (values (λ j. get_or l j 0 + by) k)) h ∙ ap (splice s at) (map-values (λ k. k + by) l)
+
+-- moved by nothing, a list is itself, and its words fit
+pub map_none : (l : List ℕ) → map (λ k. k + 0) l ≡ l
+map_none [] = refl
+map_none (x ∷ l) = rw (map_none l, add-zero x)
+
+pub none_fits : (l : List ℕ) → ((i : ℕ) → get_or l i 0 < 2 ^ 32) → sums_fit 0 l ≡ true
+none_fits l h =
+    all_pass (λ i. leb (get_or l i 0 + 0) 0xffff_ffff) (length l) (λ i k. le-leb (get_or l i 0 + 0) 0xffff_ffff (omega (arith, h i)))
 
 -- a word moved so is a word
 pub stays_word : (by : ℕ) (l : List ℕ) (i : ℕ) → sums_fit by l ≡ true → i < length l → get_or l i 0 + by < 2 ^ 32

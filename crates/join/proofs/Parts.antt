@@ -5,7 +5,7 @@ use mathlib.Core.Path.{◌≡◌, refl, sym, ap, ◌∙◌}
 use Prim.Native.Nat.{ℕ, zero, suc, ◌+◌, ◌-◌, ◌*◌, ◌<◌, ◌≤◌}
 use native.Mathlib.Nat.{zero-add}
 use native.Mathlib.Omega.{arith}
-use lib.ListN.{length, drop, length-append, length-map}
+use lib.ListN.{length, length-append, length-map}
 use Rattle.lists.specs.Splice.{splice}
 use Rattle.lists.proofs.Splice.{written_next}
 use Rattle.aabb.specs.declared.Aabb.{Aabb}
@@ -31,11 +31,6 @@ roots_box ws us n m a b p q = union_accepted (box_at ws 0) (box_at us 0) (root_b
 -- an accepted tree with leaves has its root in words
 pub root_room : (ws : List ℕ) (n : ℕ) → Accepted ws n → 0 < n → 6 < length ws
 root_room ws n a p = let e = (accepted_facts ws n a p).sized.fit in omega arith
-
--- a list copied to the front
-pub front_written : (s l t : List ℕ) → t ≡ l → t ++ drop (length l) s ≡ splice s 0 l
-unfolding splice
-front_written s l t e = rw (e, zero-add (length l)) refl
 
 module _ (ws : List ℕ) (n : ℕ) (us : List ℕ) (m : ℕ) where
   abbrev new_root : List ℕ

@@ -133,12 +133,12 @@ fn sums_fit(panes: usize, list: &[u32]) -> bool
         .all(|word| (*word as usize).saturating_add(panes) <= MOST)
 }
 
-// The list's words in front.
+// The list's words in front: moved up by nothing, since `copy_from_slice` asks the archive's user for `memmove`.
 fn put_front(list: &[u32], out: &mut [u32])
     requires { length list.now ≤ length out.old }
     ensures { out.new ≡ splice out.old 0 list.now }
 {
-    out[..list.len()].copy_from_slice(list);
+    put_moved(list, 0, out, 0);
 }
 
 // The list's words, each moved up by so much, from word `at` on.
