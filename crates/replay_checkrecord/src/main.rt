@@ -5,10 +5,16 @@
 
 mod inputs;
 
+use std::env::Env;
+use std::fs::Files;
 use std::io;
 
+// Runs the file that the first argument names. The input's files are closed before the last line is printed.
+fn run<R: Files + Env + Print + AllocGlobal>(rt: &R) -> io::Result<bool> {
+    let mut input = inputs::open(rt)?;
+    stored::replay(rt, 1, |kind, case| inputs::agrees(kind, case, &mut input))
+}
+
 fn main(rt: HostRuntime) -> io::Result<()> {
-    let mut input = inputs::open(&rt)?;
-    let all = stored::replay(&rt, 1, |kind, case| inputs::agrees(kind, case, &mut input))?;
-    stored::print_verdict(&rt, all)
+    stored::print_verdict(&rt, run(&rt)?)
 }

@@ -1,4 +1,6 @@
 // The stored cases of losses: a record with index words, losses and rays; a report's answer, and the single call's for each ray.
+ghost use Rattle.std.specs.Prelude.{◌≤◌, length};
+
 use crate::lent::{Priced, Spaces};
 use crate::single;
 use stored::{TOTAL, behind, copy_bytes, copy_words, word};
@@ -35,12 +37,15 @@ fn answers(case: &[u8], totals: &[u8], priced: Priced, rays: &[f32]) -> bool {
     }
 }
 
-// The words of the totals of rays and panes: none in a case that is refused.
-fn totals_words(case: &[u8], rays: &[f32]) -> usize {
+// The words of the totals of so many rays and of the panes: none in a case that is refused.
+fn totals_words(case: &[u8], count: usize) -> usize
+    requires { count ≤ 65536 }
+    ensures { result ≤ 8590065662 }
+{
     if word(case, 7) > 0 {
         0
     } else {
-        (rays.len() / 8 + word(case, 2) as usize) * 2
+        (count + word(case, 2) as usize) * 2
     }
 }
 
@@ -52,16 +57,18 @@ fn same_losses(floats: &[u8], answers: &[u8], priced: Priced) -> bool {
         .all(|(ray, answer)| single::same_loss(ray, answer, priced))
 }
 
-// Whether the report and the single calls answer as stored, where the case's floats of the rays stand first in `floats`, then the totals, and the
-// single call's answers end it.
-fn compared(case: &[u8], floats: &[u8], priced: Priced, rays: &mut [f32]) -> bool {
+// Whether the report and the single calls answer as stored, where the floats of the rays stand from word `from` on, then the totals, and the single
+// call's answers end the case.
+fn compared(case: &[u8], from: usize, priced: Priced, rays: &mut [f32]) -> bool
+    requires { (from ≤ 32768) × (length rays.old ≤ 512) }
+{
+    let floats = behind(case, from);
     let totals = copy_words(floats, rays);
-    let written = totals_words(case, rays);
-    let last = behind(totals, written);
-    written <= totals.len() / 4
-        && last.len() == rays.len() / 8 * 16
+    let count = rays.len() / 8;
+    let written = totals_words(case, count);
+    from + rays.len() + written + count * 4 == case.len() / 4
         && answers(case, totals, priced, rays)
-        && same_losses(floats, last, priced)
+        && same_losses(floats, behind(totals, written), priced)
 }
 
 // The same, where the record, index words and losses of a case go to these.
@@ -71,17 +78,22 @@ fn copied(
     list: &mut [u32],
     losses: &mut [u32],
     rays: &mut [f32],
-) -> bool {
+) -> bool
+    requires few { (length record.old ≤ 49152) × (length list.old ≤ 4400) }
+    requires short { (length losses.old ≤ 64) × (length rays.old ≤ 512) }
+{
+    let positions = 10 + (record.len() + 3) / 4;
+    let from = positions + list.len() + losses.len();
     copy_bytes(case, 40, record);
-    let taken = copy_words(behind(case, 10 + (record.len() + 3) / 4), list);
-    let floats = copy_words(taken, losses);
+    let taken = copy_words(behind(case, positions), list);
+    copy_words(taken, losses);
     let priced = Priced {
         record,
         list,
         panes: word(case, 2) as usize,
         losses,
     };
-    compared(case, floats, priced, rays)
+    compared(case, from, priced, rays)
 }
 
 // Bytes of the record, index words, panes, losses, floats of rays, words lent for the totals of rays, and of panes; the report's number and its node

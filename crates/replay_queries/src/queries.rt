@@ -1,5 +1,5 @@
 // The stored cases of queries: a record with index words and panes, and questions with their answers.
-ghost use Rattle.std.specs.Prelude.{◌+◌, ◌≤◌};
+ghost use Rattle.std.specs.Prelude.{◌+◌, ◌≤◌, IfSome};
 
 use crate::nearest::Site;
 use crate::{any, nearest};
@@ -19,7 +19,9 @@ fn past(asked: &[u8], at: usize) -> usize
 }
 
 // The words of a question, if any-hit, closest and miss answer it as stored.
-fn question_words(asked: &[u8], site: Site) -> Option<usize> {
+fn question_words(asked: &[u8], site: Site) -> Option<usize>
+    ensures { IfSome result (λ words. words ≤ 1099511627776) }
+{
     let closest = past(asked, 12);
     let miss = past(asked, closest + 2);
     let end = past(asked, miss + 2);

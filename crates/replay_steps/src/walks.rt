@@ -1,4 +1,6 @@
 // The stored cases of walks: a record, and walkers with their calls.
+ghost use Rattle.std.specs.Prelude.{◌≤◌, IfSome};
+
 use crate::calls::{Run, last_walker};
 use crate::walkers::starting;
 use stored::{RECORD_BYTES, copy_bytes, filled_with, same_parts, word};
@@ -8,7 +10,9 @@ use stored_answers::came_to;
 const END_WORDS: usize = 5;
 
 // The words of a walk, if its calls are as stored and it comes to what is stored.
-fn walk_words(walk: &[u8], record: &[u8], bytes: usize, n: usize) -> Option<usize> {
+fn walk_words(walk: &[u8], record: &[u8], bytes: usize, n: usize) -> Option<usize>
+    ensures { IfSome result (λ words. words ≤ 1099511627776) }
+{
     let begun = starting(walk)?;
     let calls = begun.words as usize;
     let from = calls + 1;

@@ -1,5 +1,6 @@
 // What a tree of a stored case is accepted or refused for.
 ghost use Rattle.std.specs.Prelude.{◌≡◌, ◌<◌, ◌≤◌, IfSome};
+ghost use Rattle.bvh2.specs.Causes.{Accepted};
 ghost use Rattle.bvh2.specs.Words.{tree_nodes};
 
 use bvh2_check::{AcceptedBvh2, sizes, structure};
@@ -19,7 +20,9 @@ pub fn node_count(n: usize) -> usize
 // A tree with leaves of which none of causes 1, 2, 5, 6 and 7 holds, if the check for it leaves its marks zero.
 pub fn accepted(words: &[u32], n: usize) -> Option<AcceptedBvh2<'_>>
     requires { n ≤ 512 }
-    ensures { IfSome result (λ a. 0 < a.tree.leaves) }
+    ensures leaves { IfSome result (λ a. 0 < a.tree.leaves) }
+    ensures tree { IfSome result (λ a. (a.tree.words.now ≡ words.now) × (a.tree.leaves ≡ n)) }
+    ensures accepted { IfSome result (λ _. Accepted words.now n) }
 {
     let tree = sizes(words, n).ok()?;
     let mut marks = [0u32; MOST_WORDS];

@@ -26,6 +26,9 @@ use std::fs::Files;
 use std::io::{ErrorKind, Read};
 use std::{env, fs, io};
 
+// The most cases and groups of a file, together.
+const MOST_TURNS: u32 = 999_999;
+
 // The most groups of a file.
 const MOST_GROUPS: u32 = 100;
 
@@ -38,6 +41,13 @@ pub struct Group {
     pub kind: u32,
     pub count: u32,
     pub words: u32,
+}
+
+// How a group's cases went: whether all agreed, and how many more cases and groups are looked at.
+#[derive(Clone, Copy)]
+struct Replayed {
+    all: bool,
+    turns: u32,
 }
 
 // Fills a buffer with a file's next bytes, or says that the file ends before it is full.
@@ -110,18 +120,21 @@ pub fn read_case<F: Read>(
     Ok(None)
 }
 
-// Runs the cases of a group, prints which was the first to differ, and the group's line, and answers whether all agreed.
+// Runs the cases of a group, prints which was the first to differ, and the group's line. A case is a turn, and so is the group's end; none where
+// there are fewer turns than that, so that no file has a replay go on without end.
 fn replay_group<R: Print, G: Read, F: FnMut(u32, &[u8]) -> io::Result<bool>>(
     rt: &R,
     file: &mut G,
     group: Group,
+    turns: u32,
     buffer: &mut [u8],
     agrees: &mut F,
-) -> io::Result<bool>
+) -> io::Result<Option<Replayed>>
     requires { (state : F) (kind case : _) → F.pre state kind case }
+    ensures { IfOk result (λ read. IfSome read (λ next. next.turns < turns)) }
 {
     let mut agreed = 0;
-    for i in 0..group.count {
+    for i in 0..group.count.min(turns) {
         let same = match read_case(file, group, buffer)? {
             Some(length) => agrees(group.kind, &buffer[..length])?,
             None => false,
@@ -133,12 +146,19 @@ fn replay_group<R: Print, G: Read, F: FnMut(u32, &[u8]) -> io::Result<bool>>(
         }
     }
     let count = group.count;
+    if count >= turns {
+        return Ok(None);
+    }
     names::print_name(rt, group.kind)?;
     println!(rt; ": compared {count}, agreed {agreed}")?;
-    Ok(agreed == count)
+    Ok(Some(Replayed {
+        all: agreed == count,
+        turns: turns - count - 1,
+    }))
 }
 
-// Runs each case of the file that argument i names by a test, which takes the kind and the bytes: whether all agreed and the file is whole.
+// Runs each case of the file that argument i names by a test, which takes the kind and the bytes: whether all agreed and the file is whole. A file of
+// more turns does not agree.
 pub fn replay<R: Files + Env + Print + AllocGlobal, F: FnMut(u32, &[u8]) -> io::Result<bool>>(
     rt: &R,
     i: usize,
@@ -149,11 +169,23 @@ pub fn replay<R: Files + Env + Print + AllocGlobal, F: FnMut(u32, &[u8]) -> io::
     let mut buffer = [0u8; CASE_BYTES];
     let mut file = open(rt, i)?;
     let mut all = true;
+    let mut turns = MOST_TURNS;
     for groups in 0..=MOST_GROUPS {
         match next_group(&mut file)? {
             Some(group) if group.kind > 0 && groups < MOST_GROUPS => {
-                let same = replay_group(rt, &mut file, group, &mut buffer, &mut agrees)?;
-                all = all && same;
+                let Some(next) = replay_group(
+                    rt,
+                    &mut file,
+                    group,
+                    turns,
+                    &mut buffer,
+                    &mut agrees,
+                )?
+                else {
+                    return Ok(false);
+                };
+                all = all && next.all;
+                turns = next.turns;
             }
             Some(last) => return Ok(all && last.kind == 0 && last.count == groups),
             None => return Ok(false),
