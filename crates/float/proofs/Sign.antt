@@ -102,6 +102,12 @@ no_nan_lt_r (fin s m e) nan h = subst T (sym h) tt
 no_nan_lt_r x (inf s) h = tt
 no_nan_lt_r x (fin s m e) h = tt
 
+pub no_nan_eq_l : (x y : Float) → eq x y ≡ true → T (not (is_nan x))
+unfolding eq is_nan
+no_nan_eq_l nan y h = subst T (sym h) tt
+no_nan_eq_l (inf s) y h = tt
+no_nan_eq_l (fin s m e) y h = tt
+
 -- ---- a value equals itself exactly if it is no NaN
 pub self_equal : (x : Float) → eq x x ≡ not (is_nan x)
 unfolding eq is_nan
