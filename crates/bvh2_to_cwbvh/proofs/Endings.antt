@@ -22,7 +22,7 @@ use Rattle.cost.specs.Rows.{RowsHold}
 use Rattle.children.specs.declared.branch.Branch.{Branch}
 use Rattle.children.specs.Branches.{subtree_of}
 use Rattle.children.specs.Tabled.{subtree_at, Tabled}
-use Rattle.children.proofs.Deeper.{tree_deeper}
+use Rattle.children.proofs.Deeper.{tree_most}
 use Rattle.wide_layout.specs.Layout as W
 use Rattle.wide_tree.specs.Ordered.{wide_tree, wide_tree_of}
 use Rattle.record.specs.Record.{record_bytes}
@@ -36,7 +36,7 @@ use Rattle.bvh2_tables.proofs.Refilled.{work_refilled}
 use Rattle.bvh2_to_cwbvh.specs.Conversion.{record_of, nodes_of, level_of, output_positions, index_list_of, deepest_level, Convertible}
 use Rattle.bvh2_to_cwbvh.specs.Conversion.{conversion_conditions, conversion_cause, ConversionAnswer, converted, refused, answer_for, output_after}
 use Rattle.bvh2_to_cwbvh.specs.Conversion.{Outcome, outcome_for, conversion_of}
-use Rattle.bvh2_to_cwbvh.proofs.Ready.{IsRoot, root_tree, subtree, holds, room, tabled, whole}
+use Rattle.bvh2_to_cwbvh.proofs.Ready.{IsRoot, root_read, subtree, subtree_holds, room, tabled, whole}
 
 -- ---- the first cause, from the causes up to 7
 module _ (c : Call) where
@@ -159,8 +159,8 @@ module _ {c : Call} {ds₁ : List ℕ} {cs₁ : List Float} (p : Prepares c 0 ds
         → deepest ≡ W.level (wide_tree ordered limit (subtree_at c.words 0))) where
       found : deepest ≡ deepest_level c
       found =
-          finds c.limit c.ordered (holds c ds₁ some parts p.decisions)
-          ∙ ap (λ (t : Tree ℕ). W.level (wide_tree c.ordered c.limit t)) (tree_deeper (subtree c ds₁ some parts p.decisions))
+          finds c.limit c.ordered (subtree_holds c ds₁ some parts p.decisions)
+          ∙ ap (λ (t : Tree ℕ). W.level (wide_tree c.ordered c.limit t)) (tree_most (subtree c ds₁ some parts p.decisions))
           ∙ sym (there c.words (leaf_count c) c.limit c.ordered some).level
 
       -- a level over 31: the tables are cleared again
@@ -180,7 +180,7 @@ module _ {c : Call} {ds₁ : List ℕ} {cs₁ : List Float} (p : Prepares c 0 ds
       emits : (b : Branch) → IsRoot b c.words ds₁ → (bytes₁ list₁ : List ℕ) (x : Next) → Emits b bytes₁ list₁ x
           → Emitted c.indices (wide_tree_of c.words c.ordered c.limit) c.bytes c.list bytes₁ list₁ x
       unfolding whole
-      emits b r bytes₁ list₁ x emitted = rw (root_tree (subtree c ds₁ some parts p.decisions) r) at (emitted (whole c ds₁ some parts p.decisions b r))
+      emits b r bytes₁ list₁ x emitted = rw (root_read c ds₁ some parts p.decisions r) at (emitted (whole c ds₁ some parts p.decisions b r))
 
       -- converted
       pub written_ends : deepest ≤ 31 → (b : Branch) → IsRoot b c.words ds₁ → (bytes₁ list₁ : List ℕ) (x : Next) → Emits b bytes₁ list₁ x

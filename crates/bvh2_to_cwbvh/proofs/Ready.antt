@@ -15,7 +15,7 @@ use Rattle.children.specs.declared.branch.Branch.{Branch}
 use Rattle.children.specs.declared.branch.Bvh2Slices.{Bvh2Slices}
 use Rattle.children.specs.Branches.{words_of, decisions_of, subtree_of}
 use Rattle.children.specs.Tabled.{most_edges, subtree_at, Tabled}
-use Rattle.children.proofs.Deeper.{tree_deeper, subtree_deeper}
+use Rattle.children.proofs.Deeper.{tree_most, subtree_most}
 use Rattle.wide_tree.proofs.Ordered.{index_count_lem, node-count}
 use Rattle.emit_tree.specs.Emission.{EmitTree}
 use Rattle.bvh2_tables.specs.Call.{Call, leaf_count}
@@ -41,7 +41,7 @@ of_root {b} {ds = ds} r P x =
     (subst (λ (w : List ℕ). P w ds 0) (sym r.words) x))
 
 pub root_tree : {b : Branch} {ws ds : List ℕ} {n : ℕ} → Subtree ws n 127 0 → IsRoot b ws ds → subtree_of b ≡ tree_of ws
-root_tree s r = (λ i. subtree_at (r.words i) (r.node i)) ∙ tree_deeper s
+root_tree s r = (λ i. subtree_at (r.words i) (r.node i)) ∙ tree_most s
 
 module _ (c : Call) (ds₁ : List ℕ) (some : 0 < leaf_count c) (parts : Convertible c)
     (filled : ds₁ ≡ work_after 0 (word_of c.limit) c.words (leaf_count c) 0 c.decisions) where
@@ -51,8 +51,15 @@ module _ (c : Call) (ds₁ : List ℕ) (some : 0 < leaf_count c) (parts : Conver
   pub subtree : Subtree c.words (leaf_count c) 127 0
   subtree = root c.words (leaf_count c) tree
 
-  pub holds : RowsHold (word_of c.limit) 0 ds₁ (subtree_at c.words 0)
-  holds = rw (tree_deeper subtree) (work_holds 0 (word_of c.limit) c.words (leaf_count c) c.decisions ds₁ some tree filled parts.words 0)
+  -- the root's subtree is the whole tree
+  pub root_read : {b : Branch} → IsRoot b c.words ds₁ → subtree_of b ≡ tree_of c.words
+  root_read r = root_tree subtree r
+
+  pub holds : RowsHold (word_of c.limit) 0 ds₁ (tree_of c.words)
+  holds = work_holds 0 (word_of c.limit) c.words (leaf_count c) c.decisions ds₁ some tree filled parts.words 0
+
+  pub subtree_holds : RowsHold (word_of c.limit) 0 ds₁ (subtree_at c.words 0)
+  subtree_holds = rw (tree_most subtree) holds
 
   pub room : tree_nodes (leaf_count c) * 7 ≤ length ds₁
   room =
@@ -60,7 +67,7 @@ module _ (c : Call) (ds₁ : List ℕ) (some : 0 < leaf_count c) (parts : Conver
 
   -- the level pass
   pub tabled : Tabled c.words ds₁ 0
-  tabled = record { n = leaf_count c; tree = subtree_deeper subtree; room = room; limit = c.limit; holds = holds }
+  tabled = record { n = leaf_count c; tree = subtree_most subtree; room = room; limit = c.limit; holds = subtree_holds }
 
   -- the emission
   unfoldable pub whole : (b : Branch) → IsRoot b c.words ds₁ → EmitTree b (leaf_count c) c.ordered (length c.bytes) (length c.list)
@@ -72,14 +79,14 @@ module _ (c : Call) (ds₁ : List ℕ) (some : 0 < leaf_count c) (parts : Conver
       let s = size_some (leaf_count c) some in
       record {
         at = record {
-          tree = of_root r (λ ws ds v. Subtree ws (leaf_count c) most_edges v) (subtree_deeper subtree);
+          tree = of_root r (λ ws ds v. Subtree ws (leaf_count c) most_edges v) (subtree_most subtree);
           room = of_root r (λ ws ds v. tree_nodes (leaf_count c) * 7 ≤ length ds) room;
           limit = c.limit;
           small = parts.small;
-          holds = of_root r (λ ws ds v. RowsHold (word_of c.limit) 0 ds (subtree_at ws v)) holds;
+          holds = of_root r (λ ws ds v. RowsHold (word_of c.limit) 0 ds (subtree_at ws v)) subtree_holds;
         };
-        record_room = rw (root_tree subtree r) (omega arith);
-        list_room = rw (root_tree subtree r) (omega (arith, parts.list));
-        few = rw (root_tree subtree r) (omega arith);
-        short = rw (root_tree subtree r) (omega arith);
+        record_room = rw (root_read r) (omega arith);
+        list_room = rw (root_read r) (omega (arith, parts.list));
+        few = rw (root_read r) (omega arith);
+        short = rw (root_read r) (omega arith);
       }

@@ -10,6 +10,7 @@ use Rattle.std.proofs.Props.{props}
 use Rattle.aabb.specs.Aabb.{accepted_box}
 use Rattle.bvh2.specs.Tree.{Tree, depth}
 use Rattle.bvh2.specs.Words.{children, malformed, link_at, box_at}
+use Rattle.bvh2.specs.Decoded.{Subtree}
 use Rattle.bvh2.proofs.Reading.{depth_most}
 use Rattle.bvh2.proofs.Subtree.{node, formed}
 use Rattle.cost.specs.declared.Kind.{Kind as Told}
@@ -22,7 +23,7 @@ use Rattle.children.specs.declared.branch.Branch.{Branch}
 use Rattle.children.specs.Branches.{words_of, decisions_of, subtree_of, DecidedBy, BranchAt, Room}
 use Rattle.children.specs.Gather.{gather, part}
 use Rattle.children.specs.Tabled.{most_edges, subtree_at, Tabled}
-use Rattle.children.proofs.Deeper.{fork}
+use Rattle.children.proofs.Deeper.{tree_most, fork}
 use Rattle.children.proofs.Steps.{Here, here_tabled, Opens, slot_left, Divides, root_divides, left_tabled, right_tabled, Says, says}
 
 -- where its node stands
@@ -59,12 +60,16 @@ pub record Inside (b : Branch) (f : ℕ) : Type 0 where
 
 pub inside : (b : Branch) {f : ℕ} → children f ≡ link_at (words_of b) b.node → Inside b f
 inside b {f} q = ∥∥₁_elim b.tabled (hlevel props) (λ h.
-    let p = fork (words_of b) h.n b.node f h.tree (sym q) in
+    let p = fork (words_of b) h.n most_edges b.node f h.tree (sym q) in
     record { second = omega (arith, p.second, h.tree.few); left = ∣ left_tabled h f p ∣₁; right = ∣ right_tabled h f p ∣₁ })
 
--- at most so many edges lie below it
-pub few_edges : (b : Branch) → depth (subtree_of b) ≤ most_edges
-few_edges b = depth_most (words_of b) most_edges b.node
+-- no more edges lie below it than its node reads whole with
+pub few_edges : {n e : ℕ} (b : Branch) → Subtree (words_of b) n e b.node → depth (subtree_of b) ≤ e
+few_edges {e = e} b s = omega (arith, ap depth (tree_most s), depth_most (words_of b) e b.node)
+
+-- below any branch, at most `most_edges`
+pub edges_most : (b : Branch) → depth (subtree_of b) ≤ most_edges
+edges_most b = depth_most (words_of b) most_edges b.node
 
 -- ---- the branch of another node
 pub branch_tree : {b c : Branch} {v : ℕ} → BranchAt b v c → subtree_of c ≡ subtree_at (words_of b) v
@@ -88,12 +93,12 @@ of_branch {b} {c} h P x =
 pub left_shallower : {b c : Branch} {f : ℕ} → children f ≡ link_at (words_of b) b.node → BranchAt b f c
     → depth (subtree_of c) < depth (subtree_of b)
 left_shallower {b} {f = f} q h = ∥∥₁_elim b.tabled (hlevel props)
-    (λ k. omega (arith, (fork (words_of b) k.n b.node f k.tree (sym q)).left_shallower, ap depth (branch_tree h)))
+    (λ k. omega (arith, (fork (words_of b) k.n most_edges b.node f k.tree (sym q)).left_shallower, ap depth (branch_tree h)))
 
 pub right_shallower : {b c : Branch} {f : ℕ} → children f ≡ link_at (words_of b) b.node → BranchAt b (f + 1) c
     → depth (subtree_of c) < depth (subtree_of b)
 right_shallower {b} {f = f} q h = ∥∥₁_elim b.tabled (hlevel props)
-    (λ k. omega (arith, (fork (words_of b) k.n b.node f k.tree (sym q)).right_shallower, ap depth (branch_tree h)))
+    (λ k. omega (arith, (fork (words_of b) k.n most_edges b.node f k.tree (sym q)).right_shallower, ap depth (branch_tree h)))
 
 pub branch_room : {b c : Branch} {v i count : ℕ} → BranchAt b v c → Opens (words_of b) (decisions_of b) v i count
     → Room c count (λ limit. part limit (subtree_of c) i)

@@ -4,3 +4,4 @@ pub mod Steps
 pub mod Branches
 pub mod Reread
 pub mod Start
+pub mod Accepted

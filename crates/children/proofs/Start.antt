@@ -10,7 +10,7 @@ use Rattle.cost.specs.Table.{word_of}
 use Rattle.cost.specs.Rows.{fill, RowsHold, RowsReady}
 use Rattle.cost.proofs.Fill.{length-fill, inside}
 use Rattle.children.specs.Tabled.{Tabled}
-use Rattle.children.proofs.Deeper.{tree_deeper, subtree_deeper}
+use Rattle.children.proofs.Deeper.{tree_most, subtree_most}
 
 -- every row holds its words
 pub filled_holds : {ws : List ℕ} {c e v : ℕ} (limit : ℕ) (ds : List ℕ) → RowsReady ws (length ds) c e v
@@ -22,9 +22,9 @@ pub filled-tabled : {ws : List ℕ} {c e v : ℕ} (limit : ℕ) (ds : List ℕ) 
     → Tabled ws (fill (word_of limit) (tree_at ws e v) ds) v
 filled-tabled {ws} {e = e} {v = v} limit ds h = record {
   n = h.n;
-  tree = subtree_deeper h.tree;
+  tree = subtree_most h.tree;
   room = omega (arith, length-fill (word_of limit) (tree_at ws e v) ds, h.decisions);
   limit = limit;
-  holds = subst (λ (t : Tree ℕ). RowsHold (word_of limit) 0 (fill (word_of limit) (tree_at ws e v) ds) t) (sym (tree_deeper h.tree))
+  holds = subst (λ (t : Tree ℕ). RowsHold (word_of limit) 0 (fill (word_of limit) (tree_at ws e v) ds) t) (sym (tree_most h.tree))
       (filled_holds limit ds h);
 }

@@ -153,7 +153,7 @@ both_written A B count half end s₀ s₁ s₂ a b u =
           ∙ splice_next s₀ count a' b' (omega arith) ∙ ap (splice s₀ count) (sym (map-append label_of A B));
     }
 
-module _ {ws ds : List ℕ} {v : ℕ} (h : Tabled ws ds v) (f : ℕ) (p : Fork ws h.n v f) where
+module _ {ws ds : List ℕ} {v : ℕ} (h : Tabled ws ds v) (f : ℕ) (p : Fork ws h.n most_edges v f) where
   abbrev L : Tree ℕ
   L = subtree_at ws f
 
@@ -260,7 +260,7 @@ pub down : {ws ds : List ℕ} {v i count f l r : ℕ} → Divides ws ds v i coun
     → Down ws ds v f l r count (λ limit. gather limit (subtree_at ws v) i)
 down {ws} {ds} {v} {i} {count} {f = f} o q y z =
     let h = o.tabled in
-    let p = fork ws h.n v f h.tree (sym q) in
+    let p = fork ws h.n most_edges v f h.tree (sym q) in
     rw (y, z) (halves h f p i count o.entry (λ limit. gather limit (subtree_at ws v) i)
     (λ limit k. gather_inner limit (subtree_at ws v) v (box_at ws v) _ _ i p.tree) o.slots)
 

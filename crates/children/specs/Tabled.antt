@@ -11,7 +11,7 @@ use Rattle.cost.specs.Rows.{RowsHold}
 abbrev pub most_edges : ℕ
 most_edges = 65535
 
--- The subtree of node v. Nothing is cut off: what reads whole with any number of edges left is the same with these (law `tree_deeper`).
+-- The subtree of node v. Nothing is cut off: what reads whole with any number of edges left is the same with these (law `tree_most`).
 abbrev pub subtree_at : List ℕ → ℕ → Tree ℕ
 subtree_at ws v = tree_at ws most_edges v
 

@@ -38,7 +38,7 @@ pub record Down (ws : List ℕ) (n m at v f : ℕ) : Type 0 where
 pub down : {ws : List ℕ} {n m at v f : ℕ} → LeavesReady ws n m at v → children f ≡ link_at ws v → Down ws n m at v f
 unfolding leaves
 down {ws} {n} {m} {at} {v} {f} h e =
-    let i = fork ws n v f h.tree (sym e) in
+    let i = fork ws n most_edges v f h.tree (sym e) in
     let room : at + (leaves (subtree_at ws f) + leaves (subtree_at ws (f + 1))) ≤ m = rw i.tree at h.room in record {
       second = i.second;
       few = h.tree.few;

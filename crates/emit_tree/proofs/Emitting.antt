@@ -52,7 +52,7 @@ module _ (root : Branch) (indices : List ℕ) (ordered : Bool) (h : EmitNode roo
   -- its decision can be read
   pub decided : (x ≡ 0xffff_ffff → ⊥) → x * 7 < length (decisions_of root)
   decided z =
-      let s = slot_subtree root (length indices) ordered h i l (λ y. z (q ∙ y)) in
+      let s = slot_subtree root (length indices) ordered h h.tree i l (λ y. z (q ∙ y)) in
       let n = node s in
       omega (arith, q, n.below, h.room)
 

@@ -77,8 +77,8 @@ module _ (root : Branch) (indices bytes out xs : List ℕ) (i : ℕ) (ordered : 
     pub own_ready : OwnReady (words_of root) (decisions_of root) indices xs (box_at (words_of root) root.node) (length out) x.positions out
     own_ready = record {
       each = λ k l. record {
-        tree = λ z. rw q (slot_subtree root (length indices) ordered h.at k l (rw q at z));
-        decided = λ z. (let n = node (slot_subtree root (length indices) ordered h.at k l (rw q at z)) in rw q
+        tree = λ z. rw q (slot_subtree root (length indices) ordered h.at h.at.tree k l (rw q at z));
+        decided = λ z. (let n = node (slot_subtree root (length indices) ordered h.at h.at.tree k l (rw q at z)) in rw q
             (omega (arith, n.below, h.at.room)));
         cell = cell_ready (wide_slots_at root ordered h.at.limit) (length out) x.positions _ k
             (cell_of (words_of root) (decisions_of root) (get_or xs k 0)) small l

@@ -26,14 +26,14 @@ use Rattle.order.specs.Order.{gathered_order, slots_of, placed}
 use Rattle.emit_tree.specs.Emission.{slot_words}
 
 -- the boxes of gathered nodes, read by their numbers, and that they can be read
-boxes_read : (ws ds : List ℕ) (n limit : ℕ) (g : List (Tree ℕ)) → EachTree (Reread ws ds n limit) g → map (box_at ws) (map label_of g)
+boxes_read : (ws ds : List ℕ) (n limit : ℕ) (g : List (Tree ℕ)) → EachTree (Reread ws ds n limit most_edges) g → map (box_at ws) (map label_of g)
     ≡ map box_of g
 unfolding EachTree
 boxes_read ws ds n limit [] h = refl
 boxes_read ws ds n limit (t ∷ g) h =
     ap₂ (λ (b : Aabb) (bs : List Aabb). b ∷ bs) (sym (box_is ws most_edges (label_of t)) ∙ ap box_of h.0.tree) (boxes_read ws ds n limit g h.1)
 
-rows_read : (ws ds : List ℕ) (n limit : ℕ) (g : List (Tree ℕ)) → EachTree (Reread ws ds n limit) g → (i : ℕ) → i < length (map label_of g)
+rows_read : (ws ds : List ℕ) (n limit : ℕ) (g : List (Tree ℕ)) → EachTree (Reread ws ds n limit most_edges) g → (i : ℕ) → i < length (map label_of g)
     → get_or (map label_of g) i 0 * 7 + 6 < length ws
 unfolding EachTree
 rows_read ws ds n limit [] h i l = absurd (not-suc-le-zero l)
@@ -82,7 +82,7 @@ module _ {ws ds : List ℕ} {v r : ℕ} {found : List ℕ} (h : Tabled ws ds v)
         let g = gather h.limit (subtree_at ws v) 0 in
         let e : get_or found i 0 ≡ get_or (map label_of g) i 0 = sym (get_or-take r found i 0 l) ∙ ap (λ (xs : List ℕ). get_or xs i 0)
         (numbers h.limit h.holds) in
-        let q = rows_read ws ds h.n h.limit g (gather_here ws ds h.n h.limit v h.tree h.holds 0) i
+        let q = rows_read ws ds h.n h.limit g (gather_here ws ds h.n h.limit most_edges v h.tree h.holds 0) i
         (omega (arith, number h.limit h.holds)) in
         rw e q
 
@@ -98,7 +98,7 @@ module _ {ws ds : List ℕ} {v r : ℕ} {found : List ℕ} (h : Tabled ws ds v)
         let b : take r bs ≡ map box_of g =
         ap (take r) (f ∙ ap (λ (xs : List ℕ). padded p (map (box_at ws) xs)) (numbers limit z))
         ∙ take_at (map (box_at ws) l) (replicate (8 - length (map (box_at ws) l)) p) r (length-map l (box_at ws) ∙ number limit z)
-        ∙ boxes_read ws ds h.n limit g (gather_here ws ds h.n limit v h.tree z 0) in
+        ∙ boxes_read ws ds h.n limit g (gather_here ws ds h.n limit most_edges v h.tree z 0) in
         rw (numbers limit z, b, e, ← (box_is ws most_edges v), o) refl
 
     -- without

@@ -35,7 +35,7 @@ use Rattle.emit_tree.specs.Emission.{wide_slots_at, slot_words, EmitNode}
 
 -- ---- a gathered node's word says what it becomes
 module _ (ws ds : List ℕ) (n limit : ℕ) (place : Placing) (room : tree_nodes n * 7 ≤ length ds) where
-  pub kind_says : (t : Tree ℕ) → Reread ws ds n limit t → get_or ds (label_of t * 7) 0 / 0x4000_0000 ≡ code (table limit t 0).kind
+  pub kind_says : (t : Tree ℕ) → Reread ws ds n limit most_edges t → get_or ds (label_of t * 7) 0 / 0x4000_0000 ≡ code (table limit t 0).kind
   kind_says t r =
       let held : RowsHold (word_of limit) 0 ds (subtree_at ws (label_of t)) = rw r.tree r.holds in
       ap (λ (x : ℕ). get_or ds x 0 / 0x4000_0000) (sym (add-zero (label_of t * 7)))
@@ -43,13 +43,13 @@ module _ (ws ds : List ℕ) (n limit : ℕ) (place : Placing) (room : tree_nodes
       0 (omega arith)).kind
       ∙ ap (λ (x : Tree ℕ). code (table limit x 0).kind) r.tree
 
-  pub box_says : (t : Tree ℕ) → Reread ws ds n limit t → box_at ws (label_of t) ≡ box_of t
+  pub box_says : (t : Tree ℕ) → Reread ws ds n limit most_edges t → box_at ws (label_of t) ≡ box_of t
   box_says t r = sym (box_is ws most_edges (label_of t)) ∙ ap box_of r.tree
 
-  pub a_node : (t : Tree ℕ) → Reread ws ds n limit t → label_of t ≡ 0xffff_ffff → ⊥
+  pub a_node : (t : Tree ℕ) → Reread ws ds n limit most_edges t → label_of t ≡ 0xffff_ffff → ⊥
   a_node t r e = let k = node r.subtree in omega (arith, k.below, r.subtree.few)
 
-  cell_matches : (t : Tree ℕ) → Reread ws ds n limit t → Matches (cell_of ws ds (label_of t)) (held_as (child_of place limit t))
+  cell_matches : (t : Tree ℕ) → Reread ws ds n limit most_edges t → Matches (cell_of ws ds (label_of t)) (held_as (child_of place limit t))
   unfolding Matches
   cell_matches t r = go (table limit t 0).kind (kind_says t r)
     where
@@ -67,7 +67,7 @@ module _ (ws ds : List ℕ) (n limit : ℕ) (place : Placing) (room : tree_nodes
           (sym (cell_node ws ds (label_of t) (a_node t r) (λ z. omega (arith, e, z))))
           (root_slots place limit t, ap (λ (b : Aabb). C.inner_child b (root_slots place limit t)) (sym (box_says t r)))
 
-  list_matches : (g : List (Tree ℕ)) → EachTree (Reread ws ds n limit) g → (i : ℕ)
+  list_matches : (g : List (Tree ℕ)) → EachTree (Reread ws ds n limit most_edges) g → (i : ℕ)
       → Matches (cell_of ws ds (get_or (map label_of g) i 0xffff_ffff)) (held_at (map (child_of place limit) g) i)
   unfolding EachTree Matches
   list_matches [] h i = subst (λ (c : Cell). Matches c C.none) (sym (cell_none ws ds 0xffff_ffff refl)) refl
@@ -93,4 +93,4 @@ slots_match root n ordered h k l =
     (map (child_of (placing ordered) h.limit) g) 0 8 k l
     ∙ ap (λ (i : ℕ). held_at (map (child_of (placing ordered) h.limit) g) (child i)) (zero-add k) in
     rw (e, f) (list_matches (words_of root) (decisions_of root) n h.limit (placing ordered) h.room g
-    (gather_here (words_of root) (decisions_of root) n h.limit root.node h.tree h.holds 0) (child k))
+    (gather_here (words_of root) (decisions_of root) n h.limit most_edges root.node h.tree h.holds 0) (child k))

@@ -19,6 +19,7 @@ use Rattle.children.specs.declared.branch.Branch.{Branch}
 use Rattle.children.specs.Tabled.{most_edges, subtree_at}
 use Rattle.children.specs.Branches.{words_of, decisions_of, subtree_of}
 use Rattle.children.specs.Gather.{gather, EachTree}
+use Rattle.children.proofs.Deeper.{tree_most}
 use Rattle.children.proofs.Gather.{one_child, gather_shallower}
 use Rattle.children.proofs.Reread.{Reread, gather_here}
 use Rattle.order.specs.Order.{slots_of, placed}
@@ -77,12 +78,12 @@ other_word ds x e n = go (ℕ_discrete (get_or ds (x * 7) 0 / 0x4000_0000) 0)
 pub record Below (ws ds : List ℕ) (n limit m : ℕ) (place : Placing) (x : ℕ) (c : C.Content) : Type 0 where
   pub tree : Tree ℕ
   pub label : label_of tree ≡ x
-  pub reread : Reread ws ds n limit tree
+  pub reread : Reread ws ds n limit most_edges tree
   pub shallower : depth tree < m
   pub held : c ≡ C.inner_child (box_of tree) (root_slots place limit tree)
 
 module _ (ws ds : List ℕ) (n limit : ℕ) (place : Placing) (room : tree_nodes n * 7 ≤ length ds) where
-  node-held : (t : Tree ℕ) → Reread ws ds n limit t → is_inner ds (label_of t) ≡ true → held_as (child_of place limit t)
+  node-held : (t : Tree ℕ) → Reread ws ds n limit most_edges t → is_inner ds (label_of t) ≡ true → held_as (child_of place limit t)
       ≡ C.inner_child (box_of t) (root_slots place limit t)
   node-held t r e = go (table limit t 0).kind (kind_says ws ds n limit place room t r)
     where
@@ -95,7 +96,7 @@ module _ (ws ds : List ℕ) (n limit : ℕ) (place : Placing) (room : tree_nodes
   none_inner : is_inner ds 0xffff_ffff ≡ true → ⊥
   none_inner e = (inner_word ds 0xffff_ffff e).0 refl
 
-  list_below : (m : ℕ) (g : List (Tree ℕ)) → EachTree (Reread ws ds n limit) g → EachTree (λ t. depth t < m) g → (i : ℕ)
+  list_below : (m : ℕ) (g : List (Tree ℕ)) → EachTree (Reread ws ds n limit most_edges) g → EachTree (λ t. depth t < m) g → (i : ℕ)
       → is_inner ds (get_or (map label_of g) i 0xffff_ffff) ≡ true
       → Below ws ds n limit m place (get_or (map label_of g) i 0xffff_ffff) (held_at (map (child_of place limit) g) i)
   unfolding EachTree
@@ -104,14 +105,14 @@ module _ (ws ds : List ℕ) (n limit : ℕ) (place : Placing) (room : tree_nodes
   list_below m (t ∷ g) h k (suc i) e = list_below m g h.1 k.1 i e
 
   -- a leaf's only child is no node
-  leaf_below : (v : ℕ) (box : Aabb) (p : ℕ) → Reread ws ds n limit (leaf v box p) → (i : ℕ)
+  leaf_below : (v : ℕ) (box : Aabb) (p : ℕ) → Reread ws ds n limit most_edges (leaf v box p) → (i : ℕ)
       → is_inner ds (get_or (map label_of (leaf v box p ∷ [])) i 0xffff_ffff) ≡ true → ⊥
   leaf_below v box p r zero e = (inner_word ds (label_of (leaf v box p)) e).1
       (kind_says ws ds n limit place room (leaf v box p) r ∙ ap code (leaf_kind limit v box p 0))
   leaf_below v box p r (suc i) e = none_inner e
 
-  list_subtree : (g : List (Tree ℕ)) → EachTree (Reread ws ds n limit) g → (i : ℕ) → (get_or (map label_of g) i 0xffff_ffff ≡ 0xffff_ffff → ⊥)
-      → Subtree ws n most_edges (get_or (map label_of g) i 0xffff_ffff)
+  list_subtree : {d : ℕ} (g : List (Tree ℕ)) → EachTree (Reread ws ds n limit d) g → (i : ℕ)
+      → (get_or (map label_of g) i 0xffff_ffff ≡ 0xffff_ffff → ⊥) → Subtree ws n d (get_or (map label_of g) i 0xffff_ffff)
   unfolding EachTree
   list_subtree [] h i z = absurd (z refl)
   list_subtree (t ∷ g) h zero z = h.0.subtree
@@ -152,12 +153,15 @@ module _ (root : Branch) (n : ℕ) (ordered : Bool) (h : EmitNode root n) where
       slot_put (inner_child b u ∷ cs) zero s = refl
       slot_put (c ∷ cs) (suc i) s = slot_put cs i s
 
-  pub slot_subtree : (k : ℕ) → k < 8 → (get_or (slot_words ordered h.limit (subtree_of root)) k 0 ≡ 0xffff_ffff → ⊥)
-      → Subtree (words_of root) n most_edges (get_or (slot_words ordered h.limit (subtree_of root)) k 0)
-  slot_subtree k l z =
+  -- the node that a slot's word names reads whole with as many edges as the root
+  pub slot_subtree : {d : ℕ} → Subtree (words_of root) n d root.node → (k : ℕ) → k < 8
+      → (get_or (slot_words ordered h.limit (subtree_of root)) k 0 ≡ 0xffff_ffff → ⊥)
+      → Subtree (words_of root) n d (get_or (slot_words ordered h.limit (subtree_of root)) k 0)
+  slot_subtree {d} s k l z =
       let e = word_at k l in
+      let q = tree_most s in
       rw e (list_subtree (words_of root) (decisions_of root) n h.limit (placing ordered) h.room (gather h.limit (subtree_of root) 0)
-      (gather_here (words_of root) (decisions_of root) n h.limit root.node h.tree h.holds 0) (child k) (λ q. z (e ∙ q)))
+      (rw q (gather_here (words_of root) (decisions_of root) n h.limit d root.node s (rw q at h.holds) 0)) (child k) (λ q. z (e ∙ q)))
 
   -- a word that stands for a node
   pub slot_below : (k : ℕ) → k < 8 → is_inner (decisions_of root) (get_or (slot_words ordered h.limit (subtree_of root)) k 0) ≡ true
@@ -166,8 +170,8 @@ module _ (root : Branch) (n : ℕ) (ordered : Bool) (h : EmitNode root n) where
   unfolding child EachTree
   slot_below k l e = go (subtree_of root) refl
     where
-      each : EachTree (Reread (words_of root) (decisions_of root) n h.limit) (gather h.limit (subtree_of root) 0)
-      each = gather_here (words_of root) (decisions_of root) n h.limit root.node h.tree h.holds 0
+      each : EachTree (Reread (words_of root) (decisions_of root) n h.limit most_edges) (gather h.limit (subtree_of root) 0)
+      each = gather_here (words_of root) (decisions_of root) n h.limit most_edges root.node h.tree h.holds 0
 
       go : (u : Tree ℕ) → subtree_of root ≡ u
           → Below (words_of root) (decisions_of root) n h.limit (depth (subtree_of root)) (placing ordered) (get_or (slot_words ordered h.limit
@@ -175,7 +179,7 @@ module _ (root : Branch) (n : ℕ) (ordered : Bool) (h : EmitNode root n) where
       go (leaf x box p) q =
           let g : gather h.limit (subtree_of root) 0
           ≡ leaf x box p ∷ [] = ap (λ (u : Tree ℕ). gather h.limit u 0) q ∙ one_child h.limit x box p 0 in
-          let r : EachTree (Reread (words_of root) (decisions_of root) n h.limit) (leaf x box p ∷ []) = rw g at each in
+          let r : EachTree (Reread (words_of root) (decisions_of root) n h.limit most_edges) (leaf x box p ∷ []) = rw g at each in
           absurd (leaf_below (words_of root) (decisions_of root) n h.limit (placing ordered) h.room x box p r.0 (child k)
           (subst (λ (xs : List (Tree ℕ)). is_inner (decisions_of root) (get_or (map label_of xs) (child k) 0xffff_ffff) ≡ true) g
           (subst (λ (y : ℕ). is_inner (decisions_of root) y ≡ true) (word_at k l) e)))

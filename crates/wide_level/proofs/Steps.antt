@@ -65,7 +65,7 @@ joined {b} {f = f} {l} {r} {i} {x} {y} u q c d m g n k limit z = ∥∥₁_elim 
     let ws = words_of b in
     let T = subtree_at ws f in
     let U = subtree_at ws (f + 1) in
-    let p = fork ws h.n b.node f h.tree (sym q) in
+    let p = fork ws h.n most_edges b.node f h.tree (sym q) in
     let s = says h limit z i u in
     let w = rows_below limit (decisions_of b) (subtree_of b) b.node (box_at ws b.node) T U p.tree z in
     ap₂ (λ (m n : ℕ). max m n) (of_branch m (Adds l x) g limit w.0 ∙ ap (added limit T) (c ∙ s.left))

@@ -4,7 +4,7 @@ use Prim.Native.Nat.{ℕ, ◌<◌}
 use native.Mathlib.Omega.{arith}
 use Rattle.bvh2.specs.Tree.{depth}
 use Rattle.children.specs.Branches.{subtree_of}
-use Rattle.children.proofs.Branches.{few_edges, left_shallower, right_shallower}
+use Rattle.children.proofs.Branches.{edges_most, left_shallower, right_shallower}
 use Rattle.wide_level.proofs.Steps.{Own, own_inner, own_opened, joined, has_children, as_leaf_lem, as_own}
 use Rattle.wide_level.proofs.+added_levels.Goals as goal
 use Rattle.wide_level.proofs.+added_levels.Goals.{After-link, After-max-below, in-Internal, in-Distribute}
@@ -47,7 +47,7 @@ less t c =
 pub overflow_add-result : goal.overflow_add-result
 overflow_add-result t c =
     let p = goal.at.overflow_add-result t c in
-    omega (arith, less t p.After-max-below, few_edges c.args.branch, (own t p.After-link).few)
+    omega (arith, less t p.After-max-below, edges_most c.args.branch, (own t p.After-link).few)
 
 pub returns-clause-upper_bound : goal.returns-clause-upper_bound
 returns-clause-upper_bound t c =
