@@ -1,5 +1,5 @@
 -- The four ways in which a conversion ends, and the outcome of each.
-use mathlib.Core.Path.{◌≡◌, refl, sym, ap, ap₂, ◌∙◌}
+use mathlib.Core.Path.{◌≡◌, refl, sym, ap, ap₂, subst, ◌∙◌}
 use mathlib.Core.Bool.{Bool}
 use mathlib.Core.List.{List, [], ◌∷◌}
 use Prim.Native.Nat.{ℕ, zero, suc, ◌^◌, ◌≤◌, ◌<◌}
@@ -15,19 +15,21 @@ use Rattle.lists.proofs.Splice.{splice_none}
 use Rattle.causes.specs.Causes.{Condition, ◌unless◌, first_cause}
 use Rattle.causes.proofs.Causes.{first_here, passed_none, append_first, append_later}
 use Rattle.bvh2.specs.Tree.{Tree}
+use Rattle.bvh2.specs.Words.{tree_of}
 use Rattle.bvh2.specs.Decoded.{Decoded}
 use Rattle.bvh2.proofs.Decoded.{accepted_decoded}
 use Rattle.cost.specs.Table.{word_of, cost_of}
 use Rattle.cost.specs.Rows.{RowsHold}
 use Rattle.children.specs.declared.branch.Branch.{Branch}
 use Rattle.children.specs.Branches.{subtree_of}
-use Rattle.children.specs.Tabled.{subtree_at, Tabled}
+use Rattle.children.specs.Tabled.{most_edges, subtree_at, Tabled}
 use Rattle.children.proofs.Deeper.{tree_most}
 use Rattle.wide_layout.specs.Layout as W
 use Rattle.wide_tree.specs.Ordered.{wide_tree, wide_tree_of}
 use Rattle.record.specs.Record.{record_bytes}
 use Rattle.emit_tree.specs.declared.Next.{Next}
 use Rattle.emit_tree.specs.Emission.{EmitTree, Emitted}
+use Rattle.emit_tree.proofs.WholeTree.{emit_most}
 use Rattle.bvh2_tables.specs.Call.{Call, leaf_count, lengths_of}
 use Rattle.bvh2_tables.specs.Tables.{table_size, prepare_conditions, cleared, work_after}
 use Rattle.bvh2_tables.proofs.Causes.{prepare_passed}
@@ -36,7 +38,7 @@ use Rattle.bvh2_tables.proofs.Refilled.{work_refilled}
 use Rattle.bvh2_to_cwbvh.specs.Conversion.{record_of, nodes_of, level_of, output_positions, index_list_of, deepest_level, Convertible}
 use Rattle.bvh2_to_cwbvh.specs.Conversion.{conversion_conditions, conversion_cause, ConversionAnswer, converted, refused, answer_for, output_after}
 use Rattle.bvh2_to_cwbvh.specs.Conversion.{Outcome, outcome_for, conversion_of}
-use Rattle.bvh2_to_cwbvh.proofs.Ready.{IsRoot, root_read, subtree, subtree_holds, room, tabled, whole}
+use Rattle.bvh2_to_cwbvh.proofs.Ready.{IsRoot, root_read, subtree, holds, room, tabled, whole}
 
 -- ---- the first cause, from the causes up to 7
 module _ (c : Call) where
@@ -140,11 +142,18 @@ module _ {c : Call} {ds₁ : List ℕ} {cs₁ : List Float} (p : Prepares c 0 ds
     few_leaves = tree.few
 
     -- the level pass and the emission have what they ask
-    pub level_ready : Tabled c.words ds₁ 0
+    pub level_ready : Tabled c.words ds₁ 127 0
     level_ready = tabled c ds₁ some parts p.decisions
 
-    pub emit_ready : (b : Branch) → IsRoot b c.words ds₁ → EmitTree b (leaf_count c) c.ordered (length c.bytes) (length c.list)
+    pub emit_ready : (b : Branch) → IsRoot b c.words ds₁ → EmitTree b (leaf_count c) 127 c.ordered (length c.bytes) (length c.list)
     emit_ready = whole c ds₁ some parts p.decisions
+
+    -- and what the level pass finds is the whole tree's
+    pub level_found : {m : ℕ} → ((limit : ℕ) (ordered : Bool) → RowsHold (word_of limit) 0 ds₁ (subtree_at c.words 0)
+        → m ≡ W.level (wide_tree ordered limit (subtree_at c.words 0)))
+        → (limit : ℕ) (ordered : Bool) → RowsHold (word_of limit) 0 ds₁ (tree_of c.words) → m ≡ W.level (wide_tree_of c.words ordered limit)
+    level_found {m} = subst (λ (t : Tree ℕ). (limit : ℕ) (ordered : Bool) → RowsHold (word_of limit) 0 ds₁ t
+        → m ≡ W.level (wide_tree ordered limit t)) (tree_most (subtree c ds₁ some parts p.decisions))
 
     -- the tables have room to be cleared again
     pub words_room : table_size (leaf_count c) ≤ length ds₁
@@ -155,12 +164,11 @@ module _ {c : Call} {ds₁ : List ℕ} {cs₁ : List Float} (p : Prepares c 0 ds
         let r = parts.costs in
         omega (arith, work_length plus_zero (cost_of c.limit) c.words (leaf_count c) c.costs cs₁ some tree p.costs r, r)
 
-    module _ (deepest : ℕ) (finds : (limit : ℕ) (ordered : Bool) → RowsHold (word_of limit) 0 ds₁ (subtree_at c.words 0)
-        → deepest ≡ W.level (wide_tree ordered limit (subtree_at c.words 0))) where
+    module _ (deepest : ℕ) (finds : (limit : ℕ) (ordered : Bool) → RowsHold (word_of limit) 0 ds₁ (tree_of c.words)
+        → deepest ≡ W.level (wide_tree_of c.words ordered limit)) where
       found : deepest ≡ deepest_level c
       found =
-          finds c.limit c.ordered (subtree_holds c ds₁ some parts p.decisions)
-          ∙ ap (λ (t : Tree ℕ). W.level (wide_tree c.ordered c.limit t)) (tree_most (subtree c ds₁ some parts p.decisions))
+          finds c.limit c.ordered (holds c ds₁ some parts p.decisions)
           ∙ sym (there c.words (leaf_count c) c.limit c.ordered some).level
 
       -- a level over 31: the tables are cleared again
@@ -174,13 +182,13 @@ module _ {c : Call} {ds₁ : List ℕ} {cs₁ : List Float} (p : Prepares c 0 ds
       -- what the emission ends with
       abbrev pub Emits : Branch → List ℕ → List ℕ → Next → Type 0
       Emits b bytes₁ list₁ x =
-          (h : EmitTree b (leaf_count c) c.ordered (length c.bytes) (length c.list))
+          (h : EmitTree b (leaf_count c) most_edges c.ordered (length c.bytes) (length c.list))
           → Emitted c.indices (wide_tree c.ordered h.at.limit (subtree_of b)) c.bytes c.list bytes₁ list₁ x
 
       emits : (b : Branch) → IsRoot b c.words ds₁ → (bytes₁ list₁ : List ℕ) (x : Next) → Emits b bytes₁ list₁ x
           → Emitted c.indices (wide_tree_of c.words c.ordered c.limit) c.bytes c.list bytes₁ list₁ x
-      unfolding whole
-      emits b r bytes₁ list₁ x emitted = rw (root_read c ds₁ some parts p.decisions r) at (emitted (whole c ds₁ some parts p.decisions b r))
+      unfolding whole emit_most
+      emits b r bytes₁ list₁ x emitted = rw (root_read c ds₁ some parts p.decisions r) at (emitted (emit_most (whole c ds₁ some parts p.decisions b r)))
 
       -- converted
       pub written_ends : deepest ≤ 31 → (b : Branch) → IsRoot b c.words ds₁ → (bytes₁ list₁ : List ℕ) (x : Next) → Emits b bytes₁ list₁ x
@@ -197,4 +205,4 @@ module _ {c : Call} {ds₁ : List ℕ} {cs₁ : List Float} (p : Prepares c 0 ds
 
       -- the node count fits a word
       pub nodes_fit : (b : Branch) → IsRoot b c.words ds₁ → (bytes₁ list₁ : List ℕ) (x : Next) → Emits b bytes₁ list₁ x → x.nodes < 2 ^ 32
-      nodes_fit b r bytes₁ list₁ x emitted = rw (emitted (emit_ready b r)).nodes_are (emit_ready b r).few
+      nodes_fit b r bytes₁ list₁ x emitted = let h = emit_most (emit_ready b r) in rw (emitted h).nodes_are h.few

@@ -5,7 +5,7 @@ use mathlib.Core.List.{List}
 use Prim.Native.Nat.{ℕ, ◌*◌, ◌≤◌, ◌<◌}
 use native.Mathlib.Omega.{arith}
 use lib.ListN.{length}
-use Rattle.bvh2.specs.Words.{tree_nodes, tree_of}
+use Rattle.bvh2.specs.Words.{tree_nodes, tree_at, tree_of}
 use Rattle.bvh2.specs.Decoded.{Decoded, Subtree}
 use Rattle.bvh2.proofs.Decoded.{accepted_decoded}
 use Rattle.bvh2.proofs.Subtree.{root}
@@ -15,7 +15,7 @@ use Rattle.children.specs.declared.branch.Branch.{Branch}
 use Rattle.children.specs.declared.branch.Bvh2Slices.{Bvh2Slices}
 use Rattle.children.specs.Branches.{words_of, decisions_of, subtree_of}
 use Rattle.children.specs.Tabled.{most_edges, subtree_at, Tabled}
-use Rattle.children.proofs.Deeper.{tree_most, subtree_most}
+use Rattle.children.proofs.Deeper.{tree_most}
 use Rattle.wide_tree.proofs.Ordered.{index_count_lem, node-count}
 use Rattle.emit_tree.specs.Emission.{EmitTree}
 use Rattle.bvh2_tables.specs.Call.{Call, leaf_count}
@@ -30,7 +30,7 @@ pub record IsRoot (b : Branch) (ws ds : List ℕ) : Type 0 where
   pub decisions : decisions_of b ≡ ds
   pub node : b.node ≡ 0
 
-pub is_root : {t : Bor Bvh2Slices} {h : ∥ Tabled t.now.words.now t.now.decisions.now 0 ∥₁}
+pub is_root : {t : Bor Bvh2Slices} {h : ∥ Tabled t.now.words.now t.now.decisions.now most_edges 0 ∥₁}
     → IsRoot (record { tree = t; node = 0; tabled = h }) t.now.words.now t.now.decisions.now
 is_root = record { words = refl; decisions = refl; node = refl }
 
@@ -40,8 +40,12 @@ of_root {b} {ds = ds} r P x =
     subst (P (words_of b) (decisions_of b)) (sym r.node) (subst (λ (d : List ℕ). P (words_of b) d 0) (sym r.decisions)
     (subst (λ (w : List ℕ). P w ds 0) (sym r.words) x))
 
+-- its subtree, read with any number of edges and with the most
+pub root_at : {b : Branch} {ws ds : List ℕ} (d : ℕ) → IsRoot b ws ds → tree_at (words_of b) d b.node ≡ tree_at ws d 0
+root_at d r = λ i. tree_at (r.words i) d (r.node i)
+
 pub root_tree : {b : Branch} {ws ds : List ℕ} {n : ℕ} → Subtree ws n 127 0 → IsRoot b ws ds → subtree_of b ≡ tree_of ws
-root_tree s r = (λ i. subtree_at (r.words i) (r.node i)) ∙ tree_most s
+root_tree s r = root_at most_edges r ∙ tree_most s
 
 module _ (c : Call) (ds₁ : List ℕ) (some : 0 < leaf_count c) (parts : Convertible c)
     (filled : ds₁ ≡ work_after 0 (word_of c.limit) c.words (leaf_count c) 0 c.decisions) where
@@ -58,19 +62,16 @@ module _ (c : Call) (ds₁ : List ℕ) (some : 0 < leaf_count c) (parts : Conver
   pub holds : RowsHold (word_of c.limit) 0 ds₁ (tree_of c.words)
   holds = work_holds 0 (word_of c.limit) c.words (leaf_count c) c.decisions ds₁ some tree filled parts.words 0
 
-  pub subtree_holds : RowsHold (word_of c.limit) 0 ds₁ (subtree_at c.words 0)
-  subtree_holds = rw (tree_most subtree) holds
-
   pub room : tree_nodes (leaf_count c) * 7 ≤ length ds₁
   room =
       omega (arith, work_length 0 (word_of c.limit) c.words (leaf_count c) c.decisions ds₁ some tree filled parts.words, parts.words)
 
   -- the level pass
-  pub tabled : Tabled c.words ds₁ 0
-  tabled = record { n = leaf_count c; tree = subtree_most subtree; room = room; limit = c.limit; holds = subtree_holds }
+  pub tabled : Tabled c.words ds₁ 127 0
+  tabled = record { n = leaf_count c; tree = subtree; room = room; limit = c.limit; holds = holds }
 
   -- the emission
-  unfoldable pub whole : (b : Branch) → IsRoot b c.words ds₁ → EmitTree b (leaf_count c) c.ordered (length c.bytes) (length c.list)
+  unfoldable pub whole : (b : Branch) → IsRoot b c.words ds₁ → EmitTree b (leaf_count c) 127 c.ordered (length c.bytes) (length c.list)
   whole b r =
       let i = index_count_lem c.ordered c.limit c.words (leaf_count c) tree in
       let m = node-count c.ordered c.limit c.words (leaf_count c) tree parts.small in
@@ -79,14 +80,14 @@ module _ (c : Call) (ds₁ : List ℕ) (some : 0 < leaf_count c) (parts : Conver
       let s = size_some (leaf_count c) some in
       record {
         at = record {
-          tree = of_root r (λ ws ds v. Subtree ws (leaf_count c) most_edges v) (subtree_most subtree);
+          tree = of_root r (λ ws ds v. Subtree ws (leaf_count c) 127 v) subtree;
           room = of_root r (λ ws ds v. tree_nodes (leaf_count c) * 7 ≤ length ds) room;
           limit = c.limit;
           small = parts.small;
-          holds = of_root r (λ ws ds v. RowsHold (word_of c.limit) 0 ds (subtree_at ws v)) subtree_holds;
+          holds = of_root r (λ ws ds v. RowsHold (word_of c.limit) 0 ds (tree_at ws 127 v)) holds;
         };
-        record_room = rw (root_read r) (omega arith);
-        list_room = rw (root_read r) (omega (arith, parts.list));
-        few = rw (root_read r) (omega arith);
-        short = rw (root_read r) (omega arith);
+        record_room = rw (root_at 127 r) (omega arith);
+        list_room = rw (root_at 127 r) (omega (arith, parts.list));
+        few = rw (root_at 127 r) (omega arith);
+        short = rw (root_at 127 r) (omega arith);
       }

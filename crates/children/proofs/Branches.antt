@@ -9,7 +9,7 @@ use lib.ListN.{length, get_or}
 use Rattle.std.proofs.Props.{props}
 use Rattle.aabb.specs.Aabb.{accepted_box}
 use Rattle.bvh2.specs.Tree.{Tree, depth}
-use Rattle.bvh2.specs.Words.{children, malformed, link_at, box_at}
+use Rattle.bvh2.specs.Words.{children, malformed, link_at, box_at, tree_at}
 use Rattle.bvh2.specs.Decoded.{Subtree}
 use Rattle.bvh2.proofs.Reading.{depth_most}
 use Rattle.bvh2.proofs.Subtree.{node, formed}
@@ -55,8 +55,8 @@ few_splits b i u = ∥∥₁_elim b.tabled (hlevel props) (λ h. let s = says h 
 -- ---- an inner node
 pub record Inside (b : Branch) (f : ℕ) : Type 0 where
   pub second : f + 1 < 2 ^ 32
-  pub left : ∥ Tabled (words_of b) (decisions_of b) f ∥₁
-  pub right : ∥ Tabled (words_of b) (decisions_of b) (f + 1) ∥₁
+  pub left : ∥ Tabled (words_of b) (decisions_of b) most_edges f ∥₁
+  pub right : ∥ Tabled (words_of b) (decisions_of b) most_edges (f + 1) ∥₁
 
 pub inside : (b : Branch) {f : ℕ} → children f ≡ link_at (words_of b) b.node → Inside b f
 inside b {f} q = ∥∥₁_elim b.tabled (hlevel props) (λ h.
@@ -100,7 +100,7 @@ pub right_shallower : {b c : Branch} {f : ℕ} → children f ≡ link_at (words
 right_shallower {b} {f = f} q h = ∥∥₁_elim b.tabled (hlevel props)
     (λ k. omega (arith, (fork (words_of b) k.n most_edges b.node f k.tree (sym q)).right_shallower, ap depth (branch_tree h)))
 
-pub branch_room : {b c : Branch} {v i count : ℕ} → BranchAt b v c → Opens (words_of b) (decisions_of b) v i count
+pub branch_room : {b c : Branch} {v i count : ℕ} → BranchAt b v c → Opens (words_of b) (decisions_of b) most_edges v i count
     → Room c count (λ limit. part limit (subtree_of c) i)
 branch_room {i = i} {count = count} h o =
     let l = o.tabled.limit in
@@ -111,11 +111,11 @@ branch_room {i = i} {count = count} h o =
     }
 
 -- ---- a branch with room
-with_limit : {ws ds : List ℕ} {v : ℕ} → Tabled ws ds v → (limit : ℕ) → RowsHold (word_of limit) 0 ds (subtree_at ws v) → Tabled ws ds v
+with_limit : {ws ds : List ℕ} {d v : ℕ} → Tabled ws ds d v → (limit : ℕ) → RowsHold (word_of limit) 0 ds (tree_at ws d v) → Tabled ws ds d v
 with_limit h limit k = record { n = h.n; tree = h.tree; room = h.room; limit = limit; holds = k }
 
 pub open_at : (b : Branch) {i count : ℕ} → i ≤ 6 → ∥ Room b count (λ limit. part limit (subtree_of b) i) ∥₁
-    → ∥ Opens (words_of b) (decisions_of b) b.node i count ∥₁
+    → ∥ Opens (words_of b) (decisions_of b) most_edges b.node i count ∥₁
 unfolding with_limit
 open_at b u r = ∥∥₁_elim r ∥∥₁_prop (λ k. ∥∥₁_map b.tabled (λ h. record { tabled = with_limit h k.limit k.decided; entry = u; slots = k.slots }))
 
@@ -125,11 +125,11 @@ pub place_left : (b : Branch) {i count : ℕ} {kind : Told} → i ≤ 6 → ∥ 
 place_left b u r q z = ∥∥₁_elim (open_at b u r) (hlevel props) (λ o. slot_left o q z)
 
 pub divide_at : (b : Branch) {i count : ℕ} → i ≤ 6 → ∥ Room b count (λ limit. gather limit (subtree_of b) i) ∥₁
-    → ∥ Divides (words_of b) (decisions_of b) b.node i count ∥₁
+    → ∥ Divides (words_of b) (decisions_of b) most_edges b.node i count ∥₁
 unfolding with_limit
 divide_at b u r = ∥∥₁_elim r ∥∥₁_prop (λ k. ∥∥₁_map b.tabled (λ h. record { tabled = with_limit h k.limit k.decided; entry = u; slots = k.slots }))
 
-pub room_opened : {b : Branch} {i count : ℕ} → Divides (words_of b) (decisions_of b) b.node i count
+pub room_opened : {b : Branch} {i count : ℕ} → Divides (words_of b) (decisions_of b) most_edges b.node i count
     → Room b count (λ limit. gather limit (subtree_of b) i)
 room_opened o = record { limit = o.tabled.limit; decided = o.tabled.holds; slots = o.slots }
 

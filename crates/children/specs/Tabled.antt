@@ -15,13 +15,13 @@ most_edges = 65535
 abbrev pub subtree_at : List ℕ → ℕ → Tree ℕ
 subtree_at ws v = tree_at ws most_edges v
 
--- below node v the words are an accepted tree's, and ds holds its decision words for some limit
-pub record Tabled (ws ds : List ℕ) (v : ℕ) : Type 0 where
+-- below node v, with e edges left, the words are an accepted tree's, and ds holds its decision words for some limit
+pub record Tabled (ws ds : List ℕ) (e v : ℕ) : Type 0 where
   pub n : ℕ
-  pub tree : Subtree ws n most_edges v
+  pub tree : Subtree ws n e v
   pub room : tree_nodes n * 7 ≤ length ds
   pub limit : ℕ
-  pub holds : RowsHold (word_of limit) 0 ds (subtree_at ws v)
+  pub holds : RowsHold (word_of limit) 0 ds (tree_at ws e v)
 
 -- the numbers of some nodes stand from place `count` on, all other places as before, and r is the count after them
 pub record Gathered (g : List (Tree ℕ)) (count : ℕ) (before after : List ℕ) (r : ℕ) : Type 0 where

@@ -4,7 +4,7 @@ ghost use Rattle.aabb.specs.Aabb.{accepted_box};
 ghost use Rattle.bvh2.specs.Said.{said};
 ghost use Rattle.bvh2.specs.Words.{children, malformed, link_at, box_at};
 ghost use Rattle.cost.specs.Said.{kind_said, kind_in};
-ghost use Rattle.children.specs.Tabled.{Tabled};
+ghost use Rattle.children.specs.Tabled.{most_edges, Tabled};
 
 use aabb::Aabb;
 use bvh2::Link;
@@ -22,7 +22,7 @@ pub struct Bvh2Slices<'a> {
 pub struct Branch<'a> {
     pub tree: &'a Bvh2Slices<'a>,
     pub node: usize,
-    pub ghost tabled: { ∥ Tabled tree.now.words.now tree.now.decisions.now node ∥₁ },
+    pub ghost tabled: { ∥ Tabled tree.now.words.now tree.now.decisions.now most_edges node ∥₁ },
 }
 
 // A branch of a branch is written field by field, since a struct with ghost fields takes no `..base`; left and right are two methods, as a tree has

@@ -24,10 +24,10 @@ use Rattle.wide_layout.specs.Content.{Content, inner_child}
 use Rattle.emit_tree.specs.declared.Next.{Next}
 use Rattle.wide_tree.specs.Ordered.{placing}
 use Rattle.emit_tree.specs.Emission.{wide_slots_at, slot_words, EmitNode, is_inner, EmitRoom, Emits, Written, write_entry, progress_of}
-use Rattle.emit_tree.proofs.Turns.{rest, rest_all, rest_next, standing, slot_below, slot_other, slot_subtree}
+use Rattle.emit_tree.proofs.Turns.{rest, rest_all, rest_next, standing, slot_below, slot_other, slot_most}
 use Rattle.emit_tree.proofs.Rolling.{put, Rolling, child_room, child_done, other_done}
 
-module _ (root : Branch) (indices : List ℕ) (ordered : Bool) (h : EmitNode root (length indices)) (i x : ℕ) (l : i < 8)
+module _ (root : Branch) (indices : List ℕ) (ordered : Bool) (h : EmitNode root (length indices) most_edges) (i x : ℕ) (l : i < 8)
     (q : x ≡ get_or (slot_words ordered h.limit (subtree_of root)) i 0) where
   abbrev Child_of : Type 0
   Child_of = (depth (subtree_at (words_of root) x) < depth (subtree_of root)) × Subtree (words_of root) (length indices) most_edges x
@@ -52,13 +52,13 @@ module _ (root : Branch) (indices : List ℕ) (ordered : Bool) (h : EmitNode roo
   -- its decision can be read
   pub decided : (x ≡ 0xffff_ffff → ⊥) → x * 7 < length (decisions_of root)
   decided z =
-      let s = slot_subtree root (length indices) ordered h h.tree i l (λ y. z (q ∙ y)) in
+      let s = slot_most root (length indices) ordered h i l (λ y. z (q ∙ y)) in
       let n = node s in
       omega (arith, q, n.below, h.room)
 
 -- the branch of node v of the same tree
 abbrev pub TabledAt : Branch → ℕ → Type 0
-TabledAt b v = ∥ Tabled (words_of b) (decisions_of b) v ∥₁
+TabledAt b v = ∥ Tabled (words_of b) (decisions_of b) most_edges v ∥₁
 
 abbrev pub branch_at : (b : Branch) (v : ℕ) → TabledAt b v → Branch
 branch_at b v t = record { tree = b.tree; node = v; tabled = t }
@@ -68,7 +68,7 @@ pub record Child (b : Branch) (v : ℕ) (asked : Branch → Type 0) : Type 0 whe
   pub tabled : TabledAt b v
   pub asks : (t : TabledAt b v) → asked (branch_at b v t)
 
-abbrev goal_of : (root : Branch) (indices : List ℕ) (number : ℕ) (ordered : Bool) → EmitNode root (length indices)
+abbrev goal_of : (root : Branch) (indices : List ℕ) (number : ℕ) (ordered : Bool) → EmitNode root (length indices) most_edges
     → (l : ℕ) (bytes out : List ℕ) (f : Next) (child : ℕ) → State Written
 goal_of root indices number ordered h l bytes out f child = convert (write_entry indices) (wide_slots_at root ordered h.limit) l number 0
     child (progress_of bytes out f)
@@ -76,7 +76,7 @@ goal_of root indices number ordered h l bytes out f child = convert (write_entry
 -- from the loop's begin, marked ₀, with w slots left from slot i on
 pub record Loop (root : Branch) (indices : List ℕ) (number : ℕ) (ordered : Bool) (bytes₀ out₀ : List ℕ) (f₀ : Next) (child₀ : ℕ) (bytes out : List ℕ)
     (f : Next) (child w i : ℕ) : Type 0 where
-  pub rolls : (h : EmitNode root (length indices)) (l : ℕ)
+  pub rolls : (h : EmitNode root (length indices) most_edges) (l : ℕ)
       → EmitRoom (wide_slots_at root ordered h.limit) (length bytes₀) (length out₀) child₀ f₀
       → Rolling indices (rest root (length indices) ordered h i w) l number i
       (goal_of root indices number ordered h l bytes₀ out₀ f₀ child₀) (length bytes₀) (length out₀) bytes out f child
@@ -96,15 +96,15 @@ loop_begun root indices number ordered bytes out f child = record {
 module _ {root : Branch} {indices : List ℕ} {number : ℕ} {ordered : Bool} {bytes₀ out₀ : List ℕ} {f₀ : Next} {child₀ : ℕ} {bytes out : List ℕ}
     {f : Next} {child w i : ℕ}
     (k : Loop root indices number ordered bytes₀ out₀ f₀ child₀ bytes out f child (suc w) i) (low : i < 8) {xs : List ℕ}
-    (q : (h : EmitNode root (length indices)) → xs ≡ slot_words ordered h.limit (subtree_of root))
+    (q : (h : EmitNode root (length indices) most_edges) → xs ≡ slot_words ordered h.limit (subtree_of root))
   where
-    word : (h : EmitNode root (length indices)) → get_or xs i 0 ≡ get_or (slot_words ordered h.limit (subtree_of root)) i 0
+    word : (h : EmitNode root (length indices) most_edges) → get_or xs i 0 ≡ get_or (slot_words ordered h.limit (subtree_of root)) i 0
     word h = ap (λ (l : List ℕ). get_or l i 0) (q h)
 
-    pub loop_reads : (h : EmitNode root (length indices)) → (get_or xs i 0 ≡ 0xffff_ffff → ⊥) → get_or xs i 0 * 7 < length (decisions_of root)
+    pub loop_reads : (h : EmitNode root (length indices) most_edges) → (get_or xs i 0 ≡ 0xffff_ffff → ⊥) → get_or xs i 0 * 7 < length (decisions_of root)
     loop_reads h = decided root indices ordered h i (get_or xs i 0) low (word h)
 
-    module _ (h : EmitNode root (length indices)) (l : ℕ)
+    module _ (h : EmitNode root (length indices) most_edges) (l : ℕ)
         (r : EmitRoom (wide_slots_at root ordered h.limit) (length bytes₀) (length out₀) child₀ f₀) where
       at_put : Rolling indices (put (standing root (length indices) ordered h i) (rest root (length indices) ordered h (suc i) w)) l
           number i (goal_of root indices number ordered h l bytes₀ out₀ f₀ child₀) (length bytes₀) (length out₀) bytes out f child
@@ -175,7 +175,7 @@ module _ {root : Branch} {indices : List ℕ} {number : ℕ} {ordered : Bool} {b
 -- no slot left
 pub loop_end : (root : Branch) (indices : List ℕ) (number : ℕ) (ordered : Bool) (bytes₀ out₀ : List ℕ) (f₀ : Next) (child₀ : ℕ) (bytes out : List ℕ)
     (f : Next) (child i : ℕ)
-    → Loop root indices number ordered bytes₀ out₀ f₀ child₀ bytes out f child 0 i → (h : EmitNode root (length indices)) (l : ℕ)
+    → Loop root indices number ordered bytes₀ out₀ f₀ child₀ bytes out f child 0 i → (h : EmitNode root (length indices) most_edges) (l : ℕ)
     → EmitRoom (wide_slots_at root ordered h.limit) (length bytes₀) (length out₀) child₀ f₀
     → progress_of bytes out f ≡ convert (write_entry indices) (wide_slots_at root ordered h.limit) l number 0 child₀ (progress_of bytes₀ out₀ f₀)
 unfolding convert slots_from

@@ -32,7 +32,7 @@ use Rattle.emit_tree.specs.declared.Next.{Next}
 use Rattle.wide_tree.specs.Ordered.{placing}
 use Rattle.emit_tree.specs.Emission.{wide_slots_at, slot_words, EmitRoom, Emits, write_entry, progress_of}
 use Rattle.emit_tree.proofs.Matching.{slots_match}
-use Rattle.emit_tree.proofs.Turns.{slot_subtree}
+use Rattle.emit_tree.proofs.Turns.{slot_most}
 
 -- ---- positions of small leaf children
 small_own : {w : ℕ} (s : Slots w) (k : ℕ) → SmallLeaves s → length (child_positions (content_at s k)) ≤ 3
@@ -77,8 +77,8 @@ module _ (root : Branch) (indices bytes out xs : List ℕ) (i : ℕ) (ordered : 
     pub own_ready : OwnReady (words_of root) (decisions_of root) indices xs (box_at (words_of root) root.node) (length out) x.positions out
     own_ready = record {
       each = λ k l. record {
-        tree = λ z. rw q (slot_subtree root (length indices) ordered h.at h.at.tree k l (rw q at z));
-        decided = λ z. (let n = node (slot_subtree root (length indices) ordered h.at h.at.tree k l (rw q at z)) in rw q
+        tree = λ z. rw q (slot_most root (length indices) ordered h.at k l (rw q at z));
+        decided = λ z. (let n = node (slot_most root (length indices) ordered h.at k l (rw q at z)) in rw q
             (omega (arith, n.below, h.at.room)));
         cell = cell_ready (wide_slots_at root ordered h.at.limit) (length out) x.positions _ k
             (cell_of (words_of root) (decisions_of root) (get_or xs k 0)) small l

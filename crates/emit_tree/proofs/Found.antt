@@ -54,7 +54,7 @@ in_order_placed z (a ∷ b ∷ c ∷ d ∷ e ∷ f ∷ g ∷ []) h = refl
 in_order_placed z (a ∷ b ∷ c ∷ d ∷ e ∷ f ∷ g ∷ i ∷ []) h = refl
 in_order_placed z (a ∷ b ∷ c ∷ d ∷ e ∷ f ∷ g ∷ i ∷ j ∷ xs) h = absurd (omega arith)
 
-module _ {ws ds : List ℕ} {v r : ℕ} {found : List ℕ} (h : Tabled ws ds v)
+module _ {ws ds : List ℕ} {v r : ℕ} {found : List ℕ} (h : Tabled ws ds most_edges v)
     (k : (limit : ℕ) → RowsHold (word_of limit) 0 ds (subtree_at ws v)
     → Gathered (gather limit (subtree_at ws v) 0) 0 (replicate 8 0xffff_ffff) found r)
   where

@@ -8,13 +8,13 @@ use native.Mathlib.Omega.{arith}
 use lib.ListN.{length, get_or}
 use Rattle.aabb.specs.declared.Aabb.{Aabb}
 use Rattle.bvh2.specs.Tree.{Tree, label_of, box_of, positions}
-use Rattle.bvh2.specs.Words.{tree_nodes, box_at}
+use Rattle.bvh2.specs.Words.{tree_nodes, box_at, tree_at}
 use Rattle.bvh2.proofs.Reading.{box_is}
 use Rattle.bvh2.proofs.Subtree.{node}
 use Rattle.cost.specs.Table.{Kind, LEAF, INTERNAL, DISTRIBUTE, code, table, word_of}
 use Rattle.cost.specs.Rows.{RowsHold}
 use Rattle.children.specs.declared.branch.Branch.{Branch}
-use Rattle.children.specs.Tabled.{most_edges, subtree_at}
+use Rattle.children.specs.Tabled.{most_edges}
 use Rattle.children.specs.Branches.{words_of, decisions_of, subtree_of}
 use Rattle.children.specs.Gather.{gather, EachTree}
 use Rattle.children.proofs.Steps.{says}
@@ -35,18 +35,18 @@ use Rattle.emit_tree.specs.Emission.{wide_slots_at, slot_words, EmitNode}
 
 -- ---- a gathered node's word says what it becomes
 module _ (ws ds : List ℕ) (n limit : ℕ) (place : Placing) (room : tree_nodes n * 7 ≤ length ds) where
-  pub kind_says : (t : Tree ℕ) → Reread ws ds n limit most_edges t → get_or ds (label_of t * 7) 0 / 0x4000_0000 ≡ code (table limit t 0).kind
-  kind_says t r =
-      let held : RowsHold (word_of limit) 0 ds (subtree_at ws (label_of t)) = rw r.tree r.holds in
+  pub kind_says : {d : ℕ} (t : Tree ℕ) → Reread ws ds n limit d t → get_or ds (label_of t * 7) 0 / 0x4000_0000 ≡ code (table limit t 0).kind
+  kind_says {d} t r =
+      let held : RowsHold (word_of limit) 0 ds (tree_at ws d (label_of t)) = rw r.tree r.holds in
       ap (λ (x : ℕ). get_or ds x 0 / 0x4000_0000) (sym (add-zero (label_of t * 7)))
-      ∙ (says {ws = ws} {ds = ds} {v = label_of t} (record { n = n; tree = r.subtree; room = room; limit = limit; holds = held }) limit held
+      ∙ (says {ws = ws} {ds = ds} {d = d} {v = label_of t} (record { n = n; tree = r.subtree; room = room; limit = limit; holds = held }) limit held
       0 (omega arith)).kind
       ∙ ap (λ (x : Tree ℕ). code (table limit x 0).kind) r.tree
 
-  pub box_says : (t : Tree ℕ) → Reread ws ds n limit most_edges t → box_at ws (label_of t) ≡ box_of t
-  box_says t r = sym (box_is ws most_edges (label_of t)) ∙ ap box_of r.tree
+  pub box_says : {d : ℕ} (t : Tree ℕ) → Reread ws ds n limit d t → box_at ws (label_of t) ≡ box_of t
+  box_says {d} t r = sym (box_is ws d (label_of t)) ∙ ap box_of r.tree
 
-  pub a_node : (t : Tree ℕ) → Reread ws ds n limit most_edges t → label_of t ≡ 0xffff_ffff → ⊥
+  pub a_node : {d : ℕ} (t : Tree ℕ) → Reread ws ds n limit d t → label_of t ≡ 0xffff_ffff → ⊥
   a_node t r e = let k = node r.subtree in omega (arith, k.below, r.subtree.few)
 
   cell_matches : (t : Tree ℕ) → Reread ws ds n limit most_edges t → Matches (cell_of ws ds (label_of t)) (held_as (child_of place limit t))
@@ -80,7 +80,7 @@ pub root_slots_lem : (place : Placing) (limit : ℕ) (t : Tree ℕ) → root_slo
 root_slots_lem place limit t = ap₂ (λ (bs : List Aabb) (cs : List Child). slots_from (place (box_of t) bs) cs 0 8) (children_boxes place limit t 0)
     (children_gathered place limit t 0)
 
-pub slots_match : (root : Branch) (n : ℕ) (ordered : Bool) (h : EmitNode root n) (k : ℕ) → k < 8
+pub slots_match : (root : Branch) (n : ℕ) (ordered : Bool) (h : EmitNode root n most_edges) (k : ℕ) → k < 8
     → Matches (cell_of (words_of root) (decisions_of root) (get_or (slot_words ordered h.limit (subtree_of root)) k 0)) (content_at
     (wide_slots_at root ordered h.limit) k)
 unfolding slot_words placed

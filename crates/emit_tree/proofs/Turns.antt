@@ -118,7 +118,7 @@ module _ (ws ds : List ℕ) (n limit : ℕ) (place : Placing) (room : tree_nodes
   list_subtree (t ∷ g) h zero z = h.0.subtree
   list_subtree (t ∷ g) h (suc i) z = list_subtree g h.1 i z
 
-module _ (root : Branch) (n : ℕ) (ordered : Bool) (h : EmitNode root n) where
+module _ (root : Branch) (n : ℕ) (ordered : Bool) (h : EmitNode root n most_edges) where
   child : ℕ → ℕ
   child k = A.child_of (slots_of ordered (box_of (subtree_of root)) (map box_of (gather h.limit (subtree_of root) 0))) k
 
@@ -162,6 +162,11 @@ module _ (root : Branch) (n : ℕ) (ordered : Bool) (h : EmitNode root n) where
       let q = tree_most s in
       rw e (list_subtree (words_of root) (decisions_of root) n h.limit (placing ordered) h.room (gather h.limit (subtree_of root) 0)
       (rw q (gather_here (words_of root) (decisions_of root) n h.limit d root.node s (rw q at h.holds) 0)) (child k) (λ q. z (e ∙ q)))
+
+  -- and with the most
+  pub slot_most : (k : ℕ) → k < 8 → (get_or (slot_words ordered h.limit (subtree_of root)) k 0 ≡ 0xffff_ffff → ⊥)
+      → Subtree (words_of root) n most_edges (get_or (slot_words ordered h.limit (subtree_of root)) k 0)
+  slot_most = slot_subtree h.tree
 
   -- a word that stands for a node
   pub slot_below : (k : ℕ) → k < 8 → is_inner (decisions_of root) (get_or (slot_words ordered h.limit (subtree_of root)) k 0) ≡ true

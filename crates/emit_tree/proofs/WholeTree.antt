@@ -12,6 +12,7 @@ use Rattle.bvh2.proofs.Reading.{box_is}
 use Rattle.children.specs.declared.branch.Branch.{Branch}
 use Rattle.children.specs.Branches.{words_of, subtree_of}
 use Rattle.children.specs.Tabled.{most_edges}
+use Rattle.children.proofs.Deeper.{tree_most, subtree_most}
 use Rattle.wide_layout.specs.Layout.{Entry, layout, index_list}
 use Rattle.wide_layout.specs.Conversion.{State, convert_node, write_all, write_positions}
 use Rattle.wide_layout.proofs.Conversion.{converted}
@@ -40,8 +41,18 @@ unfolding write_entry block
 both indices [] z = (refl, refl)
 both indices (e ∷ es) z = both indices es (write_entry indices e z)
 
+-- what is asked with d edges is so with the most
+unfoldable pub emit_most : {b : Branch} {n d : ℕ} {ordered : Bool} {m l : ℕ} → EmitTree b n d ordered m l → EmitTree b n most_edges ordered m l
+emit_most h = let e = tree_most h.at.tree in record {
+  at = record { tree = subtree_most h.at.tree; room = h.at.room; limit = h.at.limit; small = h.at.small; holds = rw e h.at.holds };
+  record_room = rw e h.record_room;
+  list_room = rw e h.list_room;
+  few = rw e h.few;
+  short = rw e h.short;
+}
+
 -- what the root's emission asks
-pub whole_ready : (root : Branch) (n : ℕ) (ordered : Bool) (m l : ℕ) → EmitTree root n ordered m l
+pub whole_ready : (root : Branch) (n : ℕ) (ordered : Bool) (m l : ℕ) → EmitTree root n most_edges ordered m l
     → Emits root n ordered m l 0 (record { nodes = 1; positions = 0 })
 unfolding wide_of
 whole_ready root n ordered m l h =
@@ -55,7 +66,7 @@ whole_ready root n ordered m l h =
     }
 
 pub whole_done : (root : Branch) (indices : List ℕ) (ordered : Bool) (bytes list bytes₁ list₁ : List ℕ) (x : Next)
-    (h : EmitTree root (length indices) ordered (length bytes) (length list))
+    (h : EmitTree root (length indices) most_edges ordered (length bytes) (length list))
     → ((e : Emits root (length indices) ordered (length bytes) (length list) 0 (record { nodes = 1; positions = 0 })) (l p k : ℕ)
     → progress_of bytes₁ list₁ x ≡ convert_node (write_entry indices) (box_at (words_of root) root.node)
     (wide_slots_at root ordered e.at.limit) l p k 0 (progress_of bytes list (record { nodes = 1; positions = 0 })))

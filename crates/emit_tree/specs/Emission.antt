@@ -3,10 +3,12 @@
 use Rattle.std.specs.Prelude.{◌≡◌, Bool, not, ◌&&◌, List, map, ℕ, ◌+◌, ◌*◌, ◌/◌, ◌^◌, ◌<◌, ◌≤◌, eqb, length, get_or}
 use Rattle.lists.specs.Splice.{splice}
 use Rattle.bvh2.specs.Tree.{Tree, label_of, box_of}
-use Rattle.bvh2.specs.Words.{tree_nodes}
+use Rattle.bvh2.specs.Words.{tree_nodes, tree_at}
 use Rattle.bvh2.specs.Decoded.{Subtree}
+use Rattle.cost.specs.Table.{word_of}
+use Rattle.cost.specs.Rows.{RowsHold}
 use Rattle.children.specs.declared.branch.Branch.{Branch}
-use Rattle.children.specs.Branches.{words_of, decisions_of, subtree_of, DecidedBy}
+use Rattle.children.specs.Branches.{words_of, decisions_of, subtree_of}
 use Rattle.children.specs.Gather.{gather}
 use Rattle.children.specs.Tabled.{most_edges}
 use Rattle.order.specs.Order.{slots_of, placed}
@@ -27,13 +29,13 @@ slot_words ordered limit t =
     let g = gather limit t 0 in
     placed 0xffff_ffff (slots_of ordered (box_of t) (map box_of g)) (map label_of g)
 
--- a branch of an accepted tree of n leaves, with the decision words for a limit of at most 3
-pub record EmitNode (b : Branch) (n : ℕ) : Type 0 where
-  pub tree : Subtree (words_of b) n most_edges b.node
+-- a branch of an accepted tree of n leaves, with d edges left, and the decision words for a limit of at most 3
+pub record EmitNode (b : Branch) (n d : ℕ) : Type 0 where
+  pub tree : Subtree (words_of b) n d b.node
   pub room : tree_nodes n * 7 ≤ length (decisions_of b)
   pub limit : ℕ
   pub small : limit ≤ 3
-  pub holds : DecidedBy limit b
+  pub holds : RowsHold (word_of limit) 0 (decisions_of b) (tree_at (words_of b) d b.node)
 
 -- a slot's word stands for a child that becomes a node
 unfoldable pub is_inner : List ℕ → ℕ → Bool
@@ -76,16 +78,16 @@ pub record NodeRoom (s : Slots 8) (m l i : ℕ) (x : Next) : Type 0 where
 
 -- what emission of a branch's node as node i asks: m bytes and l index words have room
 pub record Emits (b : Branch) (n : ℕ) (ordered : Bool) (m l i : ℕ) (x : Next) : Type 0 where
-  pub at : EmitNode b n
+  pub at : EmitNode b n most_edges
   pub room : NodeRoom (wide_slots_at b ordered at.limit) m l i x
 
--- what emission of a whole tree of n leaves asks
-pub record EmitTree (b : Branch) (n : ℕ) (ordered : Bool) (m l : ℕ) : Type 0 where
-  pub at : EmitNode b n
-  pub record_room : 80 * nodes (wide_tree ordered at.limit (subtree_of b)) ≤ m
-  pub list_room : index_count (wide_tree ordered at.limit (subtree_of b)) ≤ l
-  pub few : nodes (wide_tree ordered at.limit (subtree_of b)) < 2 ^ 32
-  pub short : index_count (wide_tree ordered at.limit (subtree_of b)) < 2 ^ 32
+-- what emission of a whole tree of n leaves, read with d edges, asks
+pub record EmitTree (b : Branch) (n d : ℕ) (ordered : Bool) (m l : ℕ) : Type 0 where
+  pub at : EmitNode b n d
+  pub record_room : 80 * nodes (wide_tree ordered at.limit (tree_at (words_of b) d b.node)) ≤ m
+  pub list_room : index_count (wide_tree ordered at.limit (tree_at (words_of b) d b.node)) ≤ l
+  pub few : nodes (wide_tree ordered at.limit (tree_at (words_of b) d b.node)) < 2 ^ 32
+  pub short : index_count (wide_tree ordered at.limit (tree_at (words_of b) d b.node)) < 2 ^ 32
 
 -- the record and the index list of a wide tree stand before what was there, and x is how many nodes and positions they have
 pub record Emitted (indices : List ℕ) (t : Wide) (bytes list bytes₁ list₁ : List ℕ) (x : Next) : Type 0 where

@@ -3,6 +3,7 @@
 
 ghost use Rattle.std.specs.Prelude.{◌≡◌, ℕ, ◌+◌, ◌*◌, ◌<◌, ◌≤◌, length, map, get_or, take};
 ghost use Rattle.bvh2.specs.Words.{box_at};
+ghost use Rattle.children.specs.Tabled.{most_edges};
 ghost use Rattle.children.specs.Branches.{words_of, subtree_of, DecidedBy};
 ghost use Rattle.order.specs.Lists.{padded};
 ghost use Rattle.wide_layout.specs.Conversion.{convert_node};
@@ -112,8 +113,8 @@ pub fn emit(
     out: &mut [u32],
     ordered: bool,
 ) -> Next
-    requires { EmitTree root (length indices.now) ordered (length bytes.old) (length out.old) }
-    ensures { (h : EmitTree root.entry (length indices.now) ordered (length bytes.old) (length out.old))
+    requires { EmitTree root (length indices.now) most_edges ordered (length bytes.old) (length out.old) }
+    ensures { (h : EmitTree root.entry (length indices.now) most_edges ordered (length bytes.old) (length out.old))
         → Emitted indices.now (wide_tree ordered h.at.limit (subtree_of root.entry)) bytes.old out.old bytes.new out.new result }
 {
     let next = Next {

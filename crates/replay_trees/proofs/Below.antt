@@ -18,7 +18,7 @@ use Rattle.replay_trees.proofs.Accepted.{tables_ready}
 
 -- the whole tree, once its tables are filled
 pub tabled : (ws ds after : List ℕ) (n limit : ℕ) → 0 < n → Accepted ws n → length ws ≤ length ds → after ≡ fill (word_of limit) (tree_at ws 127 0) ds
-    → Tabled ws after 0
+    → Tabled ws after 127 0
 tabled ws ds after n limit pos a l e = rw e (filled-tabled limit ds (tables_ready ws n (length ds) (length ds) pos a l l))
 
 -- a node's number

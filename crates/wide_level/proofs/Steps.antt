@@ -73,7 +73,7 @@ joined {b} {f = f} {l} {r} {i} {x} {y} u q c d m g n k limit z = ∥∥₁_elim 
     ∙ sym (levels_inner limit (subtree_of b) b.node (box_at ws b.node) T U i p.tree))
 
 -- a node whose link is none to children is a leaf child
-childless_leaf : {ws ds : List ℕ} {v : ℕ} {l : Read} → Tabled ws ds v → (i : ℕ) → i ≤ 6 → said l ≡ link_at ws v
+childless_leaf : {ws ds : List ℕ} {v : ℕ} {l : Read} → Tabled ws ds most_edges v → (i : ℕ) → i ≤ 6 → said l ≡ link_at ws v
     → ((f : ℕ) → l ≡ V.Children f → ⊥) → kind_in (get_or ds (v * 7 + i) 0) ≡ LEAF
 childless_leaf {ws} {ds} {v} h i u q k =
     told h h.limit h.holds i u ∙ leaf_said (subtree_at ws v) (box_at ws v) _ (no_children h.tree q k).1.tree
@@ -111,7 +111,7 @@ module _ (b : Branch) {i : ℕ} {kind : Told} (u : i ≤ 6) (read : kind_said ki
       ap (λ (z : ℕ). z + n) (d limit k) ∙ o.adds x ∙ ap (λ (z : Kind). added_as z x) (table_kind b kind u read limit k)
 
 -- ---- the root, opened whatever its decision says
-root_fine : {ws ds : List ℕ} {v : ℕ} → Tabled ws ds v → Fine (subtree_at ws v)
+root_fine : {ws ds : List ℕ} {v : ℕ} → Tabled ws ds most_edges v → Fine (subtree_at ws v)
 root_fine h = record { boxes = h.tree.boxes; few = omega (arith, subtree_leaves h.tree, h.tree.few) }
 
 root_level : (b : Branch) (limit : ℕ) (ordered : Bool) → level (wide_tree ordered limit (subtree_of b)) ≡ levels limit (subtree_of b) 0

@@ -4,11 +4,13 @@ use native.Mathlib.Omega.{arith}
 use Rattle.std.proofs.Common.{rules}
 use Rattle.causes.specs.Refusal.{cause_number}
 use Rattle.causes.proofs.Refusals.{some_number}
+use Rattle.children.proofs.Start.{tabled_most}
+use Rattle.emit_tree.proofs.WholeTree.{emit_most}
 use Rattle.bvh2_tables.specs.Call.{Call, leaf_count}
 use Rattle.bvh2_to_cwbvh.specs.Conversion.{refused}
 use Rattle.bvh2_to_cwbvh.specs.Answer.{conversion_answer}
-use Rattle.bvh2_to_cwbvh.proofs.Endings.{Prepares, ended, early_ends, empty_ends, level_ready, emit_ready, few_leaves, words_room, costs_room}
-use Rattle.bvh2_to_cwbvh.proofs.Endings.{deep_ends, written_ends, nodes_fit}
+use Rattle.bvh2_to_cwbvh.proofs.Endings.{Prepares, ended, early_ends, empty_ends, level_ready, emit_ready, level_found, few_leaves, words_room}
+use Rattle.bvh2_to_cwbvh.proofs.Endings.{costs_room, deep_ends, written_ends, nodes_fit}
 use Rattle.bvh2_to_cwbvh.proofs.Ready.{is_root}
 use Rattle.bvh2_to_cwbvh.proofs.bvh2_to_cwbvh.Goals as goal
 use Rattle.bvh2_to_cwbvh.proofs.bvh2_to_cwbvh.Goals.{In_ok-prepare, Else-empty}
@@ -53,7 +55,7 @@ returns-then-empty c = empty_ends (prepared (goal.at.returns-then-empty c).In_ok
 pub invariant_of-root : goal.invariant_of-root
 invariant_of-root c =
     let p = goal.at.invariant_of-root c in
-    record { tabled = ∣ level_ready (prepared p.In_ok-prepare) (some p.Else-empty) ∣₁ }
+    record { tabled = ∣ tabled_most (level_ready (prepared p.In_ok-prepare) (some p.Else-empty)) ∣₁ }
 
 pub clear_tables-requires : goal.clear_tables-requires
 clear_tables-requires c =
@@ -68,19 +70,23 @@ returns-then-deep c =
     let p = goal.at.returns-then-deep c in
     let r = c.deepest_level-deepest in
     let e = c.clear_tables.ensures in
-    deep_ends (prepared p.In_ok-prepare) (some p.Else-empty) r.result r.ensures _ _ c.if-deep.true e.decisions_after e.costs_after
+    let q = prepared p.In_ok-prepare in
+    let s = some p.Else-empty in
+    deep_ends q s r.result (level_found q s r.ensures) _ _ c.if-deep.true e.decisions_after e.costs_after
 
 pub emit-written-requires : goal.emit-written-requires
 emit-written-requires c =
     let p = goal.at.emit-written-requires c in
-    emit_ready (prepared p.In_ok-prepare) (some p.Else-empty) _ is_root
+    emit_most (emit_ready (prepared p.In_ok-prepare) (some p.Else-empty) _ is_root)
 
 pub overflow_cast-result : goal.overflow_cast-result
 overflow_cast-result c =
     let p = goal.at.overflow_cast-result c in
     let r = c.deepest_level-deepest in
     let o = c.emit-written in
-    omega (arith, nodes_fit (prepared p.In_ok-prepare) (some p.Else-empty) r.result r.ensures _ is_root _ _ o.result o.ensures)
+    let q = prepared p.In_ok-prepare in
+    let s = some p.Else-empty in
+    omega (arith, nodes_fit q s r.result (level_found q s r.ensures) _ is_root _ _ o.result o.ensures)
 
 pub returns : goal.returns
 unfolding conversion_answer
@@ -88,4 +94,6 @@ returns c =
     let p = goal.at.returns c in
     let r = c.deepest_level-deepest in
     let o = c.emit-written in
-    written_ends (prepared p.In_ok-prepare) (some p.Else-empty) r.result r.ensures c.if-deep.false _ is_root o.new.bytes o.new.out o.result o.ensures
+    let q = prepared p.In_ok-prepare in
+    let s = some p.Else-empty in
+    written_ends q s r.result (level_found q s r.ensures) c.if-deep.false _ is_root o.new.bytes o.new.out o.result o.ensures

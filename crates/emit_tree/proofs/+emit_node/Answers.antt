@@ -3,6 +3,7 @@ use mathlib.Core.Bool.{true}
 use Prim.Native.Nat.{ℕ, suc, ◌+◌, ◌-◌, ◌<◌}
 use native.Mathlib.Omega.{arith}
 use lib.ListN.{length, get_or}
+use Rattle.children.specs.Tabled.{most_edges}
 use Rattle.children.specs.Branches.{decisions_of, subtree_of}
 use Rattle.wide_layout.specs.Conversion.{convert}
 use Rattle.emit_tree.specs.Emission.{wide_slots_at, EmitNode, Emits, EmitRoom, is_inner, slot_words, write_entry}
@@ -15,7 +16,7 @@ one_less : (i : ℕ) → i < 8 → 8 - i ≡ suc (8 - (i + 1))
 one_less i h = omega arith
 
 -- the slots' words, for whatever tables the decisions are
-words_are : (t : ℕ) (c : After-slots_of-slots t) → let s = c.args in (h : EmitNode s.branch (length s.indices.now))
+words_are : (t : ℕ) (c : After-slots_of-slots t) → let s = c.args in (h : EmitNode s.branch (length s.indices.now) most_edges)
     → c.slots_of-slots.result ≡ slot_words s.ordered h.limit (subtree_of s.branch)
 words_are t c h = c.slots_of-slots.ensures h.limit h.holds
 
