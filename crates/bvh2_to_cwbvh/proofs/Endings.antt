@@ -188,7 +188,8 @@ module _ {c : Call} {ds₁ : List ℕ} {cs₁ : List Float} (p : Prepares c 0 ds
       emits : (b : Branch) → IsRoot b c.words ds₁ → (bytes₁ list₁ : List ℕ) (x : Next) → Emits b bytes₁ list₁ x
           → Emitted c.indices (wide_tree_of c.words c.ordered c.limit) c.bytes c.list bytes₁ list₁ x
       unfolding whole emit_most
-      emits b r bytes₁ list₁ x emitted = rw (root_read c ds₁ some parts p.decisions r) at (emitted (emit_most (whole c ds₁ some parts p.decisions b r)))
+      emits b r bytes₁ list₁ x emitted =
+          rw (root_read c ds₁ some parts p.decisions r) at (emitted (emit_most (whole c ds₁ some parts p.decisions b r)))
 
       -- converted
       pub written_ends : deepest ≤ 31 → (b : Branch) → IsRoot b c.words ds₁ → (bytes₁ list₁ : List ℕ) (x : Next) → Emits b bytes₁ list₁ x

@@ -14,7 +14,7 @@ use Rattle.cost.specs.Rows.{RowsHold}
 use Rattle.children.specs.declared.branch.Branch.{Branch}
 use Rattle.children.specs.declared.branch.Bvh2Slices.{Bvh2Slices}
 use Rattle.children.specs.Branches.{words_of, decisions_of, subtree_of}
-use Rattle.children.specs.Tabled.{most_edges, subtree_at, Tabled}
+use Rattle.children.specs.Tabled.{most_edges, Tabled}
 use Rattle.children.proofs.Deeper.{tree_most}
 use Rattle.wide_tree.proofs.Ordered.{index_count_lem, node-count}
 use Rattle.emit_tree.specs.Emission.{EmitTree}
@@ -40,10 +40,11 @@ of_root {b} {ds = ds} r P x =
     subst (P (words_of b) (decisions_of b)) (sym r.node) (subst (λ (d : List ℕ). P (words_of b) d 0) (sym r.decisions)
     (subst (λ (w : List ℕ). P w ds 0) (sym r.words) x))
 
--- its subtree, read with any number of edges and with the most
+-- its node reads as the tree's root with any number of edges
 pub root_at : {b : Branch} {ws ds : List ℕ} (d : ℕ) → IsRoot b ws ds → tree_at (words_of b) d b.node ≡ tree_at ws d 0
 root_at d r = λ i. tree_at (r.words i) d (r.node i)
 
+-- its subtree is the whole tree
 pub root_tree : {b : Branch} {ws ds : List ℕ} {n : ℕ} → Subtree ws n 127 0 → IsRoot b ws ds → subtree_of b ≡ tree_of ws
 root_tree s r = root_at most_edges r ∙ tree_most s
 
@@ -55,7 +56,7 @@ module _ (c : Call) (ds₁ : List ℕ) (some : 0 < leaf_count c) (parts : Conver
   pub subtree : Subtree c.words (leaf_count c) 127 0
   subtree = root c.words (leaf_count c) tree
 
-  -- the root's subtree is the whole tree
+  -- which the root of conversion has
   pub root_read : {b : Branch} → IsRoot b c.words ds₁ → subtree_of b ≡ tree_of c.words
   root_read r = root_tree subtree r
 

@@ -7,10 +7,9 @@ use lib.ListN.{length, get_or, set, length-append}
 use Rattle.lists.specs.Splice.{splice}
 use Rattle.lists.proofs.Splice.{splice_next, set-splice}
 use Rattle.bvh2.specs.Tree.{Tree, leaf, inner, leaves, depth, positions}
-use Rattle.bvh2.specs.Words.{tree_nodes, children, position, malformed, link_at}
+use Rattle.bvh2.specs.Words.{tree_nodes, children, position, malformed, link_at, tree_at}
 use Rattle.bvh2.proofs.Subtree.{leaf_link, formed}
 use Rattle.lists.specs.At.{words_at}
-use Rattle.children.specs.Tabled.{most_edges, subtree_at}
 use Rattle.children.proofs.Deeper.{fork}
 use Rattle.emit.specs.Leaves.{LeavesReady, LeavesWritten}
 
@@ -25,21 +24,21 @@ words_length indices [] = refl
 words_length indices (p ∷ ps) = ap suc (words_length indices ps)
 
 -- ---- an inner node
-pub record Down (ws : List ℕ) (n m at v f : ℕ) : Type 0 where
+pub record Down (ws : List ℕ) (n m at d v f : ℕ) : Type 0 where
   pub second : f + 1 < tree_nodes n
   pub few : n ≤ 65536
-  pub left : LeavesReady ws n m at f
-  pub right : LeavesReady ws n m (at + leaves (subtree_at ws f)) (f + 1)
-  pub tree : (b : _) × (subtree_at ws v ≡ inner v b (subtree_at ws f) (subtree_at ws (f + 1)))
-  pub left_shallower : depth (subtree_at ws f) < depth (subtree_at ws v)
-  pub right_shallower : depth (subtree_at ws (f + 1)) < depth (subtree_at ws v)
-  pub both : at + (leaves (subtree_at ws f) + leaves (subtree_at ws (f + 1))) ≤ m
+  pub left : LeavesReady ws n m at d f
+  pub right : LeavesReady ws n m (at + leaves (tree_at ws d f)) d (f + 1)
+  pub tree : (b : _) × (tree_at ws d v ≡ inner v b (tree_at ws d f) (tree_at ws d (f + 1)))
+  pub left_shallower : depth (tree_at ws d f) < depth (tree_at ws d v)
+  pub right_shallower : depth (tree_at ws d (f + 1)) < depth (tree_at ws d v)
+  pub both : at + (leaves (tree_at ws d f) + leaves (tree_at ws d (f + 1))) ≤ m
 
-pub down : {ws : List ℕ} {n m at v f : ℕ} → LeavesReady ws n m at v → children f ≡ link_at ws v → Down ws n m at v f
+pub down : {ws : List ℕ} {n m at d v f : ℕ} → LeavesReady ws n m at d v → children f ≡ link_at ws v → Down ws n m at d v f
 unfolding leaves
-down {ws} {n} {m} {at} {v} {f} h e =
-    let i = fork ws n most_edges v f h.tree (sym e) in
-    let room : at + (leaves (subtree_at ws f) + leaves (subtree_at ws (f + 1))) ≤ m = rw i.tree at h.room in record {
+down {ws} {n} {m} {at} {d} {v} {f} h e =
+    let i = fork ws n d v f h.tree (sym e) in
+    let room : at + (leaves (tree_at ws d f) + leaves (tree_at ws d (f + 1))) ≤ m = rw i.tree at h.room in record {
       second = i.second;
       few = h.tree.few;
       left = record { tree = i.left; room = omega arith };
@@ -50,13 +49,13 @@ down {ws} {n} {m} {at} {v} {f} h e =
       both = room;
     }
 
-pub up : {indices : List ℕ} {ws : List ℕ} {n m at v f : ℕ} → Down ws n m at v f → {a b : ℕ} {o o₁ o₂ : List ℕ} → length o ≡ m
-    → LeavesWritten indices (subtree_at ws f) at a o o₁ → LeavesWritten indices (subtree_at ws (f + 1)) a b o₁ o₂
-    → LeavesWritten indices (subtree_at ws v) at b o o₂
+pub up : {indices : List ℕ} {ws : List ℕ} {n m at d v f : ℕ} → Down ws n m at d v f → {a b : ℕ} {o o₁ o₂ : List ℕ} → length o ≡ m
+    → LeavesWritten indices (tree_at ws d f) at a o o₁ → LeavesWritten indices (tree_at ws d (f + 1)) a b o₁ o₂
+    → LeavesWritten indices (tree_at ws d v) at b o o₂
 unfolding leaves positions
-up {indices} {ws} {n} {m} {at} {v} {f} h {a} {b} {o} {o₁} {o₂} z x y =
-    let L = subtree_at ws f in
-    let R = subtree_at ws (f + 1) in
+up {indices} {ws} {n} {m} {at} {d} {v} {f} h {a} {b} {o} {o₁} {o₂} z x y =
+    let L = tree_at ws d f in
+    let R = tree_at ws d (f + 1) in
     let p = words_at indices (positions L) in
     let q = words_at indices (positions R) in
     let lp : length p ≡ leaves L = words_length indices (positions L) ∙ positions-length L in
@@ -71,16 +70,16 @@ up {indices} {ws} {n} {m} {at} {v} {f} h {a} {b} {o} {o₁} {o₂} z x y =
     })
 
 -- ---- a leaf
-pub record Last (ws indices : List ℕ) (at v p : ℕ) (o : List ℕ) : Type 0 where
+pub record Last (ws indices : List ℕ) (at d v p : ℕ) (o : List ℕ) : Type 0 where
   pub held : p < length indices
   pub few : length indices ≤ 65536
   pub room : at < length o
-  pub written : LeavesWritten indices (subtree_at ws v) at (at + 1) o (set o at (get_or indices p 0))
+  pub written : LeavesWritten indices (tree_at ws d v) at (at + 1) o (set o at (get_or indices p 0))
 
-pub last : {ws indices : List ℕ} {at v p : ℕ} {o : List ℕ} → LeavesReady ws (length indices) (length o) at v
-    → position p ≡ link_at ws v → Last ws indices at v p o
+pub last : {ws indices : List ℕ} {at d v p : ℕ} {o : List ℕ} → LeavesReady ws (length indices) (length o) at d v
+    → position p ≡ link_at ws v → Last ws indices at d v p o
 unfolding leaves positions
-last {ws} {indices} {at} {v} {p} {o} h e =
+last {ws} {indices} {at} {d} {v} {p} {o} h e =
     let i = leaf_link h.tree (sym e) in
     let room : at + 1 ≤ length o = rw i.tree at h.room in
     let r : at < length o = omega arith in record {
@@ -91,5 +90,5 @@ last {ws} {indices} {at} {v} {p} {o} h e =
     }
 
 -- ---- no link is malformed
-pub formed_link : {ws : List ℕ} {n m at v : ℕ} → LeavesReady ws n m at v → malformed ≡ link_at ws v → ⊥
-formed_link {ws} {v = v} h e = formed ws most_edges v (sym e) h.tree.whole
+pub formed_link : {ws : List ℕ} {n m at d v : ℕ} → LeavesReady ws n m at d v → malformed ≡ link_at ws v → ⊥
+formed_link {ws} {d = d} {v = v} h e = formed ws d v (sym e) h.tree.whole

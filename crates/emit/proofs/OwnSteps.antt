@@ -16,8 +16,7 @@ use lib.ListN.{get_or}
 use borrow.Author.Tests.{eq-eqb, ne_eqb}
 use Rattle.lists.specs.Splice.{splice}
 use Rattle.bvh2.specs.Tree.{Tree, leaves, positions}
-use Rattle.bvh2.specs.Words.{box_at}
-use Rattle.children.specs.Tabled.{subtree_at}
+use Rattle.bvh2.specs.Words.{box_at, tree_at}
 use Rattle.lists.specs.At.{words_at}
 use Rattle.record.specs.Record.{leaf_meta, grid_box}
 use Rattle.node.specs.declared.Slot.{Slot}
@@ -29,33 +28,33 @@ use Rattle.emit.specs.Leaves.{LeavesReady}
 use Rattle.emit.specs.Own.{Cell, none, as_leaf, as_node, cell_by, cell_of, CellReady, SlotReady, Own, OwnState, made, held_in, leaf_words_in}
 use Rattle.emit.specs.Own.{with_held, with_child, first_slots, node_built}
 
-pub cell_none : (ws decisions : List ℕ) (v : ℕ) → v ≡ 0xffff_ffff → cell_of ws decisions v ≡ none
+pub cell_none : (ws decisions : List ℕ) (depth v : ℕ) → v ≡ 0xffff_ffff → cell_of ws decisions depth v ≡ none
 unfolding cell_of
-cell_none ws decisions v e =
-    ap (λ (b : Bool). cell_by b (get_or decisions (v * 7) 0 / 0x4000_0000) (box_at ws v) (subtree_at ws v)) (eq-eqb v 0xffff_ffff e)
+cell_none ws decisions depth v e =
+    ap (λ (b : Bool). cell_by b (get_or decisions (v * 7) 0 / 0x4000_0000) (box_at ws v) (tree_at ws depth v)) (eq-eqb v 0xffff_ffff e)
 
-module _ (ws decisions : List ℕ) (v : ℕ) (child : v ≡ 0xffff_ffff → ⊥) where
-  is_child : (k : ℕ) → get_or decisions (v * 7) 0 / 0x4000_0000 ≡ k → cell_of ws decisions v
-      ≡ cell_by false k (box_at ws v) (subtree_at ws v)
+module _ (ws decisions : List ℕ) (depth v : ℕ) (child : v ≡ 0xffff_ffff → ⊥) where
+  is_child : (k : ℕ) → get_or decisions (v * 7) 0 / 0x4000_0000 ≡ k → cell_of ws decisions depth v
+      ≡ cell_by false k (box_at ws v) (tree_at ws depth v)
   unfolding cell_of
-  is_child k e = ap₂ (λ (b : Bool) (x : ℕ). cell_by b x (box_at ws v) (subtree_at ws v)) (ne_eqb v 0xffff_ffff child) e
+  is_child k e = ap₂ (λ (b : Bool) (x : ℕ). cell_by b x (box_at ws v) (tree_at ws depth v)) (ne_eqb v 0xffff_ffff child) e
 
-  pub cell_leaf : get_or decisions (v * 7) 0 / 0x4000_0000 ≡ 0 → cell_of ws decisions v ≡ as_leaf (box_at ws v) (subtree_at ws v)
+  pub cell_leaf : get_or decisions (v * 7) 0 / 0x4000_0000 ≡ 0 → cell_of ws decisions depth v ≡ as_leaf (box_at ws v) (tree_at ws depth v)
   cell_leaf e = is_child 0 e
 
-  pub cell_node : (get_or decisions (v * 7) 0 / 0x4000_0000 ≡ 0 → ⊥) → cell_of ws decisions v ≡ as_node (box_at ws v)
+  pub cell_node : (get_or decisions (v * 7) 0 / 0x4000_0000 ≡ 0 → ⊥) → cell_of ws decisions depth v ≡ as_node (box_at ws v)
   cell_node h = go (get_or decisions (v * 7) 0 / 0x4000_0000) refl
     where
-      go : (k : ℕ) → get_or decisions (v * 7) 0 / 0x4000_0000 ≡ k → cell_of ws decisions v ≡ as_node (box_at ws v)
+      go : (k : ℕ) → get_or decisions (v * 7) 0 / 0x4000_0000 ≡ k → cell_of ws decisions depth v ≡ as_node (box_at ws v)
       go zero e = absurd (h e)
       go (suc k) e = is_child (suc k) e
 
   -- what writing a leaf child's words asks
-  pub leaf_ready : (n m start at : ℕ) → SlotReady ws decisions n m v start at → get_or decisions (v * 7) 0 / 0x4000_0000 ≡ 0
-      → LeavesReady ws n m at v × CellReady m start at (as_leaf (box_at ws v) (subtree_at ws v))
+  pub leaf_ready : (n m start at : ℕ) → SlotReady ws decisions n m depth v start at → get_or decisions (v * 7) 0 / 0x4000_0000 ≡ 0
+      → LeavesReady ws n m at depth v × CellReady m start at (as_leaf (box_at ws v) (tree_at ws depth v))
   unfolding CellReady
   leaf_ready n m start at r e =
-      let k : CellReady m start at (as_leaf (box_at ws v) (subtree_at ws v)) = rw (cell_leaf e) at r.cell in
+      let k : CellReady m start at (as_leaf (box_at ws v) (tree_at ws depth v)) = rw (cell_leaf e) at r.cell in
       (record { tree = r.tree child; room = k.0 }, k)
 
 -- ---- what the slot of a leaf child holds

@@ -2,14 +2,14 @@
 use Rattle.std.specs.Prelude.{◌≡◌, List, ℕ, ◌+◌, ◌≤◌}
 use Rattle.lists.specs.Splice.{splice}
 use Rattle.bvh2.specs.Tree.{Tree, leaves, positions}
+use Rattle.bvh2.specs.Words.{tree_at}
 use Rattle.bvh2.specs.Decoded.{Subtree}
-use Rattle.children.specs.Tabled.{most_edges, subtree_at}
 use Rattle.lists.specs.At.{words_at}
 
 -- the words are an accepted tree's of n leaves, and a list of m words has room for the leaves of node v from `at` on
-pub record LeavesReady (ws : List ℕ) (n m at v : ℕ) : Type 0 where
-  pub tree : Subtree ws n most_edges v
-  pub room : at + leaves (subtree_at ws v) ≤ m
+pub record LeavesReady (ws : List ℕ) (n m at depth v : ℕ) : Type 0 where
+  pub tree : Subtree ws n depth v
+  pub room : at + leaves (tree_at ws depth v) ≤ m
 
 -- the index words of a tree's leaves stand from `at` on, and r is the place behind them
 pub record LeavesWritten (indices : List ℕ) (t : Tree ℕ) (at r : ℕ) (before after : List ℕ) : Type 0 where

@@ -7,9 +7,8 @@ use Rattle.lists.specs.Splice.{splice}
 use Rattle.aabb.specs.declared.Aabb.{Aabb}
 use Rattle.quantization.specs.Exponent.{exponent_of}
 use Rattle.bvh2.specs.Tree.{Tree, leaves, positions}
-use Rattle.bvh2.specs.Words.{box_at}
+use Rattle.bvh2.specs.Words.{box_at, tree_at}
 use Rattle.bvh2.specs.Decoded.{Subtree}
-use Rattle.children.specs.Tabled.{most_edges, subtree_at}
 use Rattle.node.specs.Node.{no_slot}
 use Rattle.record.specs.Record.{leaf_meta, inner_meta, grid_box}
 use Rattle.node.specs.declared.Slot.{Slot}
@@ -33,9 +32,9 @@ cell_by true kind b t = none
 cell_by false zero b t = as_leaf b t
 cell_by false (suc kind) b t = as_node b
 
--- the child is node v, of which entry 0's kind decides
-unfoldable pub cell_of : List ℕ → List ℕ → ℕ → Cell
-cell_of ws decisions v = cell_by (eqb v 0xffff_ffff) (get_or decisions (v * 7) 0 / 0x4000_0000) (box_at ws v) (subtree_at ws v)
+-- the child is node v, of which entry 0's kind decides; its subtree has at most `depth` edges below it
+unfoldable pub cell_of : List ℕ → List ℕ → ℕ → ℕ → Cell
+cell_of ws decisions depth v = cell_by (eqb v 0xffff_ffff) (get_or decisions (v * 7) 0 / 0x4000_0000) (box_at ws v) (tree_at ws depth v)
 
 -- what slot i of a node of box b holds, whose own positions start at `start` and are written up to `at`
 unfoldable pub held_in : Aabb → (start i at : ℕ) → Cell → Held
@@ -96,19 +95,19 @@ CellReady m start at none = Unit {0}
 CellReady m start at (as_leaf c t) = (at + leaves t ≤ m) × (start ≤ at) × (at - start ≤ 21) × (1 ≤ leaves t) × (leaves t ≤ 3)
 CellReady m start at (as_node c) = Unit {0}
 
-pub record SlotReady (ws decisions : List ℕ) (n m v start at : ℕ) : Type 0 where
-  pub tree : (v ≡ 0xffff_ffff → ⊥) → Subtree ws n most_edges v
+pub record SlotReady (ws decisions : List ℕ) (n m depth v start at : ℕ) : Type 0 where
+  pub tree : (v ≡ 0xffff_ffff → ⊥) → Subtree ws n depth v
   pub decided : (v ≡ 0xffff_ffff → ⊥) → v * 7 < length decisions
-  pub cell : CellReady m start at (cell_of ws decisions v)
+  pub cell : CellReady m start at (cell_of ws decisions depth v)
 
-pub record OwnReady (ws decisions indices slots : List ℕ) (b : Aabb) (m start : ℕ) (list : List ℕ) : Type 0 where
-  pub each : (k : ℕ) → k < 8 → SlotReady ws decisions (length indices) m (get_or slots k 0) start
-      (first_slots indices b start (λ j. cell_of ws decisions (get_or slots j 0)) k list).own.at
+pub record OwnReady (ws decisions indices slots : List ℕ) (b : Aabb) (m depth start : ℕ) (list : List ℕ) : Type 0 where
+  pub each : (k : ℕ) → k < 8 → SlotReady ws decisions (length indices) m depth (get_or slots k 0) start
+      (first_slots indices b start (λ j. cell_of ws decisions depth (get_or slots j 0)) k list).own.at
 
 -- all eight slots of binary node v
-abbrev pub all_slots : (ws decisions indices slots : List ℕ) → (v start : ℕ) → List ℕ → OwnState
-all_slots ws decisions indices slots v start list =
-    first_slots indices (box_at ws v) start (λ j. cell_of ws decisions (get_or slots j 0)) 8 list
+abbrev pub all_slots : (ws decisions indices slots : List ℕ) → (v start depth : ℕ) → List ℕ → OwnState
+all_slots ws decisions indices slots v start depth list =
+    first_slots indices (box_at ws v) start (λ j. cell_of ws decisions depth (get_or slots j 0)) 8 list
 
 -- the node of those slots: p is the box's lower corner, bit for bit
 abbrev pub node_built : List ℕ → (v count start : ℕ) → Own → Node

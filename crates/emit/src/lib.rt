@@ -7,7 +7,7 @@ ghost use Rattle.bvh2.specs.Words.{box_at};
 ghost use Rattle.record.specs.Record.{leaf_meta};
 ghost use Rattle.emit.specs.Leaves.{LeavesReady, LeavesWritten};
 ghost use Rattle.emit.specs.Grid.{grid_of, box_on};
-ghost use Rattle.children.specs.Tabled.{subtree_at};
+ghost use Rattle.children.specs.Tabled.{most_edges, subtree_at};
 ghost use Rattle.emit.specs.Own.{SlotReady, OwnReady, held_in, leaf_words_in, all_slots, BuiltAs, cell_of};
 
 use aabb::Aabb;
@@ -20,7 +20,7 @@ use ray::Vec3;
 // Writes the index words of the leaves below node v, left to right, from a place on; the place behind them. A struct of both would
 // hold a `&mut`, and each contract would say that it is still the same. And no Branch: leaves below a leaf child are found without decision words.
 pub fn write_leaves(words: &[u32], indices: &[u32], out: &mut [u32], v: usize, at: usize) -> usize
-    requires { LeavesReady words.now (length indices.now) (length out.old) at v }
+    requires { LeavesReady words.now (length indices.now) (length out.old) at most_edges v }
     ensures { LeavesWritten indices.now (subtree_at words.now v) at result out.old out.new }
 {
     match bvh2::node_link(words, v) {
@@ -123,10 +123,10 @@ fn own_slot(
     grid: Grid,
     at: usize,
 ) -> Held
-    requires { (i < 8) × SlotReady tree.now.words.now tree.now.decisions.now (length indices.now) (length out.old) v start at }
+    requires { (i < 8) × SlotReady tree.now.words.now tree.now.decisions.now (length indices.now) (length out.old) most_edges v start at }
     ensures value { (b : Aabb) → grid ≡ grid_of b
-        → result ≡ held_in b start i at (cell_of tree.now.words.now tree.now.decisions.now v) }
-    ensures out_after { out.new ≡ leaf_words_in indices.now at (cell_of tree.now.words.now tree.now.decisions.now v)
+        → result ≡ held_in b start i at (cell_of tree.now.words.now tree.now.decisions.now most_edges v) }
+    ensures out_after { out.new ≡ leaf_words_in indices.now at (cell_of tree.now.words.now tree.now.decisions.now most_edges v)
         out.old }
 {
     // all ones: no child, since each of the eight slots has a word
@@ -182,9 +182,10 @@ pub fn build_node(
     start: usize,
 ) -> Built
     requires { (v * 7 + 6 < length tree.now.words.now) × (accepted_box (box_at tree.now.words.now v) ≡ true) × (count < 2 ^ 32) × (start < 2 ^ 32)
-        × OwnReady tree.now.words.now tree.now.decisions.now indices.now slots.now (box_at tree.now.words.now v) (length out.old) start out.old }
+        × OwnReady tree.now.words.now tree.now.decisions.now indices.now slots.now (box_at tree.now.words.now v) (length out.old) most_edges
+        start out.old }
     ensures { BuiltAs tree.now.words.now v count start
-        (all_slots tree.now.words.now tree.now.decisions.now indices.now slots.now v start out.old) result
+        (all_slots tree.now.words.now tree.now.decisions.now indices.now slots.now v start most_edges out.old) result
         out.new }
 {
     let b = bvh2::node_box(tree.words, v);

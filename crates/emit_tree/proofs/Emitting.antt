@@ -101,7 +101,8 @@ module _ {root : Branch} {indices : List ℕ} {number : ℕ} {ordered : Bool} {b
     word : (h : EmitNode root (length indices) most_edges) → get_or xs i 0 ≡ get_or (slot_words ordered h.limit (subtree_of root)) i 0
     word h = ap (λ (l : List ℕ). get_or l i 0) (q h)
 
-    pub loop_reads : (h : EmitNode root (length indices) most_edges) → (get_or xs i 0 ≡ 0xffff_ffff → ⊥) → get_or xs i 0 * 7 < length (decisions_of root)
+    pub loop_reads : (h : EmitNode root (length indices) most_edges) → (get_or xs i 0 ≡ 0xffff_ffff → ⊥)
+        → get_or xs i 0 * 7 < length (decisions_of root)
     loop_reads h = decided root indices ordered h i (get_or xs i 0) low (word h)
 
     module _ (h : EmitNode root (length indices) most_edges) (l : ℕ)

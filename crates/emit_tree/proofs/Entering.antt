@@ -11,6 +11,7 @@ use Rattle.bvh2.specs.Words.{box_at}
 use Rattle.bvh2.proofs.Subtree.{node}
 use Rattle.cost.proofs.Bound.{leaves_pos}
 use Rattle.children.specs.declared.branch.Branch.{Branch}
+use Rattle.children.specs.Tabled.{most_edges}
 use Rattle.children.specs.Branches.{words_of, decisions_of, subtree_of}
 use Rattle.wide_layout.specs.Wide.{Slots, end, empty, leaf, inner}
 use Rattle.wide_layout.specs.Sizes.{inner_children, own_count, own_before, SmallLeaves}
@@ -67,23 +68,23 @@ module _ (root : Branch) (indices bytes out xs : List ℕ) (i : ℕ) (ordered : 
     small : SmallLeaves (wide_slots_at root ordered h.at.limit)
     small = small_leaves (placing ordered) h.at.limit h.at.small (subtree_of root)
 
-    matches : (k : ℕ) → k < 8 → Matches (cell_of (words_of root) (decisions_of root) (get_or xs k 0)) (content_at
+    matches : (k : ℕ) → k < 8 → Matches (cell_of (words_of root) (decisions_of root) most_edges (get_or xs k 0)) (content_at
         (wide_slots_at root ordered h.at.limit) k)
     matches k l = rw q (slots_match root (length indices) ordered h.at k l)
 
     fits : x.positions + own_count (wide_slots_at root ordered h.at.limit) ≤ length out
     fits = omega (arith, h.room.list)
 
-    pub own_ready : OwnReady (words_of root) (decisions_of root) indices xs (box_at (words_of root) root.node) (length out) x.positions out
+    pub own_ready : OwnReady (words_of root) (decisions_of root) indices xs (box_at (words_of root) root.node) (length out) most_edges x.positions out
     own_ready = record {
       each = λ k l. record {
         tree = λ z. rw q (slot_most root (length indices) ordered h.at k l (rw q at z));
         decided = λ z. (let n = node (slot_most root (length indices) ordered h.at k l (rw q at z)) in rw q
             (omega (arith, n.below, h.at.room)));
         cell = cell_ready (wide_slots_at root ordered h.at.limit) (length out) x.positions _ k
-            (cell_of (words_of root) (decisions_of root) (get_or xs k 0)) small l
+            (cell_of (words_of root) (decisions_of root) most_edges (get_or xs k 0)) small l
             (first_upto indices (box_at (words_of root) root.node) x.positions (wide_slots_at root ordered h.at.limit) out fits
-            (λ j. cell_of (words_of root) (decisions_of root) (get_or xs j 0))
+            (λ j. cell_of (words_of root) (decisions_of root) most_edges (get_or xs j 0))
             matches k (omega arith)).at fits (matches k l);
       };
     }
@@ -93,13 +94,13 @@ module _ (root : Branch) (indices bytes out xs : List ℕ) (i : ℕ) (ordered : 
     build_asks = let n = node h.at.tree in (omega (arith, n.room), n.box, omega (arith, h.room.few), omega (arith, h.room.short))
 
     module _ (r : Built) (bytes₁ out₁ : List ℕ) (b : BuiltAs (words_of root) root.node x.nodes x.positions
-        (all_slots (words_of root) (decisions_of root) indices xs root.node x.positions out) r out₁)
+        (all_slots (words_of root) (decisions_of root) indices xs root.node x.positions most_edges out) r out₁)
         (w : bytes₁ ≡ splice bytes (80 * i) (node_bytes r.node))
       where
         entered : Entered indices (box_at (words_of root) root.node) x.positions (wide_slots_at root ordered h.at.limit) out
-            (all_slots (words_of root) (decisions_of root) indices xs root.node x.positions out)
+            (all_slots (words_of root) (decisions_of root) indices xs root.node x.positions most_edges out)
         entered = all_slots_lem indices (box_at (words_of root) root.node) x.positions (wide_slots_at root ordered h.at.limit) out fits
-            (λ j. cell_of (words_of root) (decisions_of root) (get_or xs j 0)) matches
+            (λ j. cell_of (words_of root) (decisions_of root) most_edges (get_or xs j 0)) matches
 
         node_is : (l p k : ℕ) → r.node ≡ node_of (entry (box_at (words_of root) root.node)
             (wide_slots_at root ordered h.at.limit) l p k i x.nodes x.positions)

@@ -49,30 +49,30 @@ module _ (ws ds : List ℕ) (n limit : ℕ) (place : Placing) (room : tree_nodes
   pub a_node : {d : ℕ} (t : Tree ℕ) → Reread ws ds n limit d t → label_of t ≡ 0xffff_ffff → ⊥
   a_node t r e = let k = node r.subtree in omega (arith, k.below, r.subtree.few)
 
-  cell_matches : (t : Tree ℕ) → Reread ws ds n limit most_edges t → Matches (cell_of ws ds (label_of t)) (held_as (child_of place limit t))
+  cell_matches : {d : ℕ} (t : Tree ℕ) → Reread ws ds n limit d t → Matches (cell_of ws ds d (label_of t)) (held_as (child_of place limit t))
   unfolding Matches
-  cell_matches t r = go (table limit t 0).kind (kind_says t r)
+  cell_matches {d} t r = go (table limit t 0).kind (kind_says t r)
     where
       go : (k : Kind) → get_or ds (label_of t * 7) 0 / 0x4000_0000 ≡ code k
-          → Matches (cell_of ws ds (label_of t)) (held_as (child_as place k t (wide_children place limit t 0)))
+          → Matches (cell_of ws ds d (label_of t)) (held_as (child_as place k t (wide_children place limit t 0)))
       go LEAF e =
-          subst (λ (c : Cell). Matches c (C.leaf_child (box_of t) (positions t))) (sym (cell_leaf ws ds (label_of t) (a_node t r) e))
+          subst (λ (c : Cell). Matches c (C.leaf_child (box_of t) (positions t))) (sym (cell_leaf ws ds d (label_of t) (a_node t r) e))
           (ap₂ (λ (b : Aabb) (x : Tree ℕ). C.leaf_child b (positions x)) (sym (box_says t r)) (sym r.tree))
       go INTERNAL e =
           subst (λ (c : Cell). Matches c (held_as (child_as place INTERNAL t (wide_children place limit t 0))))
-          (sym (cell_node ws ds (label_of t) (a_node t r) (λ z. omega (arith, e, z))))
+          (sym (cell_node ws ds d (label_of t) (a_node t r) (λ z. omega (arith, e, z))))
           (root_slots place limit t, ap (λ (b : Aabb). C.inner_child b (root_slots place limit t)) (sym (box_says t r)))
       go DISTRIBUTE e =
           subst (λ (c : Cell). Matches c (held_as (child_as place DISTRIBUTE t (wide_children place limit t 0))))
-          (sym (cell_node ws ds (label_of t) (a_node t r) (λ z. omega (arith, e, z))))
+          (sym (cell_node ws ds d (label_of t) (a_node t r) (λ z. omega (arith, e, z))))
           (root_slots place limit t, ap (λ (b : Aabb). C.inner_child b (root_slots place limit t)) (sym (box_says t r)))
 
-  list_matches : (g : List (Tree ℕ)) → EachTree (Reread ws ds n limit most_edges) g → (i : ℕ)
-      → Matches (cell_of ws ds (get_or (map label_of g) i 0xffff_ffff)) (held_at (map (child_of place limit) g) i)
+  list_matches : (d : ℕ) (g : List (Tree ℕ)) → EachTree (Reread ws ds n limit d) g → (i : ℕ)
+      → Matches (cell_of ws ds d (get_or (map label_of g) i 0xffff_ffff)) (held_at (map (child_of place limit) g) i)
   unfolding EachTree Matches
-  list_matches [] h i = subst (λ (c : Cell). Matches c C.none) (sym (cell_none ws ds 0xffff_ffff refl)) refl
-  list_matches (t ∷ g) h zero = cell_matches t h.0
-  list_matches (t ∷ g) h (suc i) = list_matches g h.1 i
+  list_matches d [] h i = subst (λ (c : Cell). Matches c C.none) (sym (cell_none ws ds d 0xffff_ffff refl)) refl
+  list_matches d (t ∷ g) h zero = cell_matches t h.0
+  list_matches d (t ∷ g) h (suc i) = list_matches d g h.1 i
 
 -- ---- all slots
 pub root_slots_lem : (place : Placing) (limit : ℕ) (t : Tree ℕ) → root_slots place limit t
@@ -81,7 +81,7 @@ root_slots_lem place limit t = ap₂ (λ (bs : List Aabb) (cs : List Child). slo
     (children_gathered place limit t 0)
 
 pub slots_match : (root : Branch) (n : ℕ) (ordered : Bool) (h : EmitNode root n most_edges) (k : ℕ) → k < 8
-    → Matches (cell_of (words_of root) (decisions_of root) (get_or (slot_words ordered h.limit (subtree_of root)) k 0)) (content_at
+    → Matches (cell_of (words_of root) (decisions_of root) most_edges (get_or (slot_words ordered h.limit (subtree_of root)) k 0)) (content_at
     (wide_slots_at root ordered h.limit) k)
 unfolding slot_words placed
 slots_match root n ordered h k l =
@@ -92,5 +92,5 @@ slots_match root n ordered h k l =
     let f = ap (λ (s : Slots 8). content_at s k) (root_slots_lem (placing ordered) h.limit t) ∙ from_at child
     (map (child_of (placing ordered) h.limit) g) 0 8 k l
     ∙ ap (λ (i : ℕ). held_at (map (child_of (placing ordered) h.limit) g) (child i)) (zero-add k) in
-    rw (e, f) (list_matches (words_of root) (decisions_of root) n h.limit (placing ordered) h.room g
+    rw (e, f) (list_matches (words_of root) (decisions_of root) n h.limit (placing ordered) h.room most_edges g
     (gather_here (words_of root) (decisions_of root) n h.limit most_edges root.node h.tree h.holds 0) (child k))

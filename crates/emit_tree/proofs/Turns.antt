@@ -202,7 +202,7 @@ module _ (root : Branch) (n : ℕ) (ordered : Bool) (h : EmitNode root n most_ed
   unfolding Matches cell_of
   slot_other k l e b s q =
       matched (get_or (slot_words ordered h.limit (subtree_of root)) k 0) e
-      (subst (λ (c : C.Content). Matches (cell_of (words_of root) (decisions_of root) (get_or (slot_words ordered h.limit
+      (subst (λ (c : C.Content). Matches (cell_of (words_of root) (decisions_of root) most_edges (get_or (slot_words ordered h.limit
       (subtree_of root)) k 0)) c)
       (ap (λ (r : Slots 8). content_at r k) rest_all ∙ from_at
       (A.child_of (slots_of ordered (box_of (subtree_of root)) (map box_of (gather h.limit (subtree_of root) 0))))
@@ -220,13 +220,13 @@ module _ (root : Branch) (n : ℕ) (ordered : Bool) (h : EmitNode root n most_ed
       differ' (as_node c) y z p m = clash cc
 
       matched : (x : ℕ) → is_inner (decisions_of root) x ≡ false
-          → Matches (cell_of (words_of root) (decisions_of root) x) (C.inner_child b s) → ⊥
+          → Matches (cell_of (words_of root) (decisions_of root) most_edges x) (C.inner_child b s) → ⊥
       matched x f m = go (ℕ_discrete x 0xffff_ffff)
         where
           go : Dec (x ≡ 0xffff_ffff) → ⊥
-          go (yes z) = differ (cell_of (words_of root) (decisions_of root) x) x (ap (λ (a : Bool). cell_by a (get_or (decisions_of root)
+          go (yes z) = differ (cell_of (words_of root) (decisions_of root) most_edges x) x (ap (λ (a : Bool). cell_by a (get_or (decisions_of root)
               (x * 7) 0 / 0x4000_0000) (box_at (words_of root) x) (subtree_at (words_of root) x))
               (eq-eqb x 0xffff_ffff z)) m
-          go (no z) = differ' (cell_of (words_of root) (decisions_of root) x) (box_at (words_of root) x) (subtree_at (words_of root) x)
+          go (no z) = differ' (cell_of (words_of root) (decisions_of root) most_edges x) (box_at (words_of root) x) (subtree_at (words_of root) x)
               (ap₂ (λ (a : Bool) (j : ℕ). cell_by a j (box_at (words_of root) x) (subtree_at (words_of root) x)) (ne_eqb x 0xffff_ffff z)
               (other_word (decisions_of root) x f z)) m

@@ -3,16 +3,17 @@ use Prim.Native.Nat.{ℕ}
 use native.Mathlib.Omega.{arith}
 use lib.ListN.{length}
 use Rattle.bvh2.proofs.Subtree.{node}
+use Rattle.children.specs.Tabled.{most_edges}
 use Rattle.emit.proofs.LeafSteps.{Down, down, up, Last, last, formed_link}
 use Rattle.emit.proofs.+write_leaves.Goals as goal
 use Rattle.emit.proofs.+write_leaves.Goals.{In-Children, In-Position}
 
 -- the two links
 below : (t : ℕ) (c : In-Children t) → let s = c.args in
-    Down s.words.now (length s.indices.now) (length s.out.now) s.at s.v c.in-Children.first
+    Down s.words.now (length s.indices.now) (length s.out.now) s.at most_edges s.v c.in-Children.first
 below t c = down c.requires c.in-Children.ensures
 
-ended : (t : ℕ) (c : In-Position t) → let s = c.args in Last s.words.now s.indices.now s.at s.v c.in-Position.position s.out.now
+ended : (t : ℕ) (c : In-Position t) → let s = c.args in Last s.words.now s.indices.now s.at most_edges s.v c.in-Position.position s.out.now
 ended t c = last c.requires c.in-Position.ensures
 
 pub node_link-requires : goal.node_link-requires

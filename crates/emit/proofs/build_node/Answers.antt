@@ -4,6 +4,7 @@ use native.Mathlib.Numerals.{add-one}
 use native.Mathlib.Omega.{arith}
 use lib.ListN.{get_or}
 use Rattle.bvh2.specs.Words.{box_at}
+use Rattle.children.specs.Tabled.{most_edges}
 use Rattle.emit.specs.Grid.{grid_of}
 use Rattle.emit.specs.Own.{Cell, Own, OwnState, made, with_held, cell_of, first_slots}
 use Rattle.emit.proofs.OwnSteps.{first_next, few_bits, corner_numbers, built}
@@ -18,7 +19,7 @@ abbrev own_end : After-loop-i → Own
 own_end c = record { metas = c.loop-i.metas; boxes = c.loop-i.boxes; imask = c.loop-i.imask; inner = c.loop-i.inner; at = c.loop-i.at }
 
 abbrev cells : Start → ℕ → Cell
-cells s j = cell_of s.args.tree.now.words.now s.args.tree.now.decisions.now (get_or s.args.slots.now j 0)
+cells s j = cell_of s.args.tree.now.words.now s.args.tree.now.decisions.now most_edges (get_or s.args.slots.now j 0)
 
 abbrev slots_upto : Start → ℕ → OwnState
 slots_upto s k = first_slots s.args.indices.now (box_at s.args.tree.now.words.now s.args.v) s.args.start (cells s) k s.args.out.now

@@ -6,7 +6,7 @@ use Rattle.std.proofs.Common.{rules}
 use Rattle.words.proofs.Masks.{one_shl}
 use Rattle.bvh2.proofs.Subtree.{node}
 use Rattle.bvh2.specs.Words.{box_at}
-use Rattle.children.specs.Tabled.{subtree_at}
+use Rattle.children.specs.Tabled.{most_edges, subtree_at}
 use Rattle.emit.specs.Grid.{box_on}
 use Rattle.emit.specs.Own.{held_in, leaf_words_in, CellReady, as_leaf}
 use Rattle.emit.proofs.KindBits.{leaf_bits, node_bits}
@@ -27,14 +27,14 @@ ready : (c : Then-eq) → let s = c.args in
     CellReady (length s.out.now) s.start s.at (as_leaf (box_at s.tree.now.words.now s.v) (subtree_at s.tree.now.words.now s.v))
 ready c =
     let s = c.args in
-    (leaf_ready s.tree.now.words.now s.tree.now.decisions.now s.v c.if-v-eq4294967295.false (length s.indices.now)
+    (leaf_ready s.tree.now.words.now s.tree.now.decisions.now most_edges s.v c.if-v-eq4294967295.false (length s.indices.now)
     (length s.out.now) s.start s.at
     c.requires.1 (is_leaf c)).1
 
 pub returns-then-v-eq4294967295 : goal.returns-then-v-eq4294967295
 unfolding held_in leaf_words_in
 returns-then-v-eq4294967295 c =
-    let e = cell_none c.args.tree.now.words.now c.args.tree.now.decisions.now c.args.v c.if-v-eq4294967295.true in
+    let e = cell_none c.args.tree.now.words.now c.args.tree.now.decisions.now most_edges c.args.v c.if-v-eq4294967295.true in
     record { value = λ b g. rw e; out_after = rw e }
 
 pub node_box-b-requires : goal.node_box-b-requires
@@ -43,7 +43,7 @@ node_box-b-requires c = let r = (node (c.requires.1.tree c.if-v-eq4294967295.fal
 pub write_leaves-next-requires : goal.write_leaves-next-requires
 write_leaves-next-requires c =
     let s = c.args in
-    (leaf_ready s.tree.now.words.now s.tree.now.decisions.now s.v c.if-v-eq4294967295.false (length s.indices.now)
+    (leaf_ready s.tree.now.words.now s.tree.now.decisions.now most_edges s.v c.if-v-eq4294967295.false (length s.indices.now)
     (length s.out.now) s.start s.at
     c.requires.1 (is_leaf (goal.at.write_leaves-next-requires c).Then-eq)).0
 
@@ -61,7 +61,7 @@ leaf_meta-requires c =
 pub returns-then-eq : goal.returns-then-eq
 returns-then-eq c =
     let s = c.args in
-    let k = cell_leaf s.tree.now.words.now s.tree.now.decisions.now s.v c.if-v-eq4294967295.false (is_leaf
+    let k = cell_leaf s.tree.now.words.now s.tree.now.decisions.now most_edges s.v c.if-v-eq4294967295.false (is_leaf
     (goal.at.returns-then-eq c).Then-eq) in
     record {
       value =
@@ -74,7 +74,7 @@ pub returns : goal.returns
 unfolding held_in leaf_words_in
 returns c =
     let s = c.args in
-    let k = cell_node s.tree.now.words.now s.tree.now.decisions.now s.v c.if-v-eq4294967295.false (no_leaf (goal.at.returns c).Else-eq) in
+    let k = cell_node s.tree.now.words.now s.tree.now.decisions.now most_edges s.v c.if-v-eq4294967295.false (no_leaf (goal.at.returns c).Else-eq) in
     record {
       value = λ b q. rw (k, c.grid_box-corners.ensures, c.node_box-b.ensures, q, on_grid_lem, one_shl 32 s.i (omega arith));
       out_after = rw k;

@@ -10,4 +10,5 @@ calculate_cost-requires c = tables_ready _ _ _ _ c.requires.1 c.args.accepted.ac
 
 pub invariant_of-root : goal.invariant_of-root
 invariant_of-root c =
-    record { tabled = ∣ tabled_most (tabled _ _ _ _ _ c.requires.1 c.args.accepted.accepted (omega arith) c.calculate_cost.ensures.decisions_after) ∣₁ }
+    let t = tabled _ _ _ _ _ c.requires.1 c.args.accepted.accepted (omega arith) c.calculate_cost.ensures.decisions_after in
+    record { tabled = ∣ tabled_most t ∣₁ }
