@@ -56,7 +56,7 @@ module _ (c : Call) (ds₁ : List ℕ) (some : 0 < leaf_count c) (parts : Conver
   pub subtree : Subtree c.words (leaf_count c) 127 0
   subtree = root c.words (leaf_count c) tree
 
-  -- which the root of conversion has
+  -- so the subtree of conversion's root is the whole tree
   pub root_read : {b : Branch} → IsRoot b c.words ds₁ → subtree_of b ≡ tree_of c.words
   root_read r = root_tree subtree r
 

@@ -23,7 +23,7 @@ use Rattle.cost.specs.Rows.{RowsHold}
 use Rattle.cost.proofs.Splits.{leaf_distribute, internal_distribute, leaf_kind, splits_few, word_fields}
 use Rattle.cost.proofs.Decisions.{kind_coded}
 use Rattle.children.specs.Gather.{opened, gather, part}
-use Rattle.children.specs.Tabled.{most_edges, subtree_at, Tabled, Gathered}
+use Rattle.children.specs.Tabled.{Tabled, Gathered}
 use Rattle.children.proofs.Deeper.{Fork, fork}
 use Rattle.children.proofs.Gather.{one_child, gather_width}
 
@@ -271,11 +271,11 @@ root_divides {ws} {d = d} {v = v} h =
     (omega (arith, subtree_leaves h.tree, h.tree.few)) in
     record { tabled = h; entry = omega arith; slots = omega arith }
 
-pub root_leaf : (ws : List ℕ) (v : ℕ) {p : ℕ} → position p ≡ link_at ws v → (before : List ℕ) → 8 ≤ length before
-    → (limit : ℕ) → Gathered (gather limit (subtree_at ws v) 0) 0 before (set before 0 v) 1
-root_leaf ws v {p} q before u limit =
-    one_written (subtree_at ws v) v 0 before (gather limit (subtree_at ws v) 0) (label_is ws most_edges v)
-    (itself limit (subtree_at ws v) (tree_leaf ws most_edges v p (sym q))) (omega arith)
+pub root_leaf : (ws : List ℕ) (d v : ℕ) {p : ℕ} → position p ≡ link_at ws v → (before : List ℕ) → 8 ≤ length before
+    → (limit : ℕ) → Gathered (gather limit (tree_at ws d v) 0) 0 before (set before 0 v) 1
+root_leaf ws d v {p} q before u limit =
+    one_written (tree_at ws d v) v 0 before (gather limit (tree_at ws d v) 0) (label_is ws d v)
+    (itself limit (tree_at ws d v) (tree_leaf ws d v p (sym q))) (omega arith)
   where
     itself : (limit : ℕ) (t : Tree ℕ) {box : _} {p : ℕ} → t ≡ leaf v box p → gather limit t 0 ≡ t ∷ []
     itself limit t {box} {p} k = rw k (one_child limit v box p 0)

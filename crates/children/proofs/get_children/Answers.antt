@@ -10,4 +10,4 @@ pub overflow_cast-found : goal.overflow_cast-found
 overflow_cast-found c = omega (arith, (here c.args.branch).number)
 
 pub returns-in-Position : goal.returns-in-Position
-returns-in-Position c = λ limit h. root_leaf _ _ c.in-Position.ensures.says c.args.found.now (omega arith) limit
+returns-in-Position c = λ limit h. root_leaf _ _ _ c.in-Position.ensures.says c.args.found.now (omega arith) limit
